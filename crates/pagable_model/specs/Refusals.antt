@@ -1,0 +1,57 @@
+-- The numbers of the refusals, and which of them say that an input or a value is outside the wire format.
+use Rattle.std.specs.Prelude.{ℕ, Bool, true, false}
+use Rattle.pagable_model.specs.declared.error.Error.{Error}
+use Rattle.pagable_model.specs.declared.error.Error.TheVariants as errors
+
+-- from 1 on, in their order
+abbrev pub number_of : Error → ℕ
+number_of errors.UnexpectedEnd = 1
+number_of errors.BadVarint = 2
+number_of errors.BadBool = 3
+number_of errors.BadUtf8 = 4
+number_of errors.BadChar = 5
+number_of errors.TooLong = 6
+number_of errors.TooDeep = 7
+number_of errors.JsonCase = 8
+number_of errors.JsonNumber = 9
+number_of errors.BadDuration = 10
+number_of errors.RegexRefused = 11
+number_of errors.UnknownTag = 12
+number_of errors.BadStaticIndex = 13
+number_of errors.Unregistered = 14
+number_of errors.NoMoreKeys = 15
+number_of (errors.NoData key) = 16
+number_of errors.WrongKind = 17
+number_of errors.NoSuchHandle = 18
+number_of errors.WrongMode = 19
+number_of errors.NotYours = 20
+number_of errors.NumbersSpent = 21
+number_of errors.OutOfMemory = 22
+number_of (errors.Storage code) = 23
+number_of errors.KeyTaken = 24
+number_of errors.Closed = 25
+number_of (errors.Custom text) = 26
+
+-- the refusals by which an input is outside the grammar; the others say nothing of it
+abbrev pub is_reading_fault : Error → Bool
+is_reading_fault errors.UnexpectedEnd = true
+is_reading_fault errors.BadVarint = true
+is_reading_fault errors.BadBool = true
+is_reading_fault errors.BadUtf8 = true
+is_reading_fault errors.BadChar = true
+is_reading_fault errors.TooLong = true
+is_reading_fault errors.TooDeep = true
+is_reading_fault errors.JsonCase = true
+is_reading_fault errors.JsonNumber = true
+is_reading_fault errors.BadDuration = true
+is_reading_fault errors.UnknownTag = true
+is_reading_fault errors.BadStaticIndex = true
+is_reading_fault errors.NoMoreKeys = true
+is_reading_fault _ = false
+
+-- the refusals of a writer by which a value has no form
+abbrev pub is_writing_fault : Error → Bool
+is_writing_fault errors.TooLong = true
+is_writing_fault errors.TooDeep = true
+is_writing_fault errors.JsonNumber = true
+is_writing_fault _ = false
