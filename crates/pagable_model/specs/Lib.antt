@@ -5,3 +5,12 @@ pub mod Numbers
 pub mod Basic
 pub mod Gives
 pub mod Track
+pub mod Meaning
+pub mod Keys
+pub mod Shape
+pub mod Carried
+pub mod Reading
+pub mod Form
+pub mod Writing
+pub mod Standing
+pub mod Blob

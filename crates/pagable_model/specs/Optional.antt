@@ -1,5 +1,4 @@
 -- Keys that may be missing.
-use Rattle.std.specs.Prelude.{◌≡◌, ℕ}
 use Rattle.pagable_model.specs.declared.data_key.OptionalDataKey.{OptionalDataKey}
 use Rattle.pagable_model.specs.declared.data_key.OptionalDataKey.TheVariants as optional
 

@@ -1,0 +1,73 @@
+-- Weighing one more byte, and what the preimage of a blob is made of.
+use Rattle.std.proofs.Common.{◌≡◌, ℕ, suc, subst, ◌+◌, ◌*◌, ◌/◌, ◌%◌, ◌^◌, ◌<◌, List, [], ◌∷◌, ◌++◌, length, take, get_or, arith, refl, sym, ap, ◌∙◌, add_assoc, append_assoc, length-append}
+use Rattle.std.proofs.Math.Nat.{add-mod-mod, mod-add-mod, add-mul-mod_self_left, mod-add-div}
+use Rattle.std.proofs.lemmas.List.{take_more, append-nil}
+use Rattle.std.proofs.lemmas.Grind.{flat_map-append}
+use Rattle.std.specs.List.{flat_map}
+use Rattle.std.specs.Int.{w64, w128, to_le_bytes}
+use Rattle.pagable_model.specs.Blob.{weight, preimage}
+use Rattle.pagable_core.specs.declared.storage.weigh.WeighHash.{WeighHash}
+use Rattle.pagable_core.specs.Data.{IsWeighed}
+
+-- a factor may be reduced first
+mod-mul-mod : (m a b : ℕ) → (a % m * b) % m ≡ (a * b) % m
+mod-mul-mod m a b =
+    let whole : a * b ≡ a % m * b + m * (a / m * b) = ap (λ (x : ℕ). x * b) (sym (mod-add-div a m)) ∙ omega arith in
+    sym (rw whole (add-mul-mod_self_left (a % m * b) m (a / m * b)))
+
+-- a sum may be reduced part by part
+pub mod-step : (m w p b : ℕ) → (w % m + (p % m * b) % m) % m ≡ (w + p * b) % m
+mod-step m w p b = rw (mod-mul-mod m p b) (mod-add-mod w m ((p * b) % m) ∙ add-mod-mod w (p * b) m)
+
+pub mod-next : (m p : ℕ) → (p % m + 1) % m ≡ (p + 1) % m
+mod-next m p = mod-add-mod p m 1
+
+pub weight-more : (i b : ℕ) (bs : List ℕ) → weight i (bs ++ b ∷ []) ≡ weight i bs + (i + length bs) * b
+unfolding weight
+weight-more i b [] = let e : i + 0 ≡ i = omega arith in rw e (omega arith)
+weight-more i b (c ∷ bs) =
+    let e : i + 1 + length bs ≡ i + suc (length bs) = omega arith in
+    rw (weight-more (i + 1) b bs, e) (sym (add_assoc (i * c) (weight (i + 1) bs) ((i + suc (length bs)) * b)))
+
+pub is_weighed_none : IsWeighed (record { place = 1; sum = 0 }) []
+unfolding weight
+is_weighed_none = record { place = refl; sum = refl }
+
+-- one more byte
+pub is_weighed_more : (old new : WeighHash) (came : List ℕ) (b : ℕ) → IsWeighed old came → new.sum ≡ (old.sum + (old.place * b) % 2 ^ 128) % 2 ^ 128 → new.place ≡ (old.place + 1) % 2 ^ 128 → IsWeighed new (came ++ b ∷ [])
+is_weighed_more old new came b h sum place = record {
+  place = place ∙ ap (λ (p : ℕ). (p + 1) % 2 ^ 128) h.place ∙ mod-next (2 ^ 128) (length came + 1) ∙ ap (λ (n : ℕ). (n + 1) % 2 ^ 128) (longer came);
+  sum = sum ∙ ap (λ (p : ℕ). (old.sum + (p * b) % 2 ^ 128) % 2 ^ 128) h.place ∙ ap (λ (s : ℕ). (s + ((length came + 1) % 2 ^ 128 * b) % 2 ^ 128) % 2 ^ 128) h.sum
+      ∙ mod-step (2 ^ 128) (weight 1 came) (length came + 1) b ∙ ap (λ (w : ℕ). w % 2 ^ 128) (sym (weight-more 1 b came ∙ ap (λ (n : ℕ). weight 1 came + n * b) (one_more came)));
+}
+  where
+    longer : (xs : List ℕ) → length xs + 1 ≡ length (xs ++ b ∷ [])
+    longer xs = omega (arith, length-append xs (b ∷ []))
+    one_more : (xs : List ℕ) → 1 + length xs ≡ length xs + 1
+    one_more xs = omega arith
+
+-- a run of bytes, one after another
+pub take_next : (bytes : List ℕ) (i b : ℕ) (front : List ℕ) → i < length bytes → b ≡ get_or bytes i 0 → front ++ take (i + 1) bytes ≡ (front ++ take i bytes) ++ b ∷ []
+take_next bytes i b front h is = rw (take_more bytes i 0 h, ← is) (sym (append_assoc front (take i bytes) (b ∷ [])))
+
+-- the keys so far, and one more
+pub flat_map-next : (f : ℕ → List ℕ) (keys : List ℕ) (i key : ℕ) (front : List ℕ) → i < length keys → key ≡ get_or keys i key → front ++ flat_map f (take (i + 1) keys) ≡ (front ++ flat_map f (take i keys)) ++ f key
+flat_map-next f keys i key front h is =
+    rw (take_more keys i key h, ← is, flat_map-append f (take i keys) (key ∷ []), append-nil (f key)) (sym (append_assoc front (flat_map f (take i keys)) (f key)))
+
+-- the count, the bytes and the keys are the preimage
+pub preimage_is : (bytes keys : List ℕ) → (to_le_bytes w64 (length keys) ++ bytes) ++ flat_map (to_le_bytes w128) keys ≡ preimage (record { bytes = bytes; keys = keys })
+unfolding preimage
+preimage_is bytes keys = append_assoc (to_le_bytes w64 (length keys)) bytes (flat_map (to_le_bytes w128) keys)
+
+-- what a hash holds, by another name
+pub holds_as : {H : Type 0} (holds : H → List ℕ → Type 0) (h : H) (a b : List ℕ) → holds h a → a ≡ b → holds h b
+holds_as holds h a b p e = subst (holds h) e p
+
+-- before the first key
+pub begins : (count counted bytes written : List ℕ) (f : ℕ → List ℕ) → counted ≡ count → written ≡ bytes → counted ++ written ≡ (count ++ bytes) ++ flat_map f []
+begins count counted bytes written f e h = rw (e, h) (sym (append-nil (count ++ bytes)))
+
+-- one key more
+pub continues : (f : ℕ → List ℕ) (keys : List ℕ) (i key : ℕ) (front more : List ℕ) → i < length keys → key ≡ get_or keys i key → more ≡ f key → (front ++ flat_map f (take i keys)) ++ more ≡ front ++ flat_map f (take (i + 1) keys)
+continues f keys i key front more h is e = rw e (sym (flat_map-next f keys i key front h is))

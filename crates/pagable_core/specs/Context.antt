@@ -1,0 +1,45 @@
+-- What a serializer and a deserializer over memory stand for.
+use Rattle.std.specs.Prelude.{◌≡◌, ℕ, ◌+◌, List, [], ◌∷◌, Result, refl}
+use Rattle.std.specs.Prelude.{Vec}
+use Rattle.std.specs.Global.{Global}
+use Rattle.std.proofs.Common.{◌≤◌, arith, ap}
+use Rattle.pagable_model.specs.declared.error.Error.{Error}
+use Rattle.pagable_model.specs.declared.numbers.ArcRef.{ArcRef}
+use Rattle.pagable_model.specs.Track.{Track, GoesOn}
+use Rattle.pagable_model.specs.Reading.{Rest}
+use Rattle.pagable_model.specs.Writing.{Out}
+use Rattle.pagable_model.specs.Standing.{Answer, Standing, MovesOn}
+use Rattle.pagable_core.specs.declared.context.writing.SerializedData.{SerializedData}
+
+-- nothing was written
+abbrev pub nothing : Out
+nothing = record { bytes = []; refs = [] }
+
+-- what was written, without where it lies in memory
+abbrev pub out_of : SerializedData → Out
+out_of d = record { bytes = d.bytes.items; refs = d.arcs.items }
+
+-- the answers from a place on, to the keys in their order
+abbrev pub answers_from : (ℕ → ℕ → ℕ → Result ArcRef Error) → ℕ → List ℕ → List Answer
+answers_from answer place [] = []
+answers_from answer place (key ∷ keys) = (λ kind. answer place key kind) ∷ answers_from answer (place + 1) keys
+
+-- where a deserializer stands whose keys and reader stand there
+abbrev pub standing_of : (ℕ → ℕ → ℕ → Result ArcRef Error) → Track → Track → Standing
+standing_of answer keys reader = record {
+  whole = record { bytes = reader.all; refs = answers_from answer 0 keys.all };
+  cursor = record { byte_pos = reader.position; arc_index = keys.position };
+}
+
+-- a reader that goes on moves the deserializer on
+pub moves_of : (answer : ℕ → ℕ → ℕ → Result ArcRef Error) (keys old new : Track) → GoesOn old new → MovesOn (standing_of answer keys old) (standing_of answer keys new)
+moves_of answer keys old new g = record {
+  whole = ap (λ (bytes : List ℕ). let x : Rest Answer = record { bytes = bytes; refs = answers_from answer 0 keys.all } in x) g.all;
+  bytes = g.forward;
+  refs = omega arith;
+  within = λ w. record { bytes = g.within; refs = w.refs };
+}
+
+-- the same of a pair
+abbrev pub pair_out : Vec ℕ Global × Vec ArcRef Global → Out
+pair_out p = record { bytes = p.0.items; refs = p.1.items }

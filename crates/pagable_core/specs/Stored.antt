@@ -1,0 +1,35 @@
+-- What a storage may answer.
+use Rattle.std.specs.Prelude.{◌≡◌, ◌≢◌, ◌-◌, ◌^◌, ◌<◌, ◌==◌, ◌⊎◌, ℕ, Bool, true, Option, Some, None, if◌then◌else◌}
+use Rattle.pagable_model.specs.declared.error.Error.{Error}
+use Rattle.pagable_model.specs.declared.error.Error.TheVariants as errors
+use Rattle.pagable_model.specs.Blob.{Blob}
+
+-- The blob stands under the key now, and what stood elsewhere still does; nothing else stood there.
+pub record Adds (key : ℕ) (blob : Blob) (old new : ℕ → Option Blob) : Type 0 where
+  pub each : (q : ℕ) → new q ≡ (if q == key then Some blob else old q)
+  pub free : (old key ≡ None) ⊎ (old key ≡ Some blob)
+
+-- the storage failed: its count rose, or stood at its end
+abbrev pub HasFailed : ℕ → ℕ → Type 0
+HasFailed before after = (before < after) ⊎ ((before ≡ 2 ^ 64 - 1) × (after ≡ before))
+
+-- why a fetch is refused
+abbrev pub RefusesFetch : ℕ → Option Blob → ℕ → ℕ → Error → Type 0
+RefusesFetch key found before after (errors.NoData k) = (k ≡ key) × (found ≡ None)
+RefusesFetch key found before after errors.OutOfMemory = Unit {0}
+RefusesFetch key found before after (errors.Storage code) = HasFailed before after
+RefusesFetch key found before after _ = ⊥
+
+-- why a blob is not stored
+abbrev pub RefusesStore : Blob → Option Blob → Bool → ℕ → ℕ → Error → Type 0
+RefusesStore blob found closed before after errors.KeyTaken = (other : Blob) × (found ≡ Some other) × (other ≢ blob)
+RefusesStore blob found closed before after errors.Closed = closed ≡ true
+RefusesStore blob found closed before after errors.OutOfMemory = Unit {0}
+RefusesStore blob found closed before after (errors.Storage code) = HasFailed before after
+RefusesStore blob found closed before after _ = ⊥
+
+-- why a flush is refused
+abbrev pub RefusesFlush : ℕ → ℕ → Error → Type 0
+RefusesFlush before after errors.OutOfMemory = Unit {0}
+RefusesFlush before after (errors.Storage code) = HasFailed before after
+RefusesFlush before after _ = ⊥

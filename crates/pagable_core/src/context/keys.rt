@@ -1,0 +1,66 @@
+//! The keys of a blob, which are read one after another.
+
+ghost use Rattle.std.specs.Prelude.{◌≡◌, ◌≤◌, ◌<◌, ◌+◌, length, slice_get, Some, IfSome, IfNone, OnSome};
+ghost use Rattle.pagable_model.specs.Track.{Track};
+
+use pagable_flavors::DataKey;
+use std::marker::Model;
+
+/// A reader of keys, seen as all of them and how many were read.
+#[derive(Drop)]
+pub struct PagableKeys<'de> {
+    keys: &'de [DataKey],
+    position: usize,
+}
+
+impl<'de> Model for PagableKeys<'de> {
+    ghost use Rattle.std.specs.Prelude.{◌≤◌, length};
+    ghost use Rattle.pagable_model.specs.Track.{Track};
+
+    ghost Value = { Track };
+
+    ghost view = { λ r. record { all = r.keys.now; position = r.position } };
+
+    ghost invariant = { λ r. r.position ≤ length r.keys.now };
+}
+
+impl<'de> PagableKeys<'de> {
+    /// A reader at the first of the keys.
+    pub fn new(keys: &'de [DataKey]) -> PagableKeys<'de>
+        ensures { result ≡ record { all = keys.now; position = 0 } }
+    {
+        PagableKeys { keys, position: 0 }
+    }
+
+    /// How many keys were read.
+    pub fn position(&self) -> usize
+        ensures place { result ≡ self.now.position }
+        ensures within { result ≤ length self.now.all }
+    {
+        self.position
+    }
+
+    /// Goes to a place that isn't past the last key.
+    pub fn set_position(&mut self, position: usize)
+        requires { position ≤ length self.old.all }
+        ensures { self.new ≡ record self.old { position = position } }
+    {
+        self.position = position;
+    }
+
+    /// The next key, or None where none is left; then nothing moves.
+    pub fn next_key(&mut self) -> Option<DataKey>
+        ensures none { IfNone result ((self.new ≡ self.old) × (length self.old.all ≤ self.old.position)) }
+        ensures key { IfSome result (λ key. slice_get self.old.all self.old.position ≡ Some key) }
+        ensures moved { OnSome result (self.new ≡ record self.old { position = self.old.position + 1 }) }
+        ensures within { OnSome result (self.old.position < length self.old.all) }
+    {
+        if self.position >= self.keys.len() {
+            return None;
+        }
+        let keys = self.keys;
+        let key = keys[self.position];
+        self.position += 1;
+        Some(key)
+    }
+}

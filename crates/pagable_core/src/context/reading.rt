@@ -1,0 +1,119 @@
+//! The deserializer over one blob.
+
+ghost use Rattle.std.specs.Prelude.{◌≡◌, ◌≤◌, length};
+
+use crate::context::keys::PagableKeys;
+use crate::context::references::References;
+use pagable_flavors::{DataKey, Error, PagableSlice};
+use pagable_traits::{ArcRef, Env, Kind, PagableCursor, PagableDeserializer, Reader};
+
+/// A deserializer over the bytes and keys of one blob. `B` reads the bytes; `R` answers for its references and lends
+/// the environment. What is left of bytes and keys after a value is accepted.
+#[derive(Drop)]
+pub struct PagableDeserializerImpl<'de, B, R> {
+    reader: B,
+    keys: PagableKeys<'de>,
+    levels: usize,
+    references: R,
+}
+
+impl<'de, R> PagableDeserializerImpl<'de, PagableSlice<'de>, R> {
+    /// A deserializer at the front of the bytes and keys.
+    pub fn new(
+        bytes: &'de [u8],
+        arcs: &'de [DataKey],
+        references: R,
+    ) -> PagableDeserializerImpl<'de, PagableSlice<'de>, R> {
+        PagableDeserializerImpl {
+            reader: PagableSlice::new(bytes),
+            keys: PagableKeys::new(arcs),
+            levels: 0,
+            references,
+        }
+    }
+
+    /// What answered for the references.
+    pub fn finish(self) -> R {
+        let PagableDeserializerImpl {
+            reader: _,
+            keys: _,
+            levels: _,
+            references,
+        } = self;
+        references
+    }
+}
+
+impl<'de, E: Env, B: Reader, R: References<E>> PagableDeserializer<E>
+    for PagableDeserializerImpl<'de, B, R>
+{
+    type Reader = B;
+
+    ghost use Rattle.std.specs.Prelude.{refl};
+    ghost use Rattle.pagable_model.specs.Standing.{rest_at};
+    ghost use Rattle.pagable_core.specs.Context.{standing_of, moves_of};
+
+    ghost standing = { λ s. standing_of (R.answer s.references) s.keys (B.track s.reader) };
+
+    ghost rest = { λ s. rest_at (standing_of (R.answer s.references) s.keys (B.track s.reader)) };
+
+    ghost levels = { λ s. s.levels };
+
+    ghost environment = { λ s. R.environment s.references };
+
+    ghost reader = { λ s. s.reader };
+
+    ghost with_reader = { λ s r. record s { reader = r } };
+
+    ghost rest_is = { λ s. refl };
+
+    ghost bytes_are = { λ s. refl };
+
+    ghost rest_of_with = { λ s r. refl };
+
+    ghost moves_of_with = { λ s r goes. moves_of (R.answer s.references) s.keys (B.track s.reader) (B.track r) goes };
+
+    ghost levels_of_with = { λ s r. refl };
+
+    ghost environment_of_with = { λ s r. refl };
+
+    fn serde(&mut self) -> &mut B {
+        &mut self.reader
+    }
+
+    fn deserialize_arc(&mut self, kind: Kind) -> Result<ArcRef, Error> {
+        let place = self.keys.position();
+        match self.keys.next_key() {
+            None => Err(Error::NoMoreKeys),
+            Some(key) => self.references.reference(place, key, kind),
+        }
+    }
+
+    fn position(&self) -> PagableCursor {
+        PagableCursor {
+            byte_pos: self.reader.position(),
+            arc_index: self.keys.position(),
+        }
+    }
+
+    fn seek(&mut self, cursor: PagableCursor) {
+        self.reader.set_position(cursor.byte_pos);
+        self.keys.set_position(cursor.arc_index);
+    }
+
+    fn enter(&mut self) -> Result<(), Error> {
+        if self.levels >= 128 {
+            return Err(Error::TooDeep);
+        }
+        self.levels += 1;
+        Ok(())
+    }
+
+    fn leave(&mut self) {
+        self.levels -= 1;
+    }
+
+    fn env(&self) -> &E {
+        self.references.env()
+    }
+}

@@ -1,0 +1,55 @@
+//! What a deserializer asks for references.
+
+ghost use Rattle.std.specs.Prelude.{◌≡◌, ℕ, Result, Err};
+ghost use Rattle.pagable_model.specs.declared.numbers.ArcRef.{ArcRef as Reference};
+ghost use Rattle.pagable_model.specs.declared.error.Error.{Error as Refusal};
+ghost use Rattle.pagable_model.specs.declared.error.Error.TheVariants.{WrongKind};
+
+use pagable_flavors::{DataKey, Error};
+use pagable_traits::{ArcRef, Env, Kind};
+
+/// What lends a deserializer its environment and answers for its references. An answer depends on the place of the
+/// reference in the blob, its key and its kind alone, so that a blob may be read again from its front.
+pub trait References<E: Env> {
+    ghost environment: { Self → E };
+
+    // The answer at a place, counted from 0, of a key, read as a kind.
+    ghost answer: { Self → ℕ → ℕ → ℕ → Result Reference Refusal };
+
+    fn env(&self) -> &E
+        ensures { result.now ≡ environment self.now };
+
+    /// The reference at this place of the blob's list, which has this key and is read as this kind.
+    fn reference(&mut self, place: usize, key: DataKey, kind: Kind) -> Result<ArcRef, Error>
+        ensures answer { result ≡ answer self.old place key kind.0 }
+        ensures same_env { environment self.new ≡ environment self.old }
+        ensures same_answers { answer self.new ≡ answer self.old };
+}
+
+/// An environment whose values hold no references: each one that a blob asks for is WrongKind.
+#[derive(Drop)]
+pub struct NoReferences<'e, E> {
+    env: &'e E,
+}
+
+impl<'e, E: Env> NoReferences<'e, E> {
+    pub fn new(env: &'e E) -> NoReferences<'e, E>
+        ensures { ⟦<NoReferences<'e, E> as References<E>>⟧.environment result ≡ env.now }
+    {
+        NoReferences { env }
+    }
+}
+
+impl<'e, E: Env> References<E> for NoReferences<'e, E> {
+    ghost environment = { λ s. s.env.now };
+
+    ghost answer = { λ s place key kind. Err WrongKind };
+
+    fn env(&self) -> &E {
+        self.env
+    }
+
+    fn reference(&mut self, _place: usize, _key: DataKey, _kind: Kind) -> Result<ArcRef, Error> {
+        Err(Error::WrongKind)
+    }
+}

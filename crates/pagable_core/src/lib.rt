@@ -1,0 +1,15 @@
+//! What stands between the values and the pager: the serializer and the deserializer of one blob, the blobs and
+//! their keys, and what a storage of blobs offers.
+#![tactic(auto)]
+
+pub mod context;
+pub mod storage;
+
+pub use context::{
+    NoReferences, PagableDeserializerImpl, PagableKeys, PagableSerializerImpl, References,
+    SerializedData,
+};
+pub use storage::data::PagableData;
+pub use storage::support::SerializerForPaging;
+pub use storage::traits::PagableStorage;
+pub use storage::weigh::WeighHash;

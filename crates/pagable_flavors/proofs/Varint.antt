@@ -1,0 +1,254 @@
+-- Numbers of seven bits a byte, byte by byte.
+use Rattle.std.proofs.Common.{length, get_or, add-one, ◌≡◌, ℕ, zero, suc, ◌+◌, ◌-◌, ◌*◌, ◌/◌, ◌%◌, ◌<◌, ◌≤◌, ◌≢◌, ◌^◌, refl, arith, List, [], ◌∷◌, ◌++◌, drop, Result, Ok, Err, sym, ap, ◌∙◌, append_assoc}
+use Rattle.std.proofs.lemmas.List.{append-nil, drop_all}
+use Rattle.std.proofs.Math.Seq.{drop-cons}
+use Rattle.std.proofs.Math.Nat.{mul-le-mul_left}
+use Rattle.std.proofs.lemmas.Bool.{le-ltb, lt-ltb, le-leb, lt-leb}
+use Rattle.pagable_model.specs.declared.error.Error.{Error}
+use Rattle.pagable_model.specs.declared.error.Error.TheVariants as errors
+use Rattle.pagable_model.specs.Gives.{Extends}
+use Rattle.pagable_model.specs.Numbers.{Read, byte_at, varint, varint_at, varint_limit}
+use Rattle.pagable_model.specs.Steps.{◌>>=◌}
+use Rattle.pagable_flavors.specs.Varints.{AppendsVarint}
+
+-- what such numbers stay below
+pub limit-step : (more last : ℕ) → 0 < more → varint_limit more last ≡ 128 * varint_limit (more - 1) last
+unfolding varint_limit
+limit-step zero last h = absurd (omega arith)
+limit-step (suc more) last h = let e : suc more - 1 ≡ more = omega arith in rw e refl
+
+pub limit-zero : (last : ℕ) → varint_limit 0 last ≡ last + 1
+unfolding varint_limit
+limit-zero last = refl
+
+pub limit-16 : varint_limit 2 3 ≡ 2 ^ 16
+unfolding varint_limit
+limit-16 = refl
+
+pub limit-32 : varint_limit 4 15 ≡ 2 ^ 32
+unfolding varint_limit
+limit-32 = refl
+
+pub limit-64 : varint_limit 9 1 ≡ 2 ^ 64
+unfolding varint_limit
+limit-64 = refl
+
+pub room-16 : 2 ^ 16 ≤ varint_limit 2 127
+unfolding varint_limit
+room-16 = omega arith
+
+pub room-32 : 2 ^ 32 ≤ varint_limit 4 127
+unfolding varint_limit
+room-32 = omega arith
+
+pub room-64 : 2 ^ 64 ≤ varint_limit 9 127
+unfolding varint_limit
+room-64 = omega arith
+
+pub limit-128 : varint_limit 18 3 ≡ 2 ^ 128
+unfolding varint_limit
+limit-128 = refl
+
+pub room-128 : 2 ^ 128 ≤ varint_limit 18 127
+unfolding varint_limit
+room-128 = omega arith
+
+pub ruleset limits = (limit-16, limit-32, limit-64, room-16, room-32, room-64)
+
+-- What was read so far are the low bits, and what the rest reads as is the high part of the number.
+abbrev pub raised : ℕ → ℕ → Read ℕ → Read ℕ
+raised low scale (Ok high) = Ok (low + scale * high.0, high.1)
+raised low scale (Err e) = Err e
+
+pub raised_none : (r : Read ℕ) → r ≡ raised 0 1 r
+raised_none (Ok high) = let e : 0 + 1 * high.0 ≡ high.0 = omega arith in rw e refl
+raised_none (Err e) = refl
+
+raised_twice : (low scale byte : ℕ) (r : Read ℕ) → raised low scale (raised byte 128 r) ≡ raised (low + scale * byte) (scale * 128) r
+raised_twice low scale byte (Ok high) =
+    let e : low + scale * (byte + 128 * high.0) ≡ low + scale * byte + scale * 128 * high.0 = omega arith in rw e refl
+raised_twice low scale byte (Err e) = refl
+
+varint_at-long : (more last b : ℕ) (xs : List ℕ) → 0 < more → 128 ≤ b → varint_at more last (b ∷ xs) ≡ raised (b - 128) 128 (varint_at (more - 1) last xs)
+unfolding varint_at
+varint_at-long zero last b xs p l = absurd (omega arith)
+varint_at-long (suc more) last b xs p l =
+    let less : suc more - 1 ≡ more = omega arith in
+    rw (less, le-ltb b 128 l) (go (varint_at more last xs))
+  where
+    go : (r : Read ℕ) → (r >>= λ high. Ok (b - 128 + 128 * high.0, high.1)) ≡ raised (b - 128) 128 r
+    go (Ok high) = refl
+    go (Err e) = refl
+
+varint_at-short : (more last b : ℕ) (xs : List ℕ) → 0 < more → b < 128 → varint_at more last (b ∷ xs) ≡ Ok (b, xs)
+unfolding varint_at
+varint_at-short zero last b xs p l = absurd (omega arith)
+varint_at-short (suc more) last b xs p l = rw (lt-ltb b 128 l) refl
+
+varint_at-last : (last b : ℕ) (xs : List ℕ) → b ≤ last → varint_at 0 last (b ∷ xs) ≡ Ok (b, xs)
+unfolding varint_at
+varint_at-last last b xs l = rw (le-leb b last l) refl
+
+varint_at-bad : (last b : ℕ) (xs : List ℕ) → last < b → varint_at 0 last (b ∷ xs) ≡ Err errors.BadVarint
+unfolding varint_at
+varint_at-bad last b xs l = rw (lt-leb b last l) refl
+
+varint_at-none : (more last : ℕ) → varint_at more last [] ≡ Err errors.UnexpectedEnd
+unfolding varint_at
+varint_at-none more last = refl
+
+same_ok : {X E : Type 0} (x y : X) → (let r : Result X E = Ok x in r) ≡ Ok y → x ≡ y
+same_ok x y e = cc
+
+-- a number of one byte
+pub varint_at-first : (more last b : ℕ) (xs ys : List ℕ) → byte_at xs ≡ Ok (b, ys) → b < 128 → 0 < more → varint_at more last xs ≡ Ok (b, ys)
+varint_at-first more last b [] ys h l p = cc
+varint_at-first more last b (x ∷ xs) ys h l p =
+    rw (varint_at-short more last x xs p (omega (arith, ap (λ (p : ℕ × List ℕ). p.0) (same_ok _ _ h)))) h
+
+-- after `place` bytes with the top bit set
+pub record ReadsOn (more last : ℕ) (bytes : List ℕ) (place low scale : ℕ) : Type 0 where
+  pub reads : varint_at more last bytes ≡ raised low scale (varint_at (more - place) last (drop place bytes))
+  pub limit : scale * varint_limit (more - place) last ≡ varint_limit more last
+  pub below : low < scale
+  pub turn : place ≤ more
+
+pub ReadsOn_none : (more last : ℕ) (bytes : List ℕ) → ReadsOn more last bytes 0 0 1
+ReadsOn_none more last bytes =
+    let same : more - 0 ≡ more = omega arith in
+    record {
+      reads = rw same (raised_none (varint_at more last bytes));
+      limit = rw same (omega arith);
+      below = omega arith;
+      turn = omega arith;
+    }
+
+limit-above : (more last : ℕ) → last < varint_limit more last
+unfolding varint_limit
+limit-above zero last = omega arith
+limit-above (suc more) last = omega (arith, limit-above more last)
+
+pub limit-least : (more last : ℕ) → 0 < more → 128 ≤ varint_limit more last
+limit-least more last p = omega (arith, limit-step more last p, limit-above (more - 1) last)
+
+below_raised : (low scale byte top : ℕ) → low < scale → byte < top → low + scale * byte < scale * top
+below_raised low scale byte top l h = omega (arith, mul-le-mul_left scale (let e : byte + 1 ≤ top = omega arith in e))
+
+-- a byte that may stand here leaves the number below its limit
+below_limit : {more last : ℕ} {bytes : List ℕ} {place low scale : ℕ} (byte : ℕ) → ReadsOn more last bytes place low scale → byte < varint_limit (more - place) last → low + scale * byte < varint_limit more last
+below_limit {more} {last} {bytes} {place} {low} {scale} byte r h =
+    omega (arith, below_raised low scale byte (varint_limit (more - place) last) r.below h, r.limit)
+
+pub ReadsOn_below : {more last : ℕ} {bytes : List ℕ} {place low scale : ℕ} (byte : ℕ) → ReadsOn more last bytes place low scale → place ≢ more → byte < 128 → low + scale * byte < varint_limit more last
+ReadsOn_below {more} {last} {bytes} {place} byte r p small = below_limit byte r (omega (arith, r.turn, limit-least (more - place) last (omega (arith, r.turn))))
+
+pub ReadsOn_below_end : {more last : ℕ} {bytes : List ℕ} {place low scale : ℕ} (byte : ℕ) → ReadsOn more last bytes place low scale → byte ≤ last → low + scale * byte < varint_limit more last
+ReadsOn_below_end {more} {last} {bytes} {place} byte r small = below_limit byte r (omega (arith, limit-above (more - place) last))
+
+pub ReadsOn_scale : {more last : ℕ} {bytes : List ℕ} {place low scale : ℕ} → ReadsOn more last bytes place low scale → place ≢ more → 0 < last → scale * 256 ≤ varint_limit more last
+ReadsOn_scale {more} {last} {bytes} {place} {low} {scale} r p l =
+    let step : varint_limit (more - place) last ≡ 128 * varint_limit (more - place - 1) last = limit-step (more - place) last (omega (arith, r.turn)) in
+    let two : 256 ≤ varint_limit (more - place) last = omega (arith, limit-above (more - place - 1) last) in
+    omega (arith, mul-le-mul_left scale two, r.limit)
+
+pub ReadsOn_more : {more last : ℕ} {bytes : List ℕ} {place low scale : ℕ} (byte : ℕ) → ReadsOn more last bytes place low scale → place < length bytes → place ≢ more → byte ≡ get_or bytes place 0 - 128 → 128 ≤ get_or bytes place 0 → byte < 128 → ReadsOn more last bytes (place + 1) (low + scale * byte) (scale * 128)
+ReadsOn_more {more} {last} {bytes} {place} {low} {scale} byte r h apart e long small =
+    let p : place < more = omega (arith, r.turn) in
+    let less : more - place - 1 ≡ more - (place + 1) = omega arith in
+    let step : varint_limit (more - place) last ≡ 128 * varint_limit (more - place - 1) last = limit-step (more - place) last (omega arith) in
+    let here : drop place bytes ≡ get_or bytes place 0 ∷ drop (place + 1) bytes = rw add-one (drop-cons bytes place 0 h) in
+    let front = varint_at-long (more - place) last (get_or bytes place 0) (drop (place + 1) bytes) (omega arith) long in
+    record {
+      reads = r.reads ∙ ap (λ (xs : List ℕ). raised low scale (varint_at (more - place) last xs)) here ∙ ap (raised low scale) front ∙ rw (← e, ← less) (raised_twice low scale byte (varint_at (more - place - 1) last (drop (place + 1) bytes)));
+      limit = rw (← less) (omega (arith, r.limit, ap (λ (n : ℕ). scale * n) step));
+      below = below_raised low scale byte 128 r.below small;
+      turn = omega arith;
+    }
+
+-- how reading ends
+ends : {more last : ℕ} {bytes : List ℕ} {place low scale : ℕ} (byte : ℕ) → ReadsOn more last bytes place low scale → place < length bytes → byte ≡ get_or bytes place 0 → varint_at (more - place) last (byte ∷ drop (place + 1) bytes) ≡ Ok (byte, drop (place + 1) bytes) → varint_at more last bytes ≡ Ok (low + scale * byte, drop (place + 1) bytes)
+ends {more} {last} {bytes} {place} {low} {scale} byte r h e done =
+    let here : drop place bytes ≡ byte ∷ drop (place + 1) bytes = rw (e, add-one) (drop-cons bytes place 0 h) in
+    r.reads ∙ ap (λ (xs : List ℕ). raised low scale (varint_at (more - place) last xs)) here ∙ ap (raised low scale) done
+
+pub ReadsOn_end : {more last : ℕ} {bytes : List ℕ} {place low scale : ℕ} (byte : ℕ) → ReadsOn more last bytes place low scale → place < length bytes → byte ≡ get_or bytes place 0 → place ≢ more → byte < 128 → varint_at more last bytes ≡ Ok (low + scale * byte, drop (place + 1) bytes)
+ReadsOn_end {more} {last} {bytes} {place} byte r h e apart small = ends byte r h e (varint_at-short (more - place) last byte (drop (place + 1) bytes) (omega (arith, r.turn)) small)
+
+pub ReadsOn_last : {more last : ℕ} {bytes : List ℕ} {place low scale : ℕ} (byte : ℕ) → ReadsOn more last bytes place low scale → place < length bytes → byte ≡ get_or bytes place 0 → place ≡ more → byte ≤ last → varint_at more last bytes ≡ Ok (low + scale * byte, drop (place + 1) bytes)
+ReadsOn_last {more} {last} {bytes} {place} byte r h e whole small =
+    let none : more - place ≡ 0 = omega arith in
+    ends byte r h e (rw none (varint_at-last last byte (drop (place + 1) bytes) small))
+
+pub ReadsOn_bad : {more last : ℕ} {bytes : List ℕ} {place low scale : ℕ} → ReadsOn more last bytes place low scale → place < length bytes → place ≡ more → last < get_or bytes place 0 → varint_at more last bytes ≡ Err errors.BadVarint
+ReadsOn_bad {more} {last} {bytes} {place} {low} {scale} r h p big =
+    let none : more - place ≡ 0 = omega arith in
+    let here : drop place bytes ≡ get_or bytes place 0 ∷ drop (place + 1) bytes = rw add-one (drop-cons bytes place 0 h) in
+    let bad : varint_at (more - place) last (get_or bytes place 0 ∷ drop (place + 1) bytes) ≡ Err errors.BadVarint = rw none (varint_at-bad last (get_or bytes place 0) (drop (place + 1) bytes) big) in
+    r.reads ∙ ap (λ (xs : List ℕ). raised low scale (varint_at (more - place) last xs)) here ∙ ap (raised low scale) bad
+
+pub ReadsOn_short : {more last : ℕ} {bytes : List ℕ} {place low scale : ℕ} → ReadsOn more last bytes place low scale → length bytes ≤ place → varint_at more last bytes ≡ Err errors.UnexpectedEnd
+ReadsOn_short {more} {last} {bytes} {place} {low} {scale} r h =
+    r.reads ∙ ap (λ (xs : List ℕ). raised low scale (varint_at (more - place) last xs)) (drop_all place bytes h) ∙ ap (raised low scale) (varint_at-none (more - place) last)
+
+varint-short : (more n : ℕ) → n < 128 → varint more n ≡ n ∷ []
+unfolding varint
+varint-short zero n l = refl
+varint-short (suc more) n l = rw (lt-ltb n 128 l) refl
+
+varint-long : (more n : ℕ) → 0 < more → 128 ≤ n → varint more n ≡ (128 + n % 128) ∷ varint (more - 1) (n / 128)
+unfolding varint
+varint-long zero n p l = absurd (omega arith)
+varint-long (suc more) n p l = let e : suc more - 1 ≡ more = omega arith in rw (le-ltb n 128 l, e) refl
+
+pub Extends_same : {X : Type 0} (a : List X) → Extends a a
+Extends_same a = ([], sym (append-nil a))
+
+pub Extends_end : {X : Type 0} (a b c : List X) → b ≡ a ++ c → Extends a b
+Extends_end a b c e = (c, e)
+
+pub Extends_twice : {X : Type 0} (a b c : List X) → Extends a b → Extends b c → Extends a c
+Extends_twice a b c p q = (p.0 ++ q.0, q.1 ∙ ap (λ x. x ++ q.0) p.1 ∙ append_assoc a p.0 q.0)
+
+-- what is still to be written after some bytes with the top bit set, whatever width is meant
+pub record StillToWrite (start here : List ℕ) (number rest more : ℕ) : Type 0 where
+  pub less : ℕ
+  pub fits : rest < varint_limit less 127
+  pub same : start ++ varint more number ≡ here ++ varint less rest
+
+pub record WritesOn (start here : List ℕ) (number rest : ℕ) : Type 0 where
+  pub still : (more : ℕ) → number < varint_limit more 127 → StillToWrite start here number rest more
+  pub extends : Extends start here
+
+pub WritesOn_none : (start : List ℕ) (number : ℕ) → WritesOn start start number number
+WritesOn_none start number = record {
+  still = λ more h. record { less = more; fits = h; same = refl };
+  extends = Extends_same start;
+}
+
+pub WritesOn_more : {start here next : List ℕ} {number rest : ℕ} (byte : ℕ) → WritesOn start here number rest → 128 ≤ rest → byte ≡ 128 + rest % 128 → next ≡ here ++ byte ∷ [] → WritesOn start next number (rest / 128)
+WritesOn_more {start} {here} {next} {number} {rest} byte w l b e = record {
+  still = λ more h. go more (w.still more h);
+  extends = Extends_twice start here next w.extends (Extends_end here next (byte ∷ []) e);
+}
+  where
+    go : (more : ℕ) → StillToWrite start here number rest more → StillToWrite start next number (rest / 128) more
+    go more s = record {
+      less = s.less - 1;
+      fits = omega (arith, s.fits, limit-step s.less 127 (some s.less s.fits));
+      same = s.same ∙ ap (λ xs. here ++ xs) (varint-long s.less rest (some s.less s.fits) l) ∙ rw (← b, e, append_assoc) refl;
+    }
+      where
+        some : (less : ℕ) → rest < varint_limit less 127 → 0 < less
+        some zero h = absurd (omega (arith, rw limit-zero at h))
+        some (suc less) h = omega arith
+
+pub WritesOn_last : {start here next : List ℕ} {number rest : ℕ} → WritesOn start here number rest → rest < 128 → next ≡ here ++ rest ∷ [] → AppendsVarint start next number
+WritesOn_last {start} {here} {next} {number} {rest} w l e = record {
+  appends = λ more h. let s = w.still more h in e ∙ ap (λ xs. here ++ xs) (sym (varint-short s.less rest l)) ∙ sym s.same;
+}
+
+pub ruleset reader_steps = (varint_at-first, limit-least)
+
+pub ruleset wide_reader_steps = (varint_at-first, limit-128)
+
+pub ruleset writer_steps = (WritesOn_none, WritesOn_last, Extends_twice, Extends_end)

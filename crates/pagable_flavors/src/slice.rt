@@ -1,0 +1,114 @@
+//! Bytes that are read one after another.
+
+ghost use Rattle.std.specs.Prelude.{◌≡◌, ◌≤◌, length, OnErr};
+ghost use Rattle.pagable_model.specs.Track.{Track, left, GoesOn};
+ghost use Rattle.pagable_model.specs.Gives.{Gives, never};
+ghost use Rattle.pagable_model.specs.Numbers.{byte_at};
+ghost use Rattle.pagable_model.specs.Basic.{bytes_at};
+
+mod numbers;
+mod signed;
+mod texts;
+mod wide;
+
+use pagable_model::Error;
+use std::marker::Model;
+
+/// A reader of bytes, which takes no memory. Contracts see all its bytes and how many of them were read.
+///
+/// A reading call that is refused leaves the reader somewhere between its old place and the end; the cursor calls `pop`,
+/// `try_take_n` and `try_take_n_temp` leave it where it was.
+#[derive(Drop)]
+pub struct PagableSlice<'de> {
+    bytes: &'de [u8],
+    position: usize,
+}
+
+impl<'de> Model for PagableSlice<'de> {
+    ghost use Rattle.std.specs.Prelude.{◌≤◌, length};
+    ghost use Rattle.pagable_model.specs.Track.{Track};
+
+    ghost Value = { Track };
+
+    ghost view = { λ r. record { all = r.bytes.now; position = r.position } };
+
+    ghost invariant = { λ r. r.position ≤ length r.bytes.now };
+}
+
+impl<'de> PagableSlice<'de> {
+    /// A reader at the front of these bytes.
+    pub fn new(bytes: &'de [u8]) -> PagableSlice<'de>
+        ensures { result ≡ record { all = bytes.now; position = 0 } }
+    {
+        PagableSlice { bytes, position: 0 }
+    }
+
+    /// How many bytes were read.
+    pub fn position(&self) -> usize
+        ensures place { result ≡ self.now.position }
+        ensures within { result ≤ length self.now.all }
+    {
+        self.position
+    }
+
+    /// Goes to a place that isn't past the end, backwards or forwards.
+    pub fn set_position(&mut self, position: usize)
+        requires { position ≤ length self.old.all }
+        ensures { self.new ≡ record self.old { position = position } }
+    {
+        self.position = position;
+    }
+
+    /// How many bytes are left.
+    pub fn size_hint(&self) -> usize
+        ensures { result ≡ length (left self.now) }
+    {
+        self.bytes.len() - self.position
+    }
+
+    /// The bytes that are left.
+    pub fn finalize(self) -> &'de [u8]
+        ensures { result.now ≡ left self.entry }
+    {
+        &self.bytes[self.position..]
+    }
+
+    /// The next byte. `UnexpectedEnd` where none is left.
+    pub fn pop(&mut self) -> Result<u8, Error>
+        ensures gives { Gives never (λ b. (b, left self.new)) result (byte_at (left self.old)) }
+        ensures goes { GoesOn self.old self.new }
+        ensures err { OnErr result (self.new ≡ self.old) }
+    {
+        if self.position == self.bytes.len() {
+            return Err(Error::UnexpectedEnd);
+        }
+        let byte = self.bytes[self.position];
+        self.position += 1;
+        Ok(byte)
+    }
+
+    /// The next `count` bytes. `UnexpectedEnd` where fewer are left.
+    pub fn try_take_n(&mut self, count: usize) -> Result<&'de [u8], Error>
+        ensures gives { Gives never (λ b. (b.now, left self.new)) result (bytes_at count (left self.old)) }
+        ensures goes { GoesOn self.old self.new }
+        ensures err { OnErr result (self.new ≡ self.old) }
+    {
+        if count > self.bytes.len() - self.position {
+            return Err(Error::UnexpectedEnd);
+        }
+        let end = self.position + count;
+        let bytes = self.bytes;
+        let taken = &bytes[self.position..end];
+        self.position = end;
+        Ok(taken)
+    }
+
+    /// The same as `try_take_n`.
+    pub fn try_take_n_temp(&mut self, count: usize) -> Result<&'de [u8], Error>
+        ensures gives { Gives never (λ b. (b.now, left self.new)) result (bytes_at count (left self.old)) }
+        ensures goes { GoesOn self.old self.new }
+        ensures err { OnErr result (self.new ≡ self.old) }
+    {
+        self.try_take_n(count)
+    }
+}

@@ -1,0 +1,120 @@
+//! Whole numbers are read.
+
+ghost use Rattle.std.specs.Prelude.{◌≡◌, ◌≤◌, ◌<◌, ◌^◌, IfOk, MatchOption, drop, length};
+ghost use Rattle.std.specs.Int.{w8, w16, w32, w64};
+ghost use Rattle.pagable_model.specs.Track.{left, GoesOn};
+ghost use Rattle.pagable_model.specs.Gives.{Gives, never};
+ghost use Rattle.pagable_model.specs.Numbers.{byte_at, varint_at, varint_limit, unsigned_at};
+
+use super::PagableSlice;
+use pagable_model::Error;
+
+// The number at the front, of at most `more` bytes with the top bit set and one that is at most `last`, and how many bytes it takes.
+#[tactic(auto, using(crate::proofs::Varint::reader_steps))]
+fn varint_of(bytes: &[u8], more: usize, last: u8) -> Result<(u64, usize), Error>
+    requires ends { (0 < last) × (last < 128) }
+    requires fits { varint_limit more last ≤ 2 ^ 64 }
+    ensures gives { Gives never (λ n. (n.0, drop n.1 bytes.now)) result (varint_at more last bytes.now) }
+    ensures bound { IfOk result (λ n. n.0 < varint_limit more last) }
+    ensures within { IfOk result (λ n. n.1 ≤ length bytes.now) }
+{
+    let mut low = 0u64;
+    let mut scale = 1u64;
+    for (place, byte) in bytes.iter().enumerate() {
+        if place == more {
+            if *byte > last {
+                return Err(Error::BadVarint);
+            }
+            return Ok((low + scale * u64::from(*byte), place + 1));
+        }
+        if *byte < 128 {
+            return Ok((low + scale * u64::from(*byte), place + 1));
+        }
+        low += scale * u64::from(*byte - 128);
+        scale *= 128;
+    }
+    Err(Error::UnexpectedEnd)
+}
+
+impl<'de> PagableSlice<'de> {
+    // The next byte, if its top bit isn't set; else nothing moves.
+    pub(super) fn short(&mut self) -> Option<u8>
+        ensures reads { MatchOption result (self.new ≡ self.old) (λ b. (b < 128) × (byte_at (left self.old) ≡ Ok (b, left self.new))) }
+        ensures goes { GoesOn self.old self.new }
+    {
+        if self.position == self.bytes.len() {
+            return None;
+        }
+        let byte = self.bytes[self.position];
+        if byte >= 128 {
+            return None;
+        }
+        self.position += 1;
+        Some(byte)
+    }
+
+    // The next number, of at most `more` bytes with the top bit set and one that is at most `last`.
+    #[tactic(auto, using(crate::proofs::Varint::reader_steps))]
+    fn varint(&mut self, more: usize, last: u8) -> Result<u64, Error>
+        requires some { 0 < more }
+        requires ends { (0 < last) × (last < 128) }
+        requires fits { varint_limit more last ≤ 2 ^ 64 }
+        ensures gives { Gives never (λ n. (n, left self.new)) result (varint_at more last (left self.old)) }
+        ensures bound { IfOk result (λ n. n < varint_limit more last) }
+        ensures goes { GoesOn self.old self.new }
+    {
+        if let Some(byte) = self.short() {
+            return Ok(u64::from(byte));
+        }
+        let (number, count) = varint_of(&self.bytes[self.position..], more, last)?;
+        self.position += count;
+        Ok(number)
+    }
+
+    /// A number of 8 bits, which is one byte.
+    pub fn read_u8(&mut self) -> Result<u8, Error>
+        ensures gives { Gives never (λ n. (n, left self.new)) result (unsigned_at w8 (left self.old)) }
+        ensures goes { GoesOn self.old self.new }
+    {
+        self.pop()
+    }
+
+    /// A number of 16 bits. `BadVarint` where it has more than 3 bytes, or the third is above 3.
+    #[tactic(auto, using(crate::proofs::Varint::limits))]
+    pub fn read_u16(&mut self) -> Result<u16, Error>
+        ensures gives { Gives never (λ n. (n, left self.new)) result (unsigned_at w16 (left self.old)) }
+        ensures goes { GoesOn self.old self.new }
+    {
+        let number = self.varint(2, 3)?;
+        Ok(number as u16)
+    }
+
+    /// A number of 32 bits. `BadVarint` where it has more than 5 bytes, or the fifth is above 15.
+    #[tactic(auto, using(crate::proofs::Varint::limits))]
+    pub fn read_u32(&mut self) -> Result<u32, Error>
+        ensures gives { Gives never (λ n. (n, left self.new)) result (unsigned_at w32 (left self.old)) }
+        ensures goes { GoesOn self.old self.new }
+    {
+        let number = self.varint(4, 15)?;
+        Ok(number as u32)
+    }
+
+    /// A number of 64 bits. `BadVarint` where it has more than 10 bytes, or the tenth is above 1.
+    #[tactic(auto, using(crate::proofs::Varint::limits))]
+    pub fn read_u64(&mut self) -> Result<u64, Error>
+        ensures gives { Gives never (λ n. (n, left self.new)) result (unsigned_at w64 (left self.old)) }
+        ensures goes { GoesOn self.old self.new }
+    {
+        let number = self.varint(9, 1)?;
+        Ok(number)
+    }
+
+    /// A number of 64 bits, as `read_u64` reads it.
+    pub fn read_usize(&mut self) -> Result<usize, Error>
+        ensures gives { Gives never (λ n. (n, left self.new)) result (unsigned_at w64 (left self.old)) }
+        ensures goes { GoesOn self.old self.new }
+    {
+        let number = self.read_u64()?;
+        Ok(number as usize)
+    }
+}

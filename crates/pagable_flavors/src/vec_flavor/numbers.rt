@@ -1,0 +1,76 @@
+//! Whole numbers are written.
+
+ghost use Rattle.std.specs.Prelude.{◌≡◌, ◌++◌, OnOk, IfErr};
+ghost use Rattle.std.specs.Int.{w8, w16, w32, w64};
+ghost use Rattle.pagable_model.specs.Gives.{memory, Extends};
+ghost use Rattle.pagable_model.specs.Numbers.{unsigned_form};
+ghost use Rattle.pagable_flavors.specs.Varints.{AppendsVarint};
+
+use super::PagableVecFlavor;
+use pagable_model::Error;
+
+impl PagableVecFlavor {
+    // The shortest varint of a number, for every width that the number fits.
+    #[tactic(auto, using(crate::proofs::Varint::writer_steps))]
+    fn varint(&mut self, number: u64) -> Result<(), Error>
+        ensures ok { OnOk result (AppendsVarint self.old self.new number) }
+        ensures only { IfErr result memory }
+        ensures err { Extends self.old self.new }
+    {
+        let mut rest = number;
+        while rest >= 128 {
+            self.try_push(128 + (rest % 128) as u8)?;
+            rest /= 128;
+        }
+        self.try_push(rest as u8)?;
+        Ok(())
+    }
+
+    /// A number of 8 bits, in one byte. `OutOfMemory` where the writer can't grow.
+    pub fn write_u8(&mut self, number: u8) -> Result<(), Error>
+        ensures ok { OnOk result (self.new ≡ self.old ++ unsigned_form w8 number) }
+        ensures only { IfErr result memory }
+        ensures err { Extends self.old self.new }
+    {
+        self.try_push(number)
+    }
+
+    /// A number of 16 bits, in 1 to 3 bytes. `OutOfMemory` where the writer can't grow.
+    #[tactic(auto, using(crate::proofs::Varint::limits))]
+    pub fn write_u16(&mut self, number: u16) -> Result<(), Error>
+        ensures ok { OnOk result (self.new ≡ self.old ++ unsigned_form w16 number) }
+        ensures only { IfErr result memory }
+        ensures err { Extends self.old self.new }
+    {
+        self.varint(u64::from(number))
+    }
+
+    /// A number of 32 bits, in 1 to 5 bytes. `OutOfMemory` where the writer can't grow.
+    #[tactic(auto, using(crate::proofs::Varint::limits))]
+    pub fn write_u32(&mut self, number: u32) -> Result<(), Error>
+        ensures ok { OnOk result (self.new ≡ self.old ++ unsigned_form w32 number) }
+        ensures only { IfErr result memory }
+        ensures err { Extends self.old self.new }
+    {
+        self.varint(u64::from(number))
+    }
+
+    /// A number of 64 bits, in 1 to 10 bytes. `OutOfMemory` where the writer can't grow.
+    #[tactic(auto, using(crate::proofs::Varint::limits))]
+    pub fn write_u64(&mut self, number: u64) -> Result<(), Error>
+        ensures ok { OnOk result (self.new ≡ self.old ++ unsigned_form w64 number) }
+        ensures only { IfErr result memory }
+        ensures err { Extends self.old self.new }
+    {
+        self.varint(number)
+    }
+
+    /// A number of 64 bits, as `write_u64` writes it.
+    pub fn write_usize(&mut self, number: usize) -> Result<(), Error>
+        ensures ok { OnOk result (self.new ≡ self.old ++ unsigned_form w64 number) }
+        ensures only { IfErr result memory }
+        ensures err { Extends self.old self.new }
+    {
+        self.write_u64(number as u64)
+    }
+}

@@ -1,0 +1,42 @@
+//! Numbers with a sign as numbers without one: n becomes 2n, and -n - 1 becomes 2n + 1.
+
+ghost use Rattle.std.specs.Prelude.{◌≡◌};
+ghost use Rattle.pagable_model.specs.Numbers.{zigzag, from_zigzag};
+
+// The number without a sign that stands for this one.
+pub(crate) fn encode(number: i64) -> u64
+    ensures { result ≡ zigzag number }
+{
+    if number >= 0 {
+        2 * number as u64
+    } else {
+        2 * (-1 - number) as u64 + 1
+    }
+}
+
+// The number that this one stands for.
+pub(crate) fn decode(number: u64) -> i64
+    ensures { result ≡ from_zigzag number }
+{
+    let half = (number / 2) as i64;
+    if number % 2 == 0 { half } else { -1 - half }
+}
+
+// The same for 128 bits.
+pub(crate) fn encode_wide(number: i128) -> u128
+    ensures { result ≡ zigzag number }
+{
+    if number >= 0 {
+        2 * number as u128
+    } else {
+        2 * (-1 - number) as u128 + 1
+    }
+}
+
+// The same for 128 bits.
+pub(crate) fn decode_wide(number: u128) -> i128
+    ensures { result ≡ from_zigzag number }
+{
+    let half = (number / 2) as i128;
+    if number % 2 == 0 { half } else { -1 - half }
+}

@@ -1,0 +1,104 @@
+-- What writing a part adds, and what has no form.
+use Rattle.std.proofs.Common.{◌≡◌, ℕ, Bool, true, false, subst, ◌<◌, ◌≤◌, ◌-◌, ◌^◌, List, [], ◌∷◌, ◌++◌, length, arith, refl, sym, ap, ◌∙◌, append_assoc, Result, Ok, Err, inl, inr}
+use Rattle.std.proofs.lemmas.List.{append-nil}
+use Rattle.std.specs.Prelude.{IfErr, ◌⊎◌, IsTrue}
+use Rattle.std.specs.Int.{Width, w16, w64}
+use Rattle.std.specs.Str.{IsUtf8}
+use Rattle.pagable_model.specs.declared.error.Error.{Error}
+use Rattle.pagable_model.specs.declared.error.Error.TheVariants as errors
+use Rattle.pagable_model.specs.declared.numbers.ArcRef.{ArcRef}
+use Rattle.pagable_model.specs.Refusals.{is_writing_fault}
+use Rattle.pagable_model.specs.Numbers.{bound, unsigned_form}
+use Rattle.pagable_model.specs.Basic.{longest, text_form}
+use Rattle.pagable_model.specs.Gives.{Extends, memory}
+use Rattle.pagable_flavors.specs.Lengths.{long_or_memory}
+use Rattle.pagable_model.specs.Meaning.{Meaning, number}
+use Rattle.pagable_model.specs.Meaning as meanings
+use Rattle.pagable_model.specs.Shape.{Shape, unsigned}
+use Rattle.pagable_model.specs.Shape as shapes
+use Rattle.pagable_model.specs.Form.{unsigned-form, text-form, reference-form}
+use Rattle.pagable_model.specs.Writing.{Out, Nesting, FormAt, Writes, WritesSome, Grows, added, kind_of_arc, NoForm, NoFormOfSome, Refused, IsRefusal}
+use Rattle.pagable_model.specs.Standing.{Is}
+
+pub out_is : (b c : List ℕ) (r s : List ArcRef) → b ≡ c → r ≡ s → (let x : Out = record { bytes = b; refs = r } in x) ≡ (let y : Out = record { bytes = c; refs = s } in y)
+out_is b c r s e f = rw (e, f) refl
+
+pub grows_bytes : (old : Out) (w : List ℕ) → Extends old.bytes w → Grows old (record old { bytes = w })
+grows_bytes old w e = record { bytes = e.0; refs = []; grown = out_is _ _ _ _ e.1 (sym (append-nil old.refs)) }
+
+pub grows_refl : (old : Out) → Grows old old
+grows_refl old = record { bytes = []; refs = []; grown = out_is _ _ _ _ (sym (append-nil old.bytes)) (sym (append-nil old.refs)) }
+
+-- two steps are one
+added-twice : (old : Out) (b c : List ℕ) (k l : List ArcRef) → added (added old b k) c l ≡ added old (b ++ c) (k ++ l)
+added-twice old b c k l = out_is _ _ _ _ (append_assoc old.bytes b c) (append_assoc old.refs k l)
+
+pub then : (a b c : Out) (p q : List ℕ) (k l : List ArcRef) → b ≡ added a p k → c ≡ added b q l → c ≡ added a (p ++ q) (k ++ l)
+then a b c p q k l e f = f ∙ ap (λ (x : Out). added x q l) e ∙ added-twice a p q k l
+
+pub grows_trans : (a b c : Out) → Grows a b → Grows b c → Grows a c
+grows_trans a b c g h = record { bytes = g.bytes ++ h.bytes; refs = g.refs ++ h.refs; grown = then a b c _ _ _ _ g.grown h.grown }
+
+pub grows_writes : (n : Nesting) (s : Shape) (m : Meaning ArcRef) (a b : Out) → Writes n s m a b → Grows a b
+grows_writes n s m a b w = record { bytes = w.bytes; refs = w.refs; grown = w.grown }
+
+pub grows_some : (M : Meaning ArcRef → Type 0) (n : Nesting) (s : Shape) (a b : Out) → WritesSome M n s a b → Grows a b
+grows_some M n s a b w = grows_writes n s w.m a b w.wrote
+
+-- bytes alone
+pub writes_bytes : (n : Nesting) (s : Shape) (m : Meaning ArcRef) (old : Out) (w b : List ℕ) → w ≡ old.bytes ++ b → FormAt n s m b [] → Writes n s m old (record old { bytes = w })
+writes_bytes n s m old w b e f = record { bytes = b; refs = []; form = f; grown = out_is _ _ _ _ e (sym (append-nil old.refs)) }
+
+-- the one meaning of a value
+pub writes_is : {X : Type 0} (meaning : X → Meaning ArcRef) (x : X) (n : Nesting) (s : Shape) (old new : Out) → Writes n s (meaning x) old new → WritesSome (Is meaning x) n s old new
+writes_is meaning x n s old new w = record { m = meaning x; is = refl; wrote = w }
+
+pub writes_unsigned : (n : Nesting) (w : Width) (x : ℕ) (old : Out) (bytes : List ℕ) → x < bound w → bytes ≡ old.bytes ++ unsigned_form w x → WritesSome (Is number x) n (unsigned w) old (record old { bytes = bytes })
+writes_unsigned n w x old bytes lt e = writes_is number x n (unsigned w) old _ (writes_bytes n (unsigned w) (number x) old bytes (unsigned_form w x) e (unsigned-form _ w x lt))
+
+-- ---- refusals
+
+memory_is_no_fault : (e : Error) → memory e → is_writing_fault e ≡ false
+memory_is_no_fault e h = let P : Error → Type 0 = λ x. is_writing_fault x ≡ false in subst P (sym h) refl
+
+memory_refuses : (e : Error) (M : Meaning ArcRef → Type 0) (n : Nesting) (s : Shape) → memory e → Refused M n s e
+memory_refuses e M n s h = λ fault. let none = memory_is_no_fault e h in absurd cc
+
+-- want of memory says nothing of the value
+pub refused_memory : {X : Type 0} (r : Result X Error) (M : Meaning ArcRef → Type 0) (n : Nesting) (s : Shape) → IfErr r memory → IfErr r (Refused M n s)
+refused_memory (Ok x) M n s h = tt
+refused_memory (Err e) M n s h = memory_refuses e M n s h
+
+pub only_memory : {X : Type 0} (r : Result X Error) → IfErr r memory → IfErr r (IsRefusal memory)
+only_memory (Ok x) h = tt
+only_memory (Err e) h = inr h
+
+-- ---- texts
+
+-- the text that a value means
+pub writes_text : {X : Type 0} (meaning : X → Meaning ArcRef) (x : X) (n : Nesting) (t : List ℕ) (old : Out) (bytes : List ℕ) → bytes ≡ old.bytes ++ text_form t → meaning x ≡ meanings.text t → IsUtf8 t → length t ≤ longest
+    → WritesSome (Is meaning x) n shapes.text old (record old { bytes = bytes })
+writes_text meaning x n t old bytes e is u le =
+    record { m = meaning x; is = refl; wrote = rw is (writes_bytes n shapes.text (meanings.text t) old bytes (text_form t) e (text-form _ t u le)) }
+
+-- a text that is too long has no form
+pub no_text : (n : Nesting) (t : List ℕ) → longest < length t → NoForm n shapes.text (meanings.text t)
+no_text n t lt b k f = go f refl
+  where
+    go : {m : Meaning ArcRef} {b : List ℕ} {k : List ArcRef} → FormAt n shapes.text m b k → m ≡ meanings.text t → ⊥
+    go (text-form l u v le) e = let same : u ≡ t = cc in omega (arith, ap length same)
+
+refuses_text : {X : Type 0} (meaning : X → Meaning ArcRef) (x : X) (n : Nesting) (t : List ℕ) (e : Error) → meaning x ≡ meanings.text t → long_or_memory (length t) e → Refused (Is meaning x) n shapes.text e
+refuses_text meaning x n t e is (inl h) = λ fault. record { m = meaning x; is = refl; no_form = rw is (no_text n t h.0) }
+refuses_text meaning x n t e is (inr h) = memory_refuses e (Is meaning x) n shapes.text h.1
+
+pub refused_text : {X Y : Type 0} (r : Result Y Error) (meaning : X → Meaning ArcRef) (x : X) (n : Nesting) (t : List ℕ) → meaning x ≡ meanings.text t → IfErr r (long_or_memory (length t)) → IfErr r (Refused (Is meaning x) n shapes.text)
+refused_text (Ok y) meaning x n t is h = tt
+refused_text (Err e) meaning x n t is h = refuses_text meaning x n t e is h
+
+pub only_long : {Y : Type 0} (r : Result Y Error) (len : ℕ) → IfErr r (long_or_memory len) → IfErr r (IsRefusal memory)
+only_long (Ok y) len h = tt
+only_long (Err e) len (inl h) = inl (let P : Error → Type 0 = λ x. IsTrue (is_writing_fault x) in subst P (sym h.1) refl)
+only_long (Err e) len (inr h) = inr h.1
+
+pub ruleset parts = (grows_bytes, grows_refl, grows_trans, grows_some, writes_is, writes_unsigned, writes_text, refused_memory, only_memory, refused_text, only_long)

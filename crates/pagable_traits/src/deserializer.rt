@@ -1,0 +1,94 @@
+//! What values are read from.
+
+ghost use Rattle.std.specs.Prelude.{◌≡◌, ◌≤◌, ◌<◌, ◌+◌, ◌-◌, ℕ, OnOk, IfErr};
+ghost use Rattle.std.specs.Borrow.{Lends, sem};
+ghost use Rattle.pagable_model.specs.Track.{left, GoesOn};
+ghost use Rattle.pagable_model.specs.Gives.{Gives, never};
+ghost use Rattle.pagable_model.specs.Meaning.{reference as meaning_of};
+ghost use Rattle.pagable_model.specs.Reading.{Rest, reference_at, deepest};
+ghost use Rattle.pagable_model.specs.Standing.{Answer, Standing, rest_at, answer_at, IsWithin, MovesOn};
+
+use crate::env::Env;
+use crate::reader::Reader;
+use pagable_flavors::Error;
+use pagable_model::{ArcRef, Kind, PagableCursor};
+
+/// What values are read from: bytes, and a list of keys of references, each with what it is answered as.
+pub trait PagableDeserializer<E: Env> {
+    type Reader: Reader;
+
+    // All that was given, and how much of it was read.
+    ghost standing: { Self → Standing };
+
+    // What is left to be read.
+    ghost rest: { Self → Rest Answer };
+
+    // How many levels were entered.
+    ghost levels: { Self → ℕ };
+
+    ghost environment: { Self → E };
+
+    ghost reader: { Self → Self.Reader };
+
+    // The deserializer with another reader.
+    ghost with_reader: { Self → Self.Reader → Self };
+
+    /// The reader of bytes, for basic types.
+    fn serde(&mut self) -> &mut Self::Reader
+        ensures* writes_back { sem 𝓛 (Lends Self.row Self.Reader.row self.entry result (with_reader self.old)) }
+        ensures value { result.now ≡ reader self.old };
+
+    /// The next reference, of this kind. It takes the next key, and that counts as used also where the reference is
+    /// refused; NoMoreKeys where none is left.
+    fn deserialize_arc(&mut self, kind: Kind) -> Result<ArcRef, Error>
+        ensures gives { Gives never (λ r. (meaning_of r, rest self.new)) result (reference_at answer_at kind.0 (rest self.old).refs (rest self.old)) }
+        ensures moves { MovesOn (standing self.old) (standing self.new) }
+        ensures same_env { environment self.new ≡ environment self.old }
+        ensures same_levels { levels self.new ≡ levels self.old };
+
+    /// How many bytes and references were read.
+    fn position(&self) -> PagableCursor
+        ensures cursor { result ≡ (standing self.now).cursor }
+        ensures within { IsWithin (standing self.now).whole result };
+
+    /// Goes to a place that `position` told before.
+    fn seek(&mut self, cursor: PagableCursor)
+        requires { IsWithin (standing self.old).whole cursor }
+        ensures moved { standing self.new ≡ record (standing self.old) { cursor = cursor } }
+        ensures same_env { environment self.new ≡ environment self.old }
+        ensures same_levels { levels self.new ≡ levels self.old };
+
+    /// One level down: a value inside a value. At 128 levels TooDeep, and nothing changes.
+    fn enter(&mut self) -> Result<(), Error>
+        ensures ok { OnOk result ((levels self.new ≡ levels self.old + 1) × (levels self.old < deepest)) }
+        ensures err { IfErr result (λ e. (e ≡ Error.TooDeep) × (deepest ≤ levels self.old) × (levels self.new ≡ levels self.old)) }
+        ensures same_standing { standing self.new ≡ standing self.old }
+        ensures same_rest { rest self.new ≡ rest self.old }
+        ensures same_env { environment self.new ≡ environment self.old };
+
+    /// One level up again.
+    fn leave(&mut self)
+        requires { 0 < levels self.old }
+        ensures up { levels self.new ≡ levels self.old - 1 }
+        ensures same_standing { standing self.new ≡ standing self.old }
+        ensures same_rest { rest self.new ≡ rest self.old }
+        ensures same_env { environment self.new ≡ environment self.old };
+
+    /// The environment, where registries are found.
+    fn env(&self) -> &E
+        ensures { result.now ≡ environment self.now };
+
+    // What is left follows from where the deserializer stands, and its reader stands there too.
+    ghost rest_is: { (s : Self) → rest s ≡ rest_at (standing s) };
+
+    ghost bytes_are: { (s : Self) → (rest s).bytes ≡ left (Self.Reader.track (reader s)) };
+
+    // Another reader changes the bytes that are left, and one that goes on moves the deserializer on.
+    ghost rest_of_with: { (s : Self) (r : Self.Reader) → rest (with_reader s r) ≡ record (rest s) { bytes = left (Self.Reader.track r) } };
+
+    ghost moves_of_with: { (s : Self) (r : Self.Reader) → GoesOn (Self.Reader.track (reader s)) (Self.Reader.track r) → MovesOn (standing s) (standing (with_reader s r)) };
+
+    ghost levels_of_with: { (s : Self) (r : Self.Reader) → levels (with_reader s r) ≡ levels s };
+
+    ghost environment_of_with: { (s : Self) (r : Self.Reader) → environment (with_reader s r) ≡ environment s };
+}

@@ -1,0 +1,18 @@
+//! The caller's environment.
+
+ghost use Rattle.std.specs.Prelude.{ℕ};
+ghost use Rattle.pagable_model.specs.Shape.{Shape};
+
+use crate::hash::KeyHash;
+
+/// The types that a caller brings along. The environment's value is what readers and writers of values are lent.
+pub trait Env: Sized {
+    /// One case for each value type; `NodeSet` says what it offers.
+    type Node: Drop;
+
+    /// The hash that makes keys.
+    type Hash: KeyHash;
+
+    // How the parts of values that have numbers are spelled, each one level further down.
+    ghost parts: { Self → ℕ → Shape };
+}

@@ -1,0 +1,4 @@
+//! The carried types.
+
+pub mod numbers;
+pub mod texts;

@@ -1,0 +1,58 @@
+//! Texts.
+
+ghost use Rattle.std.specs.Prelude.{refl};
+ghost use Rattle.std.specs.String.{string_bytes};
+ghost use Rattle.pagable_model.specs.Gives.{memory};
+ghost use Rattle.pagable_model.specs.Shape.{text};
+ghost use Rattle.pagable_model.specs.Meaning.{text as text_meaning};
+ghost use Rattle.pagable_model.specs.Standing.{Is};
+ghost use Rattle.pagable_traits.specs.Causes.{memory_is_own_reading, memory_is_own_writing};
+
+use crate::deserializer::PagableDeserializer;
+use crate::env::Env;
+use crate::reader::Reader;
+use crate::serializer::PagableSerializer;
+use crate::traits::{Carried, OneMeaning, PagableDeserialize, PagableSerialize};
+use pagable_flavors::Error;
+use std::alloc::Global;
+
+impl<E: Env> Carried<E> for String {
+    ghost shape = { λ e. text };
+
+    ghost means = { Is (λ s. text_meaning (string_bytes s)) };
+
+    ghost has_meaning = { λ s. (text_meaning (string_bytes s), refl) };
+}
+
+impl<E: Env> OneMeaning<E> for String {
+    ghost meaning = { λ s. text_meaning (string_bytes s) };
+
+    ghost is_meaning = { λ s. refl };
+
+    ghost single = { λ s m is. is };
+}
+
+impl<E: Env> PagableSerialize<E> for String {
+    ghost write_causes = { memory };
+
+    ghost write_causes_are_own = { memory_is_own_writing };
+
+    #[tactic(auto, using(crate::proofs::Writing::parts))]
+    fn pagable_serialize<S: PagableSerializer<E>>(&self, serializer: &mut S) -> Result<(), Error> {
+        serializer.serde().write_str(self.as_str())
+    }
+}
+
+impl<'de, E: Env> PagableDeserialize<'de, E> for String {
+    ghost read_causes = { memory };
+
+    ghost read_causes_are_own = { memory_is_own_reading };
+
+    #[tactic(auto, unfolding(pagable_model::specs::Reading::read, pagable_model::specs::Reading::read_with), using(crate::proofs::Reading::parts))]
+    fn pagable_deserialize<D: PagableDeserializer<E>>(
+        alloc: Global,
+        deserializer: &mut D,
+    ) -> Result<Self, Error> {
+        deserializer.serde().read_string(alloc)
+    }
+}

@@ -1,0 +1,24 @@
+//! What can be written and read: the traits of values, of what they are written to and read from, of environments
+//! and their nodes, and of hashes; and the carried types.
+#![tactic(auto)]
+
+pub mod deserializer;
+pub mod env;
+pub mod hash;
+pub mod impls;
+pub mod laws;
+pub mod nodes;
+pub mod reader;
+pub mod serializer;
+pub mod traits;
+
+pub use deserializer::PagableDeserializer;
+pub use env::Env;
+pub use hash::KeyHash;
+pub use nodes::{InNode, NodeSet};
+pub use pagable_model::{
+    ArcRef, HandleNumber, Identity, Kind, LoadNumber, NodeNumber, PagableCursor, WorkerNumber,
+};
+pub use reader::Reader;
+pub use serializer::PagableSerializer;
+pub use traits::{Carried, OneMeaning, PagableDeserialize, PagableSerialize};

@@ -1,0 +1,82 @@
+//! What a deserializer lends to read basic types.
+
+ghost use Rattle.std.specs.Prelude.{◌≡◌, ◌≤◌, length};
+ghost use Rattle.std.specs.Int.{w16, w64};
+ghost use Rattle.std.specs.String.{string_bytes};
+ghost use Rattle.pagable_model.specs.Track.{Track, left, GoesOn};
+ghost use Rattle.pagable_model.specs.Gives.{Gives, never, memory};
+ghost use Rattle.pagable_model.specs.Numbers.{unsigned_at};
+ghost use Rattle.pagable_model.specs.Basic.{length_at, text_at, bool_at};
+
+use pagable_flavors::{Error, PagableSlice};
+use std::alloc::Global;
+
+/// A reader of basic types, as `PagableSlice` is. A refusal is the first fault of the wire format, and leaves the
+/// place between the old one and the end; only texts take memory.
+pub trait Reader {
+    ghost track: { Self → Track };
+
+    /// How many bytes were read.
+    fn position(&self) -> usize
+        ensures place { result ≡ (track self.now).position }
+        ensures within { result ≤ length (track self.now).all };
+
+    /// Goes to a place that isn't past the end.
+    fn set_position(&mut self, position: usize)
+        requires { position ≤ length (track self.old).all }
+        ensures { track self.new ≡ record (track self.old) { position = position } };
+
+    fn read_bool(&mut self) -> Result<bool, Error>
+        ensures gives { Gives never (λ b. (b, left (track self.new))) result (bool_at (left (track self.old))) }
+        ensures goes { GoesOn (track self.old) (track self.new) };
+
+    fn read_u16(&mut self) -> Result<u16, Error>
+        ensures gives { Gives never (λ n. (n, left (track self.new))) result (unsigned_at w16 (left (track self.old))) }
+        ensures goes { GoesOn (track self.old) (track self.new) };
+
+    fn read_usize(&mut self) -> Result<usize, Error>
+        ensures gives { Gives never (λ n. (n, left (track self.new))) result (unsigned_at w64 (left (track self.old))) }
+        ensures goes { GoesOn (track self.old) (track self.new) };
+
+    /// A length: TooLong above 4,294,967,295.
+    fn read_len(&mut self) -> Result<usize, Error>
+        ensures gives { Gives never (λ n. (n, left (track self.new))) result (length_at (left (track self.old))) }
+        ensures goes { GoesOn (track self.old) (track self.new) };
+
+    fn read_string(&mut self, alloc: Global) -> Result<String, Error>
+        ensures gives { Gives memory (λ t. (string_bytes t, left (track self.new))) result (text_at (left (track self.old))) }
+        ensures goes { GoesOn (track self.old) (track self.new) };
+}
+
+impl Reader for PagableSlice<'_> {
+    ghost track = { λ s. s };
+
+    fn position(&self) -> usize {
+        PagableSlice::position(self)
+    }
+
+    fn set_position(&mut self, position: usize) {
+        PagableSlice::set_position(self, position);
+    }
+
+    fn read_bool(&mut self) -> Result<bool, Error> {
+        PagableSlice::read_bool(self)
+    }
+
+    fn read_u16(&mut self) -> Result<u16, Error> {
+        PagableSlice::read_u16(self)
+    }
+
+    fn read_usize(&mut self) -> Result<usize, Error> {
+        PagableSlice::read_usize(self)
+    }
+
+    fn read_len(&mut self) -> Result<usize, Error> {
+        PagableSlice::read_len(self)
+    }
+
+    fn read_string(&mut self, alloc: Global) -> Result<String, Error> {
+        let text = PagableSlice::read_str(self)?;
+        Ok(String::from_str(alloc, text)?)
+    }
+}

@@ -1,0 +1,73 @@
+//! What values are written to.
+
+ghost use Rattle.std.specs.Prelude.{◌≡◌, ◌<◌, ◌≤◌, ◌+◌, ◌-◌, List, ℕ, [], ◌∷◌, length, OnOk, OnErr, IfErr};
+ghost use Rattle.std.specs.Borrow.{Lends, sem};
+ghost use Rattle.pagable_flavors.specs.contracts.vec_flavor.PagableVecFlavor.{the_row as writer_row};
+ghost use Rattle.pagable_model.specs.Writing.{Out, added, end_of, overwritten};
+ghost use Rattle.pagable_model.specs.Reading.{deepest};
+
+use crate::env::Env;
+use pagable_flavors::{Error, PagableVecFlavor};
+use pagable_model::{ArcRef, PagableCursor};
+
+/// What values are written to: a writer of bytes, and a list of the references in their order.
+pub trait PagableSerializer<E: Env> {
+    // What was written so far.
+    ghost out: { Self → Out };
+
+    // How many levels were entered.
+    ghost levels: { Self → ℕ };
+
+    ghost environment: { Self → E };
+
+    // The serializer with other bytes.
+    ghost with_bytes: { Self → List ℕ → Self };
+
+    /// The writer of bytes, for basic types.
+    fn serde(&mut self) -> &mut PagableVecFlavor
+        ensures* writes_back { sem 𝓛 (Lends Self.row writer_row self.entry result (with_bytes self.old)) }
+        ensures value { result.now ≡ (out self.old).bytes };
+
+    /// Appends a reference. Refused by want of memory alone; then nothing was appended.
+    fn serialize_arc(&mut self, reference: ArcRef) -> Result<(), Error>
+        ensures ok { OnOk result (out self.new ≡ added (out self.old) [] (reference ∷ [])) }
+        ensures err { OnErr result (out self.new ≡ out self.old) }
+        ensures only { IfErr result (λ e. e ≡ Error.OutOfMemory) }
+        ensures same_env { environment self.new ≡ environment self.old }
+        ensures same_levels { levels self.new ≡ levels self.old };
+
+    /// How many bytes and references were written.
+    fn position(&self) -> PagableCursor
+        ensures { result ≡ end_of (out self.now) };
+
+    /// Overwrites bytes that were written already, from this position on.
+    fn write_at(&mut self, position: usize, bytes: &[u8])
+        requires { position + length bytes.now ≤ length (out self.old).bytes }
+        ensures written { out self.new ≡ record (out self.old) { bytes = overwritten (out self.old).bytes position bytes.now } }
+        ensures same_env { environment self.new ≡ environment self.old }
+        ensures same_levels { levels self.new ≡ levels self.old };
+
+    /// One level down: a value inside a value. At 128 levels TooDeep, and nothing changes.
+    fn enter(&mut self) -> Result<(), Error>
+        ensures ok { OnOk result ((levels self.new ≡ levels self.old + 1) × (levels self.old < deepest)) }
+        ensures err { IfErr result (λ e. (e ≡ Error.TooDeep) × (deepest ≤ levels self.old) × (levels self.new ≡ levels self.old)) }
+        ensures same_out { out self.new ≡ out self.old }
+        ensures same_env { environment self.new ≡ environment self.old };
+
+    /// One level up again.
+    fn leave(&mut self)
+        requires { 0 < levels self.old }
+        ensures up { levels self.new ≡ levels self.old - 1 }
+        ensures same_out { out self.new ≡ out self.old }
+        ensures same_env { environment self.new ≡ environment self.old };
+
+    /// The environment, where registries are found.
+    fn env(&self) -> &E
+        ensures { result.now ≡ environment self.now };
+
+    ghost out_of_with: { (s : Self) (w : List ℕ) → out (with_bytes s w) ≡ record (out s) { bytes = w } };
+
+    ghost levels_of_with: { (s : Self) (w : List ℕ) → levels (with_bytes s w) ≡ levels s };
+
+    ghost environment_of_with: { (s : Self) (w : List ℕ) → environment (with_bytes s w) ≡ environment s };
+}
