@@ -28,13 +28,13 @@ module _ (answer : ℕ → ℕ → ℕ → Result ArcRef Error) where
       → drop at (answers_from answer place keys) ≡ (λ kind. answer (place + at) key kind) ∷ drop (at + 1) (answers_from answer place keys)
   some_from place at key [] h = absurd cc
   some_from place zero key (first ∷ keys) h =
-    let same : first ≡ key = cc in
-    let none : place + 0 ≡ place = omega arith in
-    rw (same, none) refl
+      let same : first ≡ key = cc in
+      let none : place + 0 ≡ place = omega arith in
+      rw (same, none) refl
   some_from place (suc at) key (first ∷ keys) h =
-    let more : place + suc at ≡ place + 1 + at = omega arith in
-    let next : suc at + 1 ≡ suc (at + 1) = omega arith in
-    rw (more, next) (some_from (place + 1) at key keys h)
+      let more : place + suc at ≡ place + 1 + at = omega arith in
+      let next : suc at + 1 ≡ suc (at + 1) = omega arith in
+      rw (more, next) (some_from (place + 1) at key keys h)
 
   -- no key is left
   pub none_left : (kind at : ℕ) (keys : List ℕ) (rest : Rest Answer) → length keys ≤ at → reference_at answer_at kind (drop at (answers_from answer 0 keys)) rest ≡ Err errors.NoMoreKeys
@@ -44,9 +44,9 @@ module _ (answer : ℕ → ℕ → ℕ → Result ArcRef Error) where
   pub some_left : (kind at key : ℕ) (keys : List ℕ) (rest : Rest Answer) → slice_get keys at ≡ Some key
       → reference_at answer_at kind (drop at (answers_from answer 0 keys)) rest ≡ (answer at key kind >>= λ r. Ok (meanings.reference r, record rest { refs = drop (at + 1) (answers_from answer 0 keys) }))
   some_left kind at key keys rest h =
-    let none : 0 + at ≡ at = omega arith in
-    let e : drop at (answers_from answer 0 keys) ≡ (λ k. answer at key k) ∷ drop (at + 1) (answers_from answer 0 keys) = rw none at (some_from 0 at key keys h) in
-    rw e refl
+      let none : 0 + at ≡ at = omega arith in
+      let e : drop at (answers_from answer 0 keys) ≡ (λ k. answer at key k) ∷ drop (at + 1) (answers_from answer 0 keys) = rw none at (some_from 0 at key keys h) in
+      rw e refl
 
 -- what was answered is what reading gives
 pub gives_answer : (r : Result ArcRef Error) (read : Result (Meaning ArcRef × Rest Answer) Error) (after : Rest Answer) → read ≡ (r >>= λ b. Ok (meanings.reference b, after)) → Gives never (λ b. (meanings.reference b, after)) r read

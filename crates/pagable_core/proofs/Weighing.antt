@@ -43,6 +43,7 @@ is_weighed_more old new came b h sum place = record {
   where
     longer : (xs : List ℕ) → length xs + 1 ≡ length (xs ++ b ∷ [])
     longer xs = omega (arith, length-append xs (b ∷ []))
+
     one_more : (xs : List ℕ) → 1 + length xs ≡ length xs + 1
     one_more xs = omega arith
 

@@ -31,6 +31,10 @@ standing_of answer keys reader = record {
   cursor = record { byte_pos = reader.position; arc_index = keys.position };
 }
 
+-- at the front of these bytes and keys
+abbrev pub at_front : (ℕ → ℕ → ℕ → Result ArcRef Error) → List ℕ → List ℕ → Standing
+at_front answer bytes keys = standing_of answer (record { all = keys; position = 0 }) (record { all = bytes; position = 0 })
+
 -- a reader that goes on moves the deserializer on
 pub moves_of : (answer : ℕ → ℕ → ℕ → Result ArcRef Error) (keys old new : Track) → GoesOn old new → MovesOn (standing_of answer keys old) (standing_of answer keys new)
 moves_of answer keys old new g = record {

@@ -14,3 +14,8 @@ pub mod Form
 pub mod Writing
 pub mod Standing
 pub mod Blob
+pub mod Trees
+pub mod Canonical
+pub mod Deep
+pub mod Merkle
+pub mod Json

@@ -102,3 +102,15 @@ only_long (Err e) len (inl h) = inl (let P : Error → Type 0 = λ x. IsTrue (is
 only_long (Err e) len (inr h) = inr h.1
 
 pub ruleset parts = (grows_bytes, grows_refl, grows_trans, grows_some, writes_is, writes_unsigned, writes_text, refused_memory, only_memory, refused_text, only_long)
+
+-- a reference alone
+pub writes_reference : {X : Type 0} (meaning : X → Meaning ArcRef) (x : X) (n : Nesting) (kind : ℕ) (r : ArcRef) (old new : Out) → new ≡ added old [] (r ∷ []) → meaning x ≡ meanings.reference r → kind_of_arc r ≡ kind → WritesSome (Is meaning x) n (shapes.reference kind) old new
+writes_reference meaning x n kind r old new e is k = record { m = meaning x; is = refl; wrote = rw is (record { bytes = []; refs = r ∷ []; form = reference-form _ kind r k; grown = e }) }
+
+pub grows_added : (old new : Out) (refs : List ArcRef) → new ≡ added old [] refs → Grows old new
+grows_added old new refs e = record { bytes = []; refs = refs; grown = e }
+
+pub grows_same : (old new : Out) → new ≡ old → Grows old new
+grows_same old new e = rw e (grows_refl old)
+
+pub ruleset references = (writes_reference, grows_added, grows_same)

@@ -1,6 +1,6 @@
 //! What values are read from.
 
-ghost use Rattle.std.specs.Prelude.{◌≡◌, ◌≤◌, ◌<◌, ◌+◌, ◌-◌, ℕ, OnOk, IfErr};
+ghost use Rattle.std.specs.Prelude.{◌≡◌, ◌≤◌, ◌<◌, ◌+◌, ◌-◌, ℕ, OnOk, IfOk, IfErr};
 ghost use Rattle.std.specs.Borrow.{Lends, sem};
 ghost use Rattle.pagable_model.specs.Track.{left, GoesOn};
 ghost use Rattle.pagable_model.specs.Gives.{Gives, never};
@@ -41,6 +41,7 @@ pub trait PagableDeserializer<E: Env> {
     /// The next reference, of this kind. It takes the next key, and that counts as used also where the reference is
     /// refused; NoMoreKeys where none is left.
     fn deserialize_arc(&mut self, kind: Kind) -> Result<ArcRef, Error>
+        ensures of_kind { IfOk result (λ r. r.kind ≡ kind) }
         ensures gives { Gives never (λ r. (meaning_of r, rest self.new)) result (reference_at answer_at kind.0 (rest self.old).refs (rest self.old)) }
         ensures moves { MovesOn (standing self.old) (standing self.new) }
         ensures same_env { environment self.new ≡ environment self.old }

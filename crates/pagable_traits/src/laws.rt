@@ -23,8 +23,7 @@ pub fn u16_is_carried<E: Env>()
     ensures means { (n : ℕ) (m : Meaning Reference) → ⟦<u16 as Carried<E>>⟧.means n m ↔ (m ≡ number n) }
     ensures writes { (e : Refusal) → ⟦<u16 as PagableSerialize<E>>⟧.write_causes e ↔ memory e }
     ensures reads { (e : Refusal) → ⟦<u16 as PagableDeserialize<'static, E>>⟧.read_causes e ↔ never e }
-{
-}
+{}
 
 /// A `usize` is spelled as an unsigned number of 64 bits, means itself, and is refused by want of memory alone, and
 /// never on reading.
@@ -33,8 +32,7 @@ pub fn usize_is_carried<E: Env>()
     ensures means { (n : ℕ) (m : Meaning Reference) → ⟦<usize as Carried<E>>⟧.means n m ↔ (m ≡ number n) }
     ensures writes { (e : Refusal) → ⟦<usize as PagableSerialize<E>>⟧.write_causes e ↔ memory e }
     ensures reads { (e : Refusal) → ⟦<usize as PagableDeserialize<'static, E>>⟧.read_causes e ↔ never e }
-{
-}
+{}
 
 /// A `String` is spelled as a text, means its bytes, and is refused by want of memory alone.
 pub fn string_is_carried<E: Env>()
@@ -42,5 +40,4 @@ pub fn string_is_carried<E: Env>()
     ensures means { (s : Text Heap) (m : Meaning Reference) → ⟦<String as Carried<E>>⟧.means s m ↔ (m ≡ meanings.text (string_bytes s)) }
     ensures writes { (e : Refusal) → ⟦<String as PagableSerialize<E>>⟧.write_causes e ↔ memory e }
     ensures reads { (e : Refusal) → ⟦<String as PagableDeserialize<'static, E>>⟧.read_causes e ↔ memory e }
-{
-}
+{}

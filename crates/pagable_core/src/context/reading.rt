@@ -1,6 +1,7 @@
 //! The deserializer over one blob.
 
-ghost use Rattle.std.specs.Prelude.{◌≡◌, ◌≤◌, length};
+ghost use Rattle.std.specs.Prelude.{◌≡◌};
+ghost use Rattle.pagable_core.specs.Context.{at_front};
 
 use crate::context::keys::PagableKeys;
 use crate::context::references::References;
@@ -18,12 +19,18 @@ pub struct PagableDeserializerImpl<'de, B, R> {
 }
 
 impl<'de, R> PagableDeserializerImpl<'de, PagableSlice<'de>, R> {
-    /// A deserializer at the front of the bytes and keys.
-    pub fn new(
+    /// A deserializer at the front of the bytes and keys, with no level entered.
+    pub fn new<E: Env>(
         bytes: &'de [u8],
         arcs: &'de [DataKey],
         references: R,
-    ) -> PagableDeserializerImpl<'de, PagableSlice<'de>, R> {
+    ) -> PagableDeserializerImpl<'de, PagableSlice<'de>, R>
+    where
+        R: References<E>,
+        ensures standing { ⟦<PagableDeserializerImpl<'de, PagableSlice<'de>, R> as PagableDeserializer<E>>⟧.standing result ≡ at_front (R.answer references) bytes.now arcs.now }
+        ensures levels { ⟦<PagableDeserializerImpl<'de, PagableSlice<'de>, R> as PagableDeserializer<E>>⟧.levels result ≡ 0 }
+        ensures env { ⟦<PagableDeserializerImpl<'de, PagableSlice<'de>, R> as PagableDeserializer<E>>⟧.environment result ≡ R.environment references }
+    {
         PagableDeserializerImpl {
             reader: PagableSlice::new(bytes),
             keys: PagableKeys::new(arcs),
@@ -45,8 +52,7 @@ impl<'de, R> PagableDeserializerImpl<'de, PagableSlice<'de>, R> {
 }
 
 impl<'de, E: Env, B: Reader, R: References<E>> PagableDeserializer<E>
-    for PagableDeserializerImpl<'de, B, R>
-{
+    for PagableDeserializerImpl<'de, B, R> {
     type Reader = B;
 
     ghost use Rattle.std.specs.Prelude.{refl};

@@ -1,6 +1,6 @@
 //! What a deserializer asks for references.
 
-ghost use Rattle.std.specs.Prelude.{◌≡◌, ℕ, Result, Err};
+ghost use Rattle.std.specs.Prelude.{◌≡◌, ℕ, Result, Err, IfOk};
 ghost use Rattle.pagable_model.specs.declared.numbers.ArcRef.{ArcRef as Reference};
 ghost use Rattle.pagable_model.specs.declared.error.Error.{Error as Refusal};
 ghost use Rattle.pagable_model.specs.declared.error.Error.TheVariants.{WrongKind};
@@ -21,6 +21,7 @@ pub trait References<E: Env> {
 
     /// The reference at this place of the blob's list, which has this key and is read as this kind.
     fn reference(&mut self, place: usize, key: DataKey, kind: Kind) -> Result<ArcRef, Error>
+        ensures of_kind { IfOk result (λ r. r.kind ≡ kind) }
         ensures answer { result ≡ answer self.old place key kind.0 }
         ensures same_env { environment self.new ≡ environment self.old }
         ensures same_answers { answer self.new ≡ answer self.old };

@@ -10,7 +10,6 @@ use super::PagableSlice;
 use pagable_model::Error;
 
 // The number at the front, of at most `more` bytes with the top bit set and one that is at most `last`, and how many bytes it takes.
-#[tactic(auto, using(crate::proofs::Varint::reader_steps))]
 fn varint_of(bytes: &[u8], more: usize, last: u8) -> Result<(u64, usize), Error>
     requires ends { (0 < last) × (last < 128) }
     requires fits { varint_limit more last ≤ 2 ^ 64 }
@@ -54,18 +53,13 @@ impl<'de> PagableSlice<'de> {
     }
 
     // The next number, of at most `more` bytes with the top bit set and one that is at most `last`.
-    #[tactic(auto, using(crate::proofs::Varint::reader_steps))]
     fn varint(&mut self, more: usize, last: u8) -> Result<u64, Error>
-        requires some { 0 < more }
         requires ends { (0 < last) × (last < 128) }
         requires fits { varint_limit more last ≤ 2 ^ 64 }
         ensures gives { Gives never (λ n. (n, left self.new)) result (varint_at more last (left self.old)) }
         ensures bound { IfOk result (λ n. n < varint_limit more last) }
         ensures goes { GoesOn self.old self.new }
     {
-        if let Some(byte) = self.short() {
-            return Ok(u64::from(byte));
-        }
         let (number, count) = varint_of(&self.bytes[self.position..], more, last)?;
         self.position += count;
         Ok(number)
@@ -80,8 +74,21 @@ impl<'de> PagableSlice<'de> {
     }
 
     /// A number of 16 bits. `BadVarint` where it has more than 3 bytes, or the third is above 3.
-    #[tactic(auto, using(crate::proofs::Varint::limits))]
+    #[tactic(auto, using(crate::proofs::Varint::reader_steps))]
     pub fn read_u16(&mut self) -> Result<u16, Error>
+        ensures gives { Gives never (λ n. (n, left self.new)) result (unsigned_at w16 (left self.old)) }
+        ensures goes { GoesOn self.old self.new }
+    {
+        if let Some(byte) = self.short() {
+            return Ok(u16::from(byte));
+        }
+        self.long_u16()
+    }
+
+    // The same, byte by byte. It stays a call, so that a number of one byte is short wherever it is read.
+    #[inline(never)]
+    #[tactic(auto, using(crate::proofs::Varint::limits))]
+    fn long_u16(&mut self) -> Result<u16, Error>
         ensures gives { Gives never (λ n. (n, left self.new)) result (unsigned_at w16 (left self.old)) }
         ensures goes { GoesOn self.old self.new }
     {
@@ -90,8 +97,21 @@ impl<'de> PagableSlice<'de> {
     }
 
     /// A number of 32 bits. `BadVarint` where it has more than 5 bytes, or the fifth is above 15.
-    #[tactic(auto, using(crate::proofs::Varint::limits))]
+    #[tactic(auto, using(crate::proofs::Varint::reader_steps))]
     pub fn read_u32(&mut self) -> Result<u32, Error>
+        ensures gives { Gives never (λ n. (n, left self.new)) result (unsigned_at w32 (left self.old)) }
+        ensures goes { GoesOn self.old self.new }
+    {
+        if let Some(byte) = self.short() {
+            return Ok(u32::from(byte));
+        }
+        self.long_u32()
+    }
+
+    // The same, byte by byte. It stays a call, so that a number of one byte is short wherever it is read.
+    #[inline(never)]
+    #[tactic(auto, using(crate::proofs::Varint::limits))]
+    fn long_u32(&mut self) -> Result<u32, Error>
         ensures gives { Gives never (λ n. (n, left self.new)) result (unsigned_at w32 (left self.old)) }
         ensures goes { GoesOn self.old self.new }
     {
@@ -100,8 +120,21 @@ impl<'de> PagableSlice<'de> {
     }
 
     /// A number of 64 bits. `BadVarint` where it has more than 10 bytes, or the tenth is above 1.
-    #[tactic(auto, using(crate::proofs::Varint::limits))]
+    #[tactic(auto, using(crate::proofs::Varint::reader_steps))]
     pub fn read_u64(&mut self) -> Result<u64, Error>
+        ensures gives { Gives never (λ n. (n, left self.new)) result (unsigned_at w64 (left self.old)) }
+        ensures goes { GoesOn self.old self.new }
+    {
+        if let Some(byte) = self.short() {
+            return Ok(u64::from(byte));
+        }
+        self.long_u64()
+    }
+
+    // The same, byte by byte. It stays a call, so that a number of one byte is short wherever it is read.
+    #[inline(never)]
+    #[tactic(auto, using(crate::proofs::Varint::limits))]
+    fn long_u64(&mut self) -> Result<u64, Error>
         ensures gives { Gives never (λ n. (n, left self.new)) result (unsigned_at w64 (left self.old)) }
         ensures goes { GoesOn self.old self.new }
     {

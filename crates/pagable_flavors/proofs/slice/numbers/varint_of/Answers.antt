@@ -1,5 +1,5 @@
 use Rattle.std.proofs.Common.{arith, inl}
-use Rattle.pagable_flavors.proofs.Varint.{ReadsOn_none, ReadsOn_more, ReadsOn_below, ReadsOn_below_end, ReadsOn_scale, ReadsOn_end, ReadsOn_last, ReadsOn_bad, ReadsOn_short}
+use Rattle.pagable_flavors.proofs.Varint.{ReadsOn_more, ReadsOn_below, ReadsOn_below_end, ReadsOn_scale, ReadsOn_end, ReadsOn_last, ReadsOn_bad, ReadsOn_short}
 use Rattle.pagable_flavors.proofs.slice.numbers.varint_of.Goals as goal
 
 pub returns-then-byte-last-clause-gives : goal.returns-then-byte-last-clause-gives

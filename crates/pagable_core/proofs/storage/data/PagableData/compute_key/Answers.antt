@@ -10,13 +10,13 @@ pub loop-key-init : goal.loop-key-init
 loop-key-init g c =
     holds_as g.H.KeyHash.holds c.update-2.new.self _ _ (c.update-2.ensures _ (c.update.ensures [] c.new-hash.ensures))
     (begins (to_le_bytes w64 (length c.args.self.now.arcs.items)) c.to_le_bytes.result c.args.self.now.bytes.items c.deref.result.now (to_le_bytes w128)
-      (c.to_le_bytes.ensures ∙ ap (to_le_bytes w64) (c.len.ensures ∙ sym c.deref-key-items.ensures.len ∙ ap (λ (keys : List ℕ). length keys) c.deref-key-items.ensures.value)) c.deref.ensures.value)
+    (c.to_le_bytes.ensures ∙ ap (to_le_bytes w64) (c.len.ensures ∙ sym c.deref-key-items.ensures.len ∙ ap (λ (keys : List ℕ). length keys) c.deref-key-items.ensures.value)) c.deref.ensures.value)
 
 pub loop-key-preserved : goal.loop-key-preserved
 loop-key-preserved g c =
     holds_as g.H.KeyHash.holds c.update-in-loop-key.new.self _ _ (c.update-in-loop-key.ensures _ c.loop-key.invariant)
     (continues (to_le_bytes w128) c.deref-key-items.result.now c.loop-key.key-index c.key-item.result (to_le_bytes w64 (length c.args.self.now.arcs.items) ++ c.args.self.now.bytes.items) c.to_le_bytes-in-loop-key.result
-      c.loop-key-test.true c.key-item.is (c.to_le_bytes-in-loop-key.ensures ∙ ap (to_le_bytes w128) c.get.ensures.value))
+    c.loop-key-test.true c.key-item.is (c.to_le_bytes-in-loop-key.ensures ∙ ap (to_le_bytes w128) c.get.ensures.value))
 
 pub returns : goal.returns
 returns g c =

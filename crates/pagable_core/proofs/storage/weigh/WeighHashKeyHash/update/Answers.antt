@@ -10,7 +10,7 @@ loop-byte-init c = λ front h. rw append-nil h
 pub loop-byte-preserved : goal.loop-byte-preserved
 loop-byte-preserved c = λ front h.
     rw (take_next c.args.bytes.now c.loop-byte.byte-index c.from.result front c.loop-byte-test.true c.from.ensures)
-      (is_weighed_more c.loop-byte.self _ (front ++ take c.loop-byte.byte-index c.args.bytes.now) c.from.result (c.loop-byte.invariant front h) refl refl)
+    (is_weighed_more c.loop-byte.self _ (front ++ take c.loop-byte.byte-index c.args.bytes.now) c.from.result (c.loop-byte.invariant front h) refl refl)
 
 pub returns : goal.returns
 returns c = λ front h. let all : take c.loop-byte.byte-index c.args.bytes.now ≡ c.args.bytes.now = take_all c.loop-byte.byte-index c.args.bytes.now c.loop-byte-test.false in rw all at (c.loop-byte.invariant front h)

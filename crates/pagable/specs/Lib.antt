@@ -1,0 +1,3 @@
+pub mod Blobs
+pub mod Found
+pub mod Shown

@@ -1,0 +1,23 @@
+//! Content-addressed paging of shared values: a pager that writes values to a store of blobs under the hash of their
+//! content, drops them from memory when no handle pins them, and reads them back on demand.
+#![tactic(auto)]
+
+pub mod pagable_arc;
+pub mod storage;
+
+pub use pagable_arc::pager::{Pager, Want};
+pub use pagable_book::{Beginning, Pinning};
+pub use pagable_core::{
+    NoReferences, PagableData, PagableDeserializerImpl, PagableKeys, PagableSerializerImpl,
+    PagableStorage, References, SerializedData, SerializerForPaging, WeighHash,
+};
+pub use pagable_flavors::{DataKey, Error, OptionalDataKey, PagableSlice, PagableVecFlavor};
+pub use pagable_model::{
+    ArcRef, HandleNumber, Identity, Kind, LoadNumber, Mode, NodeNumber, Owner, PagableCursor,
+    WorkerNumber,
+};
+pub use pagable_traits::{
+    Carried, Env, InNode, KeyHash, NodeSet, OneMeaning, PagableDeserialize, PagableDeserializer,
+    PagableSerialize, PagableSerializer, Reader,
+};
+pub use storage::in_memory::InMemoryBlobs;

@@ -1,0 +1,4 @@
+//! The pager.
+
+pub mod pager;
+pub mod values;

@@ -1,0 +1,385 @@
+//! The pager: handles of values that may be in memory or in the storage.
+
+ghost use Rattle.std.specs.Prelude.{◌≡◌, ◌+◌, ◌++◌, ◌∷◌, [], OnErr, IfErr, IfOk, IfSome, OnOk, Some, length};
+ghost use Rattle.std.specs.Arc.{arc_value};
+ghost use Rattle.pagable_model.specs.Blob.{key_of};
+ghost use Rattle.pagable_core.specs.Data.{blob_of};
+ghost use Rattle.pagable_core.specs.Stored.{Adds, RefusesFetch, RefusesStore};
+ghost use Rattle.pagable_book.specs.State.{WellFormed};
+ghost use Rattle.pagable_book.specs.World.{plain, born};
+ghost use Rattle.pagable_book.specs.Calls.{PinnedBy, Unpinned, Released, Counts, KeyIs, AwayIs, NodeIs, Took, KeySet, Begun, Dropped};
+ghost use Rattle.pagable.specs.Shown.{OnlyBook, SameStore, OnlyStore, Unchanged};
+
+use crate::pagable_arc::values;
+use crate::pagable_arc::values::ValueRow;
+use either::Either;
+use pagable_book::{Beginning, Book, Pinning};
+use pagable_core::{PagableData, PagableStorage};
+use pagable_flavors::{DataKey, Error, OptionalDataKey};
+use pagable_model::{ArcRef, HandleNumber, LoadNumber, Mode, NodeNumber};
+use pagable_traits::{Env, NodeSet};
+use std::alloc::Global;
+use std::marker::Model;
+use std::sync::Arc;
+
+/// What a load asks for.
+#[derive(Clone, Copy, Debug, PartialEq)]
+pub enum Want {
+    /// The blob of its root.
+    Root,
+}
+
+/// Cells, their handles and their values, over a storage of blobs. A call that is refused changes nothing and gives
+/// its value back, but where its own page says more.
+#[derive(Drop)]
+pub struct Pager<E: Env, S: PagableStorage<E>>
+where
+    E::Node: NodeSet<E>,
+{
+    book: Book,
+    values: Vec<ValueRow<E::Node>>,
+    storage: S,
+    env: E,
+}
+
+impl<E: Env, S: PagableStorage<E>> Model for Pager<E, S>
+where
+    E::Node: NodeSet<E>,
+{
+    ghost use Rattle.pagable.specs.Shown.{Shown, value_of};
+    ghost use Rattle.std.specs.Prelude.{map};
+
+    ghost Value = { Shown E.Node S E };
+
+    ghost view = { λ p. record { book = p.book; values = map value_of p.values.items; storage = p.storage; env = p.env } };
+}
+
+impl<E: Env, S: PagableStorage<E>> Pager<E, S>
+where
+    E::Node: NodeSet<E>,
+{
+    /// A pager with no cells, over a storage. It takes no memory.
+    pub fn new(alloc: Global, storage: S, env: E) -> Pager<E, S>
+        ensures book { result.book ≡ record { nodes = []; handles = []; list = []; loads = []; last_node = 0; last_handle = 0; last_load = 0 } }
+        ensures values { result.values ≡ [] }
+        ensures storage { result.storage ≡ storage }
+        ensures env { result.env ≡ env }
+    {
+        Pager {
+            book: Book::new(alloc),
+            values: Vec::new(alloc),
+            storage,
+            env,
+        }
+    }
+
+    /// The environment.
+    pub fn env(&self) -> &E
+        ensures { result.now ≡ self.now.env }
+    {
+        &self.env
+    }
+
+    /// What is true of the tables of every pager: each kept count is the number of pinning handles, and more.
+    pub fn is_whole(&self)
+        ensures { WellFormed self.now.book }
+    {
+        self.book.is_whole()
+    }
+
+    /// A new cell that holds the value, has no key, and has one loose pinned handle of the caller's. Refused with
+    /// NoSuchHandle where the value holds references, NumbersSpent and OutOfMemory; then the value comes back.
+    pub fn new_loose(
+        &mut self,
+        alloc: Global,
+        node: E::Node,
+    ) -> Result<HandleNumber, (Error, E::Node)>
+        ensures made { IfOk result (λ k. (k.0 ≡ self.old.book.last_handle + 1) × (plain self.new.book ≡ born (plain self.old.book) (E.Node.type_of node) Mode.LoosePinned)) }
+        ensures values { OnOk result (self.new.values ≡ self.old.values ++ (self.old.book.last_node + 1, node) ∷ []) }
+        ensures same { SameStore self.old self.new }
+        ensures err { OnErr result (Unchanged self.old self.new) }
+        ensures back { IfErr result (λ e. e.1 ≡ node) }
+    {
+        match node.refs(alloc) {
+            Err(e) => return Err((e, node)),
+            Ok(refs) => {
+                if !refs.is_empty() {
+                    return Err((Error::NoSuchHandle, node));
+                }
+            }
+        }
+        self.add_cell(node)
+    }
+
+    /// A loose handle becomes pinned, and a new Pinned handle is answered; or the key under which the value has to be
+    /// loaded first, where the cell has none in memory, and then nothing changes. Refused with NoSuchHandle, NotYours,
+    /// WrongMode where the handle isn't loose, NumbersSpent and OutOfMemory.
+    pub fn pin(&mut self, handle: HandleNumber) -> Result<Pinning, Error>
+        ensures step { PinnedBy (plain self.old.book) handle result (plain self.new.book) }
+        ensures same { OnlyBook self.old self.new }
+    {
+        self.book.pin(handle)
+    }
+
+    /// A loose handle gives up its pin, and stays. The last pin of a cell lets its value go where the cell has a key,
+    /// and lists the cell where it has none. Refused with NoSuchHandle, NotYours and WrongMode, and nothing changes;
+    /// NumbersSpent and OutOfMemory say that the cell couldn't be listed: the pin is given up all the same.
+    pub fn unpin(&mut self, handle: HandleNumber) -> Result<(), Error>
+        ensures step { Unpinned (plain self.old.book) handle result (plain self.new.book) }
+        ensures same { SameStore self.old self.new }
+    {
+        let outcome = self.book.unpin(handle);
+        values::sweep(&self.book, &mut self.values);
+        outcome
+    }
+
+    /// A handle of the caller's is given up; a pinning one gives up its pin as `unpin` does. A node without handles is
+    /// gone. Refused with NoSuchHandle and NotYours, and nothing changes; NumbersSpent and OutOfMemory as of `unpin`.
+    pub fn release(&mut self, handle: HandleNumber) -> Result<(), Error>
+        ensures step { Released (plain self.old.book) handle result (plain self.new.book) }
+        ensures same { SameStore self.old self.new }
+    {
+        let outcome = self.book.release(handle);
+        values::sweep(&self.book, &mut self.values);
+        outcome
+    }
+
+    /// How many handles pin the node. Refused with NoSuchHandle.
+    pub fn count(&self, handle: HandleNumber) -> Result<u64, Error>
+        ensures { Counts (plain self.now.book) handle result }
+    {
+        self.book.count(handle)
+    }
+
+    /// The node's key, if it has one. Refused with NoSuchHandle.
+    pub fn key(&self, handle: HandleNumber) -> Result<OptionalDataKey, Error>
+        ensures { KeyIs (plain self.now.book) handle result }
+    {
+        self.book.key(handle)
+    }
+
+    /// Whether the node's value isn't in memory. Refused with NoSuchHandle.
+    pub fn is_paged_out(&self, handle: HandleNumber) -> Result<bool, Error>
+        ensures { AwayIs (plain self.now.book) handle result }
+    {
+        self.book.is_paged_out(handle)
+    }
+
+    /// The node of a handle. Refused with NoSuchHandle.
+    pub fn node_of(&self, handle: HandleNumber) -> Result<NodeNumber, Error>
+        ensures { NodeIs (plain self.now.book) handle result }
+    {
+        self.book.node_of(handle)
+    }
+
+    /// The number of the node's value type, or None where the node is gone.
+    pub fn node_live(&self, node: NodeNumber) -> Option<u32> {
+        self.book.node_type(node)
+    }
+
+    /// The node's value, where the handle pins the node, and else None. Refused with NoSuchHandle.
+    pub fn value(&self, handle: HandleNumber) -> Result<Option<&E::Node>, Error> {
+        if !self.book.is_pinning(handle)? {
+            return Ok(None);
+        }
+        let node = self.book.node_of(handle)?;
+        match values::place_of(&self.values, node) {
+            None => Ok(None),
+            Some(place) => Ok(Some(&self.values[place].value)),
+        }
+    }
+
+    /// The cell of a loose handle gets the key, which replaces an older one; where nothing pins the cell, its value
+    /// goes. Through a Pinned handle nothing changes. Asks that the key reads as the value. Refused with NoSuchHandle
+    /// and NotYours.
+    pub fn set_data_key(&mut self, handle: HandleNumber, key: DataKey) -> Result<(), Error>
+        ensures step { KeySet (plain self.old.book) handle key result (plain self.new.book) }
+        ensures same { SameStore self.old self.new }
+    {
+        let outcome = self.book.set_data_key(handle, key);
+        values::sweep(&self.book, &mut self.values);
+        outcome
+    }
+
+    /// How many unpinned handles wait for page-out.
+    pub fn pending(&self) -> usize
+        ensures { result ≡ length self.now.book.list }
+    {
+        self.book.pending()
+    }
+
+    /// The entry at this place of the list, counted from 0, moves to the caller; None past the end.
+    pub fn take_pending(&mut self, place: usize) -> Option<HandleNumber>
+        ensures step { Took (plain self.old.book) place result (plain self.new.book) }
+        ensures same { OnlyBook self.old self.new }
+    {
+        self.book.take_pending(place)
+    }
+
+    /// Stores a blob, and answers its key. Refused with OutOfMemory, Storage, KeyTaken and Closed, as the storage
+    /// refuses it.
+    pub fn store(&mut self, alloc: Global, blob: PagableData) -> Result<DataKey, Error>
+        ensures key { IfOk result (λ key. key ≡ key_of E.Hash.digest (blob_of blob)) }
+        ensures adds { OnOk result (Adds (key_of E.Hash.digest (blob_of blob)) (blob_of blob) (S.stored self.old.storage) (S.stored self.new.storage)) }
+        ensures only { IfErr result (RefusesStore (blob_of blob) (S.stored self.old.storage (key_of E.Hash.digest (blob_of blob))) (S.is_closed self.old.storage) (S.failed self.old.storage) (S.failed self.new.storage)) }
+        ensures err { OnErr result (S.stored self.new.storage ≡ S.stored self.old.storage) }
+        ensures same { OnlyStore self.old self.new }
+    {
+        self.storage.store_data(alloc, blob)
+    }
+
+    /// The blob under a key. Refused with NoData, OutOfMemory and Storage, as the storage refuses it.
+    pub fn fetch(&mut self, alloc: Global, key: DataKey) -> Result<Arc<PagableData>, Error>
+        ensures ok { IfOk result (λ found. S.stored self.old.storage key ≡ Some (blob_of (arc_value found))) }
+        ensures only { IfErr result (RefusesFetch key (S.stored self.old.storage key) (S.failed self.old.storage) (S.failed self.new.storage)) }
+        ensures stored { S.stored self.new.storage ≡ S.stored self.old.storage }
+        ensures same { OnlyStore self.old self.new }
+    {
+        self.storage.fetch_data_blocking(alloc, key)
+    }
+
+    /// Begins a load of a loose handle's cell: InMemory where it has its value, and else the load's number and the
+    /// key to read. Refused with NoSuchHandle, NotYours, WrongMode, NumbersSpent and OutOfMemory.
+    pub fn load_begin(&mut self, handle: HandleNumber) -> Result<Beginning, Error>
+        ensures step { Begun (plain self.old.book) handle result (plain self.new.book) }
+        ensures same { OnlyBook self.old self.new }
+    {
+        self.book.load_begin(handle)
+    }
+
+    /// The blob of the load's root. Refused with NoSuchHandle where no such load is open, and as `fetch` is.
+    pub fn load_fetch(
+        &mut self,
+        alloc: Global,
+        load: LoadNumber,
+        want: Want,
+    ) -> Result<Either<ArcRef, Arc<PagableData>>, Error>
+        ensures same { OnlyStore self.old self.new }
+        ensures stored { S.stored self.new.storage ≡ S.stored self.old.storage }
+    {
+        let key = self.book.load_key_of(load)?;
+        match want {
+            Want::Root => {
+                let blob = self.fetch(alloc, key)?;
+                Ok(Either::Right(blob))
+            }
+        }
+    }
+
+    /// Ends a load with the value that was read: installs it where the cell has none, pins the handle by which the load
+    /// was begun, and answers the new Pinned handle. The value comes back exactly where the load stays open: refused
+    /// with NoSuchHandle where no such load is open or the value holds references, WrongKind where it is of another
+    /// type, NumbersSpent and OutOfMemory. Where the handle is gone or isn't the caller's any more, NoSuchHandle or
+    /// NotYours: the value is dropped and the load is closed.
+    pub fn load_end(
+        &mut self,
+        alloc: Global,
+        load: LoadNumber,
+        node: E::Node,
+    ) -> Result<HandleNumber, (Error, Option<E::Node>)>
+        ensures back { IfErr result (λ e. IfSome e.1 (λ x. (x ≡ node) × Unchanged self.old self.new)) }
+        ensures same { SameStore self.old self.new }
+    {
+        match self.fits(alloc, load, &node) {
+            Err(e) => Err((e, Some(node))),
+            Ok(()) => self.install(load, node),
+        }
+    }
+
+    /// Gives a load up. Refused with NoSuchHandle where no such load is open.
+    pub fn load_drop(&mut self, load: LoadNumber) -> Result<(), Error>
+        ensures step { Dropped (plain self.old.book) load result (plain self.new.book) }
+        ensures same { SameStore self.old self.new }
+    {
+        let outcome = self.book.load_drop(load);
+        values::sweep(&self.book, &mut self.values);
+        outcome
+    }
+
+    // Whether the value may end the load: it holds no references, and is of the cell's type.
+    fn fits(&self, alloc: Global, load: LoadNumber, node: &E::Node) -> Result<(), Error> {
+        let cell = self.book.load_node(load)?;
+        let refs = node.refs(alloc)?;
+        if !refs.is_empty() {
+            return Err(Error::NoSuchHandle);
+        }
+        if self.book.node_type(cell) != Some(node.node_type()) {
+            return Err(Error::WrongKind);
+        }
+        Ok(())
+    }
+
+    // Puts the value in the place of the cell's, if it has none, and ends the load.
+    fn install(
+        &mut self,
+        load: LoadNumber,
+        node: E::Node,
+    ) -> Result<HandleNumber, (Error, Option<E::Node>)>
+        ensures back { IfErr result (λ e. IfSome e.1 (λ x. (x ≡ node) × Unchanged self.old self.new)) }
+        ensures same { SameStore self.old self.new }
+    {
+        let Ok(cell) = self.book.load_node(load) else {
+            return Err((Error::NoSuchHandle, Some(node)));
+        };
+        let row = ValueRow {
+            node: cell,
+            value: node,
+        };
+        if let Err(failed) = self.values.push(row) {
+            let ValueRow { node: _, value } = failed.value;
+            return Err((Error::OutOfMemory, Some(value)));
+        }
+        let had_value = self.book.has_value(cell);
+        match self.book.load_end(load) {
+            Ok(pinned) => {
+                if had_value {
+                    let _ = self.values.pop();
+                }
+                Ok(pinned)
+            }
+            Err(refusal) => {
+                let Some(row) = self.values.pop() else {
+                    unreachable!();
+                };
+                let ValueRow { node: _, value } = row;
+                if !refusal.closed {
+                    return Err((refusal.error, Some(value)));
+                }
+                values::sweep(&self.book, &mut self.values);
+                Err((refusal.error, None))
+            }
+        }
+    }
+
+    // Adds a cell with its value.
+    fn add_cell(&mut self, node: E::Node) -> Result<HandleNumber, (Error, E::Node)>
+        ensures made { IfOk result (λ k. (k.0 ≡ self.old.book.last_handle + 1) × (plain self.new.book ≡ born (plain self.old.book) (E.Node.type_of node) Mode.LoosePinned)) }
+        ensures values { OnOk result (self.new.values ≡ self.old.values ++ (self.old.book.last_node + 1, node) ∷ []) }
+        ensures same { SameStore self.old self.new }
+        ensures err { OnErr result (Unchanged self.old self.new) }
+        ensures back { IfErr result (λ e. e.1 ≡ node) }
+    {
+        let node_type = node.node_type();
+        let Some(number) = self.book.next_node() else {
+            return Err((Error::NumbersSpent, node));
+        };
+        let row = ValueRow {
+            node: number,
+            value: node,
+        };
+        if let Err(failed) = self.values.push(row) {
+            let ValueRow { node: _, value } = failed.value;
+            return Err((Error::OutOfMemory, value));
+        }
+        match self.book.add_cell(node_type, Mode::LoosePinned) {
+            Ok(handle) => Ok(handle),
+            Err(refusal) => {
+                let Some(row) = self.values.pop() else {
+                    unreachable!();
+                };
+                let ValueRow { node: _, value } = row;
+                Err((refusal, value))
+            }
+        }
+    }
+}

@@ -1,0 +1,3 @@
+//! Storages.
+
+pub mod in_memory;

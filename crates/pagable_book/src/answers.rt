@@ -1,0 +1,28 @@
+//! What the book answers.
+
+use pagable_model::{DataKey, Error, HandleNumber, LoadNumber};
+
+/// What a pin answers.
+#[derive(Clone, Copy, Debug, PartialEq)]
+pub enum Pinning {
+    /// A new handle that pins the node.
+    Pinned(HandleNumber),
+    /// The value isn't in memory: it has to be read under this key first.
+    NeedsLoad(DataKey),
+}
+
+/// What the begin of a load answers.
+#[derive(Clone, Copy, Debug, PartialEq)]
+pub enum Beginning {
+    /// The value is in memory, and no load was opened.
+    InMemory,
+    /// A load was opened, which reads the value under this key.
+    Load(LoadNumber, DataKey),
+}
+
+/// Why a load couldn't end, and whether it was closed by that.
+#[derive(Debug, Drop)]
+pub struct EndRefusal {
+    pub error: Error,
+    pub closed: bool,
+}

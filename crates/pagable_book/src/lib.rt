@@ -1,0 +1,18 @@
+//! The pager's tables: nodes, handles, the list of cells that wait for page-out, and open loads, without the values
+//! themselves.
+#![tactic(auto)]
+
+pub mod answers;
+pub mod births;
+pub mod book;
+pub mod listing;
+pub mod loads;
+pub mod rows;
+pub mod steps;
+pub mod tables;
+#[cfg(test)]
+mod tests;
+
+pub use answers::{Beginning, EndRefusal, Pinning};
+pub use book::Book;
+pub use rows::{HandleRow, LoadRow, NodeRow};

@@ -1,0 +1,210 @@
+-- Readers of which a fault stays whatever follows, what is read of a front is read of the whole, and what was used reads
+-- alone. First for any input that has an end, then for bytes.
+use Rattle.std.proofs.Common.{◌≡◌, ℕ, zero, suc, ◌+◌, ◌-◌, ◌*◌, ◌/◌, ◌%◌, ◌^◌, Bool, true, false, List, [], ◌∷◌, ◌++◌, length, take, Result, Ok, Err, ◌⊎◌, if◌then◌else◌, inl, inr, refl, sym, ap, ◌∙◌, subst, arith, append_assoc}
+use Rattle.std.proofs.lemmas.Bool.{cases_lt, le-ltb, lt-ltb}
+use Rattle.std.proofs.lemmas.List.{take-append-le, drop-append-le, length-append, take-append-drop, length-take-le}
+use Rattle.std.proofs.Math.Seq.{take-length, drop-length}
+use Rattle.std.specs.Int.{Width, w8, w16, w32, w64, w128}
+use Rattle.std.specs.Str.{is_utf8, chars}
+use Rattle.std.specs.Prelude.{nat_le, nat_lt}
+use Rattle.pagable_model.specs.declared.error.Error.{Error}
+use Rattle.pagable_model.specs.declared.error.Error.TheVariants as errors
+use Rattle.pagable_model.specs.Steps.{◌>>=◌}
+use Rattle.pagable_model.specs.Numbers.{Read, byte_at, varint_at, unsigned_at, signed_from, signed_at}
+use Rattle.pagable_model.specs.Basic.{longest, length_at, bytes_at, text_at, bool_at, one_char, char_at, carried, duration_at, nanos_of_second}
+
+-- the input ends
+abbrev pub IsEnd : Error → Type 0
+IsEnd e = (e ≡ errors.UnexpectedEnd) ⊎ (e ≡ errors.NoMoreKeys)
+
+-- where the first reads something, the second reads it with x after it; where the first is refused for another cause
+-- than the end, so is the second
+unfoldable pub Goes : {I A : Type 0} → (I → I → I) → I → Result (A × I) Error → Result (A × I) Error → Type 0
+Goes plus x (Ok p) second = second ≡ Ok (p.0, plus p.1 x)
+Goes plus x (Err e) second = IsEnd e ⊎ (second ≡ Err e)
+
+-- the front of i that was read as v, which reads alone
+pub record Front {I A : Type 0} (plus : I → I → I) (end : I) (get : I → Result (A × I) Error) (i : I) (v : A) (after : I) : Type 0 where
+  pub used : I
+  pub whole : i ≡ plus used after
+  pub alone : get used ≡ Ok (v, end)
+
+unfoldable pub Uses : {I A : Type 0} → (I → I → I) → I → (I → Result (A × I) Error) → I → Result (A × I) Error → Type 0
+Uses plus end get i (Ok p) = Front plus end get i p.0 p.1
+Uses plus end get i (Err e) = Unit {0}
+
+-- a reader with these three properties, of inputs that plus joins
+pub record Tame {I A : Type 0} (plus : I → I → I) (end : I) (get : I → Result (A × I) Error) : Type 0 where
+  pub goes : (i x : I) → Goes plus x (get i) (get (plus i x))
+  pub uses : (i : I) → Uses plus end get i (get i)
+
+-- inputs that are joined
+pub record Joins {I : Type 0} (plus : I → I → I) (end : I) : Type 0 where
+  pub assoc : (a b c : I) → plus (plus a b) c ≡ plus a (plus b c)
+  pub start : (a : I) → plus end a ≡ a
+
+module _ {I : Type 0} {plus : I → I → I} {end : I} (joins : Joins plus end) where
+  pub gives : {A : Type 0} (v : A) → Tame plus end (λ i. let r : Result (A × I) Error = Ok (v, i) in r)
+  unfolding Goes Uses
+  gives v = record { goes = λ i x. refl; uses = λ i. record { used = end; whole = sym (joins.start i); alone = refl } }
+
+  pub refuses : (A : Type 0) (e : Error) → Tame plus end (λ (i : I). let r : Result (A × I) Error = Err e in r)
+  unfolding Goes Uses
+  refuses A e = record { goes = λ i x. inr refl; uses = λ i. tt }
+
+  -- one of two
+  pub either : {A : Type 0} (t : Bool) {get other : I → Result (A × I) Error} → Tame plus end get → Tame plus end other → Tame plus end (λ i. if t then get i else other i)
+  either true h g = record { goes = λ i x. h.goes i x; uses = λ i. h.uses i }
+  either false h g = record { goes = λ i x. g.goes i x; uses = λ i. g.uses i }
+
+  -- one after the other
+  module _ {A B : Type 0} {get : I → Result (A × I) Error} (f : A → I → Result (B × I) Error) (whole : I → Result (B × I) Error) (is : (i : I) → whole i ≡ (get i >>= λ p. f p.0 p.1)) (h : Tame plus end get) (g : (v : A) → Tame plus end (f v)) where
+    goes_on : (x : I) (first second : Result (A × I) Error) → Goes plus x first second → Goes plus x (first >>= λ p. f p.0 p.1) (second >>= λ p. f p.0 p.1)
+    unfolding Goes
+    goes_on x (Ok p) second k = rw k ((g p.0).goes p.1 x)
+    goes_on x (Err e) second (inl k) = inl k
+    goes_on x (Err e) second (inr k) = inr (rw k refl)
+
+    front_on : (i : I) (p : A × I) (q : B × I) → Front plus end get i p.0 p.1 → Front plus end (f p.0) p.1 q.0 q.1 → Front plus end whole i q.0 q.1
+    unfolding Goes
+    front_on i p q a b =
+        let along = h.goes a.used b.used in
+        let first : get (plus a.used b.used) ≡ Ok (p.0, plus end b.used) = (let P : Result (A × I) Error → Type 0 = λ r. Goes plus b.used r (get (plus a.used b.used)) in subst P a.alone along) in
+        record {
+          used = plus a.used b.used;
+          whole = a.whole ∙ ap (λ (x : I). plus a.used x) b.whole ∙ sym (joins.assoc a.used b.used q.1);
+          alone = rw (is, first, joins.start) b.alone;
+        }
+
+    uses_after : (i : I) (p : A × I) → Front plus end get i p.0 p.1 → (r : Result (B × I) Error) → Uses plus end (f p.0) p.1 r → Uses plus end whole i r
+    unfolding Uses
+    uses_after i p a (Ok q) u = front_on i p q a u
+    uses_after i p a (Err e) u = tt
+
+    uses_on : (i : I) (first : Result (A × I) Error) → Uses plus end get i first → Uses plus end whole i (first >>= λ p. f p.0 p.1)
+    unfolding Uses
+    uses_on i (Ok p) u = uses_after i p u (f p.0 p.1) ((g p.0).uses p.1)
+    uses_on i (Err e) u = tt
+
+    pub and_then : Tame plus end whole
+    and_then = record {
+      goes = λ i x. rw (is, is) (goes_on x (get i) (get (plus i x)) (h.goes i x));
+      uses = λ i. let P : Result (B × I) Error → Type 0 = λ r. Uses plus end whole i r in subst P (sym (is i)) (uses_on i (get i) (h.uses i));
+    }
+
+-- ---- bytes
+
+abbrev pub more_bytes : List ℕ → List ℕ → List ℕ
+more_bytes a b = a ++ b
+
+abbrev pub TameBytes : {A : Type 0} → (List ℕ → Read A) → Type 0
+TameBytes read = Tame more_bytes [] read
+
+pub bytes_join : Joins more_bytes []
+bytes_join = record { assoc = append_assoc; start = λ a. refl }
+
+byte_goes : (bs x : List ℕ) → Goes more_bytes x (byte_at bs) (byte_at (bs ++ x))
+unfolding Goes
+byte_goes [] x = inl (inl refl)
+byte_goes (b ∷ bs) x = refl
+
+byte_uses : (bs : List ℕ) → Uses more_bytes [] byte_at bs (byte_at bs)
+unfolding Uses
+byte_uses [] = tt
+byte_uses (b ∷ bs) = record { used = b ∷ []; whole = refl; alone = refl }
+
+pub byte_tame : TameBytes byte_at
+byte_tame = record { goes = byte_goes; uses = byte_uses }
+
+-- so many bytes
+bytes_alone : (n : ℕ) (u : List ℕ) → length u ≡ n → bytes_at n u ≡ Ok (u, [])
+bytes_alone n u e = rw (← e, le-ltb (length u) (length u) (omega arith), take-length u, drop-length u) refl
+
+bytes_goes : (n : ℕ) (bs x : List ℕ) → Goes more_bytes x (bytes_at n bs) (bytes_at n (bs ++ x))
+unfolding Goes
+bytes_goes n bs x = elim (cases_lt (length bs) n) [
+  | inl lt ↦ rw (lt-ltb (length bs) n lt) (inl (inl refl))
+  | inr le ↦ rw (le-ltb (length bs) n le, le-ltb (length (bs ++ x)) n (omega (arith, length-append bs x)), take-append-le n bs x le, drop-append-le n bs x le) refl
+]
+
+bytes_uses : (n : ℕ) (bs : List ℕ) → Uses more_bytes [] (bytes_at n) bs (bytes_at n bs)
+unfolding Uses
+bytes_uses n bs = elim (cases_lt (length bs) n) [
+  | inl lt ↦ rw (lt-ltb (length bs) n lt) tt
+  | inr le ↦ rw (le-ltb (length bs) n le) (record { used = take n bs; whole = sym (take-append-drop n bs); alone = bytes_alone n (take n bs) (length-take-le n bs le) })
+]
+
+pub bytes_tame : (n : ℕ) → TameBytes (bytes_at n)
+bytes_tame n = record { goes = bytes_goes n; uses = bytes_uses n }
+
+last_is : (last : ℕ) (bs : List ℕ) → varint_at zero last bs ≡ (byte_at bs >>= λ p. if nat_le p.0 last then Ok p else Err errors.BadVarint)
+unfolding varint_at
+last_is last [] = refl
+last_is last (b ∷ bs) = refl
+
+more_is : (more last : ℕ) (bs : List ℕ) → varint_at (suc more) last bs ≡ (byte_at bs >>= λ p. if nat_lt p.0 128 then Ok p else (varint_at more last p.1 >>= λ high. Ok (p.0 - 128 + 128 * high.0, high.1)))
+unfolding varint_at
+more_is more last [] = refl
+more_is more last (b ∷ bs) = refl
+
+varint_tame : (more last : ℕ) → TameBytes (varint_at more last)
+varint_tame zero last = and_then bytes_join (λ b bs. if nat_le b last then Ok (b, bs) else Err errors.BadVarint) _ (last_is last) byte_tame (λ b. either bytes_join (nat_le b last) (gives bytes_join b) (refuses bytes_join ℕ errors.BadVarint))
+varint_tame (suc more) last =
+    and_then bytes_join (λ b bs. if nat_lt b 128 then Ok (b, bs) else (varint_at more last bs >>= λ high. Ok (b - 128 + 128 * high.0, high.1))) _ (more_is more last) byte_tame
+    (λ b. either bytes_join (nat_lt b 128) (gives bytes_join b) (and_then bytes_join (λ high bs. Ok (b - 128 + 128 * high, bs)) _ (λ bs. refl) (varint_tame more last) (λ high. gives bytes_join (b - 128 + 128 * high))))
+
+pub unsigned_tame : (w : Width) → TameBytes (unsigned_at w)
+unsigned_tame w8 = byte_tame
+unsigned_tame w16 = varint_tame 2 3
+unsigned_tame w32 = varint_tame 4 15
+unsigned_tame w64 = varint_tame 9 1
+unsigned_tame w128 = varint_tame 18 3
+
+pub signed_tame : (w : Width) → TameBytes (signed_at w)
+signed_tame w = and_then bytes_join (λ n bs. Ok (signed_from w n, bs)) _ (λ bs. refl) (unsigned_tame w) (λ n. gives bytes_join (signed_from w n))
+
+flag_of : ℕ → List ℕ → Read Bool
+flag_of zero bs = Ok (false, bs)
+flag_of (suc zero) bs = Ok (true, bs)
+flag_of (suc (suc n)) bs = Err errors.BadBool
+
+bool_is : (bs : List ℕ) → bool_at bs ≡ (byte_at bs >>= λ p. flag_of p.0 p.1)
+unfolding bool_at flag_of
+bool_is [] = refl
+bool_is (zero ∷ bs) = refl
+bool_is (suc zero ∷ bs) = refl
+bool_is (suc (suc b) ∷ bs) = refl
+
+flag_tame : (n : ℕ) → TameBytes (flag_of n)
+unfolding flag_of
+flag_tame zero = gives bytes_join false
+flag_tame (suc zero) = gives bytes_join true
+flag_tame (suc (suc n)) = refuses bytes_join Bool errors.BadBool
+
+pub bool_tame : TameBytes bool_at
+bool_tame = and_then bytes_join flag_of _ bool_is byte_tame flag_tame
+
+pub length_tame : TameBytes length_at
+unfolding length_at
+length_tame = and_then bytes_join (λ n bs. if nat_le n longest then Ok (n, bs) else Err errors.TooLong) _ (λ bs. refl) (unsigned_tame w64) (λ n. either bytes_join (nat_le n longest) (gives bytes_join n) (refuses bytes_join ℕ errors.TooLong))
+
+pub text_tame : TameBytes text_at
+unfolding text_at
+text_tame =
+    and_then bytes_join (λ n bs. bytes_at n bs >>= λ t. if is_utf8 t.0 then Ok t else Err errors.BadUtf8) _ (λ bs. refl) length_tame
+    (λ n. and_then bytes_join (λ t bs. if is_utf8 t then Ok (t, bs) else Err errors.BadUtf8) _ (λ bs. refl) (bytes_tame n) (λ t. either bytes_join (is_utf8 t) (gives bytes_join t) (refuses bytes_join (List ℕ) errors.BadUtf8)))
+
+one_tame : (cs : List ℕ) → TameBytes (one_char cs)
+one_tame [] = refuses bytes_join ℕ errors.BadChar
+one_tame (c ∷ []) = gives bytes_join c
+one_tame (c ∷ d ∷ cs) = refuses bytes_join ℕ errors.BadChar
+
+pub char_tame : TameBytes char_at
+unfolding char_at
+char_tame = and_then bytes_join (λ t bs. one_char (chars t) bs) _ (λ bs. refl) text_tame (λ t. one_tame (chars t))
+
+pub duration_tame : TameBytes duration_at
+unfolding duration_at
+duration_tame =
+    and_then bytes_join (λ s bs. unsigned_at w32 bs >>= λ n. carried s n.0 n.1) _ (λ bs. refl) (unsigned_tame w64)
+    (λ s. and_then bytes_join (λ n bs. carried s n bs) _ (λ bs. refl) (unsigned_tame w32) (λ n. either bytes_join (nat_lt (s + n / nanos_of_second) (2 ^ 64)) (gives bytes_join (s + n / nanos_of_second, n % nanos_of_second)) (refuses bytes_join (ℕ × ℕ) errors.BadDuration)))

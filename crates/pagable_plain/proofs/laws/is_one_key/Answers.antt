@@ -1,0 +1,5 @@
+use Rattle.pagable_plain.proofs.Merkle.{one-key}
+use Rattle.pagable_plain.proofs.laws.is_one_key.Goals as goal
+
+pub returns : goal.returns
+returns c = one-key

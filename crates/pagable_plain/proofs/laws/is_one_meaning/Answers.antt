@@ -1,0 +1,5 @@
+use Rattle.pagable_plain.proofs.AnyOrder.{one-meaning}
+use Rattle.pagable_plain.proofs.laws.is_one_meaning.Goals as goal
+
+pub returns : goal.returns
+returns c = one-meaning

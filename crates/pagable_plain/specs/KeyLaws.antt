@@ -1,0 +1,21 @@
+-- The laws of the keys of maps and sets.
+use Rattle.std.specs.Prelude.{◌≡◌, List, map, true, ◌↔◌}
+use Rattle.pagable_model.specs.Meaning.{Meaning, plain, lifted}
+use Rattle.pagable_model.specs.Keys.{Entry, code, same_key, last_value}
+use Rattle.pagable_model.specs.Carried.{of_hash_map}
+
+-- Meanings with one code are one meaning.
+abbrev pub IsOneMeaning : Type 0
+IsOneMeaning = (a b : Meaning ⊥) → code a ≡ code b → a ≡ b
+
+-- Keys are the same exactly if they mean the same; what is referred to is no part of a key.
+abbrev pub IsOneKeyMeaning : Type 0 → Type 0
+IsOneKeyMeaning A = (a b : Meaning A) → (same_key a b ≡ true) ↔ (plain a ≡ plain b)
+
+-- entries whose keys refer to nothing
+abbrev pub keyed : {A : Type 0} → List (Meaning ⊥ × Meaning A) → List (Entry A)
+keyed es = map (λ e. (lifted e.0, e.1)) es
+
+-- Entries that have the same value at each key, the last of each counting, have one meaning as a hash map.
+abbrev pub IsAnyOrder : Type 0 → Type 0
+IsAnyOrder A = (es fs : List (Meaning ⊥ × Meaning A)) → ((q : Meaning ⊥) → last_value q es ≡ last_value q fs) → of_hash_map (keyed es) ≡ of_hash_map (keyed fs)

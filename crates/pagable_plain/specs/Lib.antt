@@ -1,0 +1,4 @@
+pub mod Laws
+pub mod TreeLaws
+pub mod KeyLaws
+pub mod JsonLaws

@@ -1,0 +1,4 @@
+//! Test.
+#![tactic(auto)]
+
+pub mod laws;
