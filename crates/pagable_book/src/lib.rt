@@ -3,13 +3,13 @@
 #![tactic(auto)]
 
 pub mod answers;
-pub mod births;
+mod births;
 pub mod book;
-pub mod listing;
-pub mod loads;
+mod listing;
+mod loads;
 pub mod rows;
-pub mod steps;
-pub mod tables;
+mod steps;
+mod tables;
 #[cfg(test)]
 mod tests;
 

@@ -18,3 +18,7 @@ mod Deep
 mod AnyOrder
 mod JsonNumbers
 mod Inside
+mod Limits
+mod Spelled
+mod Weights
+mod Computed

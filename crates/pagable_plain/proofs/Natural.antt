@@ -5,9 +5,9 @@ use Rattle.pagable_model.specs.Steps.{◌>>=◌}
 use Rattle.pagable_model.specs.Meaning.{Meaning, number, integer, text, pattern, none, pair, variant, reference, followed, rename}
 use Rattle.pagable_model.specs.Reading.{Rest, read}
 use Rattle.pagable_model.specs.Form.{Form}
-use Rattle.pagable_plain.specs.Laws.{rest, at, IsNatural, IsReadOver, IsRenamed, KeepsForms}
+use Rattle.pagable_plain.specs.Laws.{rest, at, IsNatural, IsReadOver, IsRenamed, IsReadThrough, KeepsForms}
 use Rattle.pagable_plain.proofs.Along.{Along, number-along, integer-along, text-along, pattern-along, none-along, pair-along, variant-along, reference-along, followed-along, AllTwo, no-two, more-two, form-along}
-use Rattle.pagable_plain.proofs.Related.{Out, both-given, both-refused, first-refused, OutLook, both-looked-up, both-not, read_par}
+use Rattle.pagable_plain.proofs.Related.{Out, both-given, both-refused, first-refused, OutLook, both-looked-up, both-not, first-not, read_par}
 
 -- no cause
 abbrev no_cause : Error → Type 0
@@ -117,3 +117,26 @@ pub keeps-forms : {A B : Type 0} → KeepsForms A B
 keeps-forms {A} {B} f kind_of kind_of2 parts left s m b k kinds h =
     let p = form-along {R = Leads f} (λ a c e. rw (← e) (kinds a)) h (along-rename f m) in
     let P : List B → Type 0 = λ l. Form B kind_of2 parts left s (rename f m) b l in subst P (map-all f p.each) p.form
+
+-- any cause
+abbrev any_cause : Error → Type 0
+any_cause e = Unit {0}
+
+through-out : {A B C D : Type 0} (f : A → C) (g : B → D) (m : Meaning B) (after : Rest A) {first : Result (Meaning B × Rest A) Error} {second : Result (Meaning D × Rest C) Error} → Out any_cause (Leads f) (Along (Unit {0}) (Leads g)) first second
+    → first ≡ Ok (m, after) → second ≡ Ok (rename g m, rest after.bytes (map f after.refs))
+through-out {A} {B} {C} {D} f g m after (both-given p q v s) e =
+    let same : p ≡ (m, after) = cc in
+    let given = given_is q.0 _ q.1 _ _ (rename-along g v) s.bytes (map-all f s.refs) in
+    let P : Meaning B × Rest A → Type 0 = λ x. (let r : Result (Meaning D × Rest C) Error = Ok q in r) ≡ Ok (rename g x.0, rest x.1.bytes (map f x.1.refs)) in subst P same given
+through-out f g m after (both-refused x) e = cc
+through-out f g m after (first-refused x r c) e = cc
+
+found-through : {B D : Type 0} (g : B → D) (r : Result B Error) (q : Result D Error) → ((b : B) → r ≡ Ok b → q ≡ Ok (g b)) → OutLook any_cause (Leads g) r q
+found-through g (Ok b) q h = rw (h b refl) (both-looked-up b (g b) refl)
+found-through g (Err x) q h = first-not x q tt
+
+pub read-through : {A B C D : Type 0} → IsReadThrough A B C D
+read-through {A} {B} {C} {D} f g look other levels parts s input after m h e =
+    let alike : (kind : ℕ) (a : A) (c : C) → f a ≡ c → OutLook any_cause (Leads g) (look kind a) (other kind c) = λ kind a c i. found-through g (look kind a) (other kind c) (λ b j. rw (← i) (h kind a b j)) in
+    let par = read_par look other alike levels s (inl tt) in
+    through-out f g m after (par.out input (rest input.bytes (map f input.refs)) (record { bytes = refl; refs = all-map f input.refs })) e

@@ -88,3 +88,9 @@ IsRenamed A B D = (g : B → D) (look : Look A B) (levels : ℕ) (parts : ℕ �
 abbrev pub KeepsForms : Type 0 → Type 0 → Type 0
 KeepsForms A B = (f : A → B) (kind_of : A → ℕ) (kind_of2 : B → ℕ) (parts : ℕ → Shape) (left : ℕ) (s : Shape) (m : Meaning A) (b : List ℕ) (k : List A) → ((a : A) → kind_of2 (f a) ≡ kind_of a)
     → Form A kind_of parts left s m b k → Form B kind_of2 parts left s (rename f m) b (map f k)
+
+-- What is read is read by whoever finds all that was found: with g of it where another stood.
+abbrev pub IsReadThrough : Type 0 → Type 0 → Type 0 → Type 0 → Type 0
+IsReadThrough A B C D = (f : A → C) (g : B → D) (look : Look A B) (other : Look C D) (levels : ℕ) (parts : ℕ → Shape) (s : Shape) (input after : Rest A) (m : Meaning B)
+    → ((kind : ℕ) (a : A) (b : B) → look kind a ≡ Ok b → other kind (f a) ≡ Ok (g b))
+    → read (at levels look parts) s input ≡ Ok (m, after) → read (at levels other parts) s (rest input.bytes (map f input.refs)) ≡ Ok (rename g m, rest after.bytes (map f after.refs))

@@ -1,6 +1,6 @@
 //! The laws of the definitions of values: each is the contract of a function that does nothing.
 
-ghost use Rattle.pagable_plain.specs.Laws.{IsReadAgain, IsPrefixFree, CanonicalHasOneForm, HasOnePreimage, IsLocal, IsUsed, IsLasting, IsNatural, IsReadOver, IsRenamed, KeepsForms};
+ghost use Rattle.pagable_plain.specs.Laws.{IsReadAgain, IsPrefixFree, CanonicalHasOneForm, HasOnePreimage, IsLocal, IsUsed, IsLasting, IsNatural, IsReadOver, IsRenamed, IsReadThrough, KeepsForms};
 ghost use Rattle.pagable_plain.specs.JsonLaws.{FloatHasNoForm, WholeIsBounded};
 ghost use Rattle.pagable_plain.specs.KeyLaws.{IsOneMeaning, IsOneKeyMeaning, IsAnyOrder};
 ghost use Rattle.pagable_plain.specs.TreeLaws.{IsOneTree, IsOneKey, IsOneItemKey, IsStoredKey, IsTreeReadable, IsKeyOfOneTree, IsDeepTree, IsReadDeep, IsReadWithin, IsLongestPath, StaysInside, IsCanonicalInside};
@@ -83,6 +83,11 @@ pub fn is_read_over<A, B, C>()
 /// Reading with what is looked up renamed is renaming what is read.
 pub fn is_renamed<A, B, D>()
     ensures { IsRenamed A B D }
+{}
+
+/// What is read is read by whoever finds all that was found.
+pub fn is_read_through<A, B, C, D>()
+    ensures { IsReadThrough A B C D }
 {}
 
 /// A form of a value that holds references of one sort is one of the same value with references of another sort.

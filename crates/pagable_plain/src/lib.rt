@@ -1,4 +1,17 @@
-//! Test.
+//! The laws of the definitions of values, and a plain slow program whose contracts are those definitions: it reads and
+//! writes small values, and makes the preimage of a blob and its key. The other crates don't stand on this one.
 #![tactic(auto)]
 
+pub mod blobs;
+pub mod examples;
 pub mod laws;
+mod plain_reader;
+mod plain_writer;
+pub mod samples;
+pub mod spans;
+#[cfg(test)]
+mod tests;
+
+pub use blobs::{preimage, weighed_key};
+pub use samples::{Sample, Sort, read_sample, write_sample};
+pub use spans::Span;

@@ -1,0 +1,174 @@
+//! Small values of some sorts, read and written as the definitions say.
+
+ghost use Rattle.std.specs.Prelude.{◌≡◌, ◌<◌, ◌⊎◌, ◌++◌, [], length, OnOk, IfErr};
+ghost use Rattle.pagable_model.specs.Gives.{Gives, never, memory};
+ghost use Rattle.pagable_model.specs.Basic.{longest};
+ghost use Rattle.pagable_plain.specs.Laws.{rest};
+ghost use Rattle.pagable_plain.specs.Samples.{reads, shape_of, meaning_of, IsMaybe, maybe_form, IsAttempt, attempt_text, attempt_form, WritesSample, HasNoForm};
+
+use crate::plain_reader::{
+    next_bool, next_byte, next_char, next_duration, next_text, next_varint, signed_from,
+};
+use crate::plain_writer::{
+    push_all, push_byte, write_bool, write_char, write_duration, write_i64, write_text, write_u16,
+    write_u64,
+};
+use crate::spans::Span;
+use pagable_model::Error;
+use std::alloc::Global;
+
+/// A small value.
+#[derive(Debug, PartialEq, Drop)]
+pub enum Sample {
+    Byte(u8),
+    Short(u16),
+    Long(u64),
+    Signed(i64),
+    Flag(bool),
+    Text(String),
+    Letter(char),
+    Time(Span),
+    Maybe(Option<u8>),
+    Attempt(Result<String, String>),
+}
+
+/// Which small value is wanted.
+#[derive(Clone, Copy, Debug, PartialEq)]
+pub enum Sort {
+    Byte,
+    Short,
+    Long,
+    Signed,
+    Flag,
+    Text,
+    Letter,
+    Time,
+    Maybe,
+    Attempt,
+}
+
+// A text or its refusal, after a flag that says which.
+#[tactic(auto, unfolding(pagable_model::specs::Reading::read, pagable_model::specs::Reading::read_with))]
+fn read_attempt(alloc: Global, bytes: &[u8]) -> Result<(Sample, &[u8]), Error>
+    ensures { Gives memory (λ x. (meaning_of x.0, rest x.1.now [])) result (reads (shape_of Sort.Attempt) bytes.now) }
+{
+    let (success, after) = next_bool(bytes)?;
+    let (text, after) = next_text(after)?;
+    let text = String::from_str(alloc, text)?;
+    if success {
+        return Ok((Sample::Attempt(Ok(text)), after));
+    }
+    Ok((Sample::Attempt(Err(text)), after))
+}
+
+// A byte or none, after a flag that says which.
+#[tactic(auto, unfolding(pagable_model::specs::Reading::read, pagable_model::specs::Reading::read_with))]
+fn read_maybe(bytes: &[u8]) -> Result<(Sample, &[u8]), Error>
+    ensures { Gives never (λ x. (meaning_of x.0, rest x.1.now [])) result (reads (shape_of Sort.Maybe) bytes.now) }
+{
+    let (some, after) = next_bool(bytes)?;
+    if !some {
+        return Ok((Sample::Maybe(None), after));
+    }
+    let (number, after) = next_byte(after)?;
+    Ok((Sample::Maybe(Some(number)), after))
+}
+
+/// Reads a value of this sort, and answers it with the bytes after it. A refusal is the first fault from the front, or
+/// `OutOfMemory` where a text can't be kept.
+#[tactic(auto, using(crate::proofs::Limits::limits), unfolding(pagable_model::specs::Reading::read, pagable_model::specs::Reading::read_with))]
+pub fn read_sample(alloc: Global, sort: Sort, bytes: &[u8]) -> Result<(Sample, &[u8]), Error>
+    ensures { Gives memory (λ x. (meaning_of x.0, rest x.1.now [])) result (reads (shape_of sort) bytes.now) }
+{
+    match sort {
+        Sort::Byte => {
+            let (number, after) = next_byte(bytes)?;
+            Ok((Sample::Byte(number), after))
+        }
+        Sort::Short => {
+            let (number, after) = next_varint(bytes, 2, 3)?;
+            Ok((Sample::Short(number as u16), after))
+        }
+        Sort::Long => {
+            let (number, after) = next_varint(bytes, 9, 1)?;
+            Ok((Sample::Long(number), after))
+        }
+        Sort::Signed => {
+            let (number, after) = next_varint(bytes, 9, 1)?;
+            Ok((Sample::Signed(signed_from(number)), after))
+        }
+        Sort::Flag => {
+            let (flag, after) = next_bool(bytes)?;
+            Ok((Sample::Flag(flag), after))
+        }
+        Sort::Text => {
+            let (text, after) = next_text(bytes)?;
+            Ok((Sample::Text(String::from_str(alloc, text)?), after))
+        }
+        Sort::Letter => {
+            let (letter, after) = next_char(bytes)?;
+            Ok((Sample::Letter(letter), after))
+        }
+        Sort::Time => {
+            let (seconds, nanos, after) = next_duration(bytes)?;
+            Ok((Sample::Time(Span { seconds, nanos }), after))
+        }
+        Sort::Maybe => {
+            let done = read_maybe(bytes)?;
+            Ok(done)
+        }
+        Sort::Attempt => {
+            let done = read_attempt(alloc, bytes)?;
+            Ok(done)
+        }
+    }
+}
+
+// A byte or none, after a flag that says which.
+fn write_maybe(out: &mut Vec<u8>, value: Option<u8>) -> Result<(), Error>
+    ensures ok { OnOk result (IsMaybe value × (out.new.items ≡ out.old.items ++ maybe_form value)) }
+    ensures only { IfErr result memory }
+{
+    match value {
+        None => push_byte(out, 0),
+        Some(number) => push_all(out, &[1, number]),
+    }
+}
+
+// A text or its refusal, after a flag that says which. `TooLong` where it is longer than 4,294,967,295 bytes.
+fn write_attempt(out: &mut Vec<u8>, value: &Result<String, String>) -> Result<(), Error>
+    ensures ok { OnOk result (IsAttempt value.now × (out.new.items ≡ out.old.items ++ attempt_form value.now)) }
+    ensures too_long { IfErr result (λ e. ((e ≡ Error.TooLong) × (longest < length (attempt_text value.now))) ⊎ memory e) }
+{
+    match value {
+        Ok(text) => {
+            push_byte(out, 1)?;
+            write_text(out, text.as_str())
+        }
+        Err(text) => {
+            push_byte(out, 0)?;
+            write_text(out, text.as_str())
+        }
+    }
+}
+
+/// Appends a form of the value. `TooLong` where a text is longer than 4,294,967,295 bytes, or `OutOfMemory`; what was
+/// appended until then stays.
+pub fn write_sample(out: &mut Vec<u8>, sample: &Sample) -> Result<(), Error>
+    ensures ok { OnOk result (WritesSample sample.now out.old.items out.new.items) }
+    ensures refused { IfErr result (HasNoForm sample.now) }
+    ensures only { IfErr result (λ e. (e ≡ Error.TooLong) ⊎ memory e) }
+{
+    match sample {
+        Sample::Byte(number) => push_byte(out, *number),
+        Sample::Short(number) => write_u16(out, *number),
+        Sample::Long(number) => write_u64(out, *number),
+        Sample::Signed(number) => write_i64(out, number),
+        Sample::Flag(flag) => write_bool(out, *flag),
+        Sample::Text(text) => write_text(out, text.as_str()),
+        Sample::Letter(letter) => write_char(out, *letter),
+        Sample::Time(span) => write_duration(out, span.seconds, span.nanos),
+        Sample::Maybe(value) => write_maybe(out, *value),
+        Sample::Attempt(value) => write_attempt(out, value),
+    }
+}
