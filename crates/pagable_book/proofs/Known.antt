@@ -1,5 +1,6 @@
 -- What is known of a row in tables that are whole.
-use Rattle.std.proofs.Common.{◌≡◌, ℕ, ◌<◌, ◌≤◌, true, false, List, length, get_or, sum_by, All, refl, ap, sym, ◌∙◌, subst, arith, Some, slice_get}
+use Rattle.std.proofs.Common.{◌≡◌, ℕ, ◌<◌, ◌≤◌, Bool, true, false, List, length, get_or, sum_by, All, refl, ap, sym, ◌∙◌, subst, arith, Some, slice_get}
+use Rattle.std.specs.Prelude.{nat_lt}
 use Rattle.std.specs.List.{remove}
 use Rattle.std.proofs.lemmas.Bool.Decides.{nat_tests}
 use Rattle.std.proofs.lemmas.List.Sums.{sum_by-le, sum_by-le-sum_by}
@@ -10,8 +11,8 @@ use Rattle.pagable_model.specs.declared.rows.Owner.{Owner}
 use Rattle.pagable_model.specs.declared.rows.Owner.TheVariants as owners
 use Rattle.pagable_model.specs.declared.numbers.LoadNumber.{LoadNumber}
 use Rattle.pagable_model.specs.declared.numbers.NodeNumber.{NodeNumber}
-use Rattle.pagable_book.specs.State.{State, WellFormed, is_pinning, pin_of, pins, handle_of, held, is_node, is_number, is_entry, is_same, is_listed, is_aside, is_of_load, is_load_with, is_own, is_begun, is_elsewhere, is_loose, idle_pin, AreHandles}
-use Rattle.pagable_book.proofs.Sums.{sum-remove, row-le-sum, its_count, entries-le}
+use Rattle.pagable_book.specs.State.{State, WellFormed, one, is_pinning, pin_of, pins, handle_of, held, is_node, value_at, is_number, is_entry, is_same, is_listed, is_aside, is_of_load, is_load_with, is_own, is_begun, is_elsewhere, is_loose, idle_pin, AreHandles}
+use Rattle.pagable_book.proofs.Sums.{sum-remove, row-le-sum, its_count, its_value, no_value, entries-le}
 use Rattle.pagable_book.specs.declared.rows.NodeRow.{NodeRow}
 use Rattle.pagable_book.specs.declared.rows.LoadRow.{LoadRow}
 use Rattle.pagable_book.specs.declared.rows.HandleRow.{HandleRow}
@@ -32,6 +33,13 @@ pub node-count : (s : State) (j : ℕ) (x : NodeRow) (number : NodeNumber) → W
 node-count s j x number w at is some =
     let P : NodeNumber → Type 0 = λ n. 0 < held n.0 s.handles → x.count ≡ pins n.0 s.handles in
     let here : P x.number = λ h. sym (its_count s.nodes j x at (node-once s x.number.0 w h)) ∙ w.nodes.counted x.number.0 in
+    subst P is here some
+
+-- its row says whether its value is there
+pub node-value : (s : State) (j : ℕ) (x : NodeRow) (number : NodeNumber) → WellFormed s → slice_get s.nodes j ≡ Some x → x.number ≡ number → 0 < held number.0 s.handles → sum_by (value_at number.0) s.nodes ≡ value_at number.0 x
+node-value s j x number w at is some =
+    let P : NodeNumber → Type 0 = λ n. 0 < held n.0 s.handles → sum_by (value_at n.0) s.nodes ≡ value_at n.0 x in
+    let here : P x.number = λ h. its_value s.nodes j x at (node-once s x.number.0 w h) in
     subst P is here some
 
 -- a live handle's node has a handle
@@ -134,6 +142,21 @@ same_node a b e = let make : ℕ → NodeNumber = λ n. record { 0 = n } in ap m
 pub own-node : (s : State) (p i : ℕ) (load : LoadRow) (x : HandleRow) → WellFormed s → slice_get s.loads p ≡ Some load → slice_get s.handles i ≡ Some x → x.number ≡ load.own → x.node ≡ load.node
 own-node s p i load x w there at same = let e = own-row s p i load x w there at same in same_node x.node load.node (grind (arith, nat_tests))
 
+one_test : (b : Bool) → nat_lt 0 (one b) ≡ b
+one_test true = refl
+one_test false = refl
+
+-- a node's row says whether its value is there
+pub has-value : (s : State) (j : ℕ) (x : NodeRow) (number : NodeNumber) (b : Bool) → WellFormed s → slice_get s.nodes j ≡ Some x → x.number ≡ number → one b ≡ value_at x.number.0 x → b ≡ nat_lt 0 (sum_by (value_at number.0) s.nodes)
+has-value s j x number b w at same e =
+    let P : NodeNumber → Type 0 = λ n. b ≡ nat_lt 0 (sum_by (value_at n.0) s.nodes) in
+    let l = w.nodes.live x.number.0 in
+    let le = row-le-sum (is_node x.number.0) s.nodes j x at in
+    let once : sum_by (is_node x.number.0) s.nodes ≡ 1 = grind (arith, nat_tests) in
+    let v = its_value s.nodes j x at once in
+    let here : P x.number = sym (one_test b) ∙ ap (λ n. nat_lt 0 n) (e ∙ sym v) in
+    subst P same here
+
 -- the handle by which a load was begun is a loose one of its node
 begun-here : (s : State) (p i : ℕ) (load : LoadRow) (x : HandleRow) → WellFormed s → slice_get s.loads p ≡ Some load → slice_get s.handles i ≡ Some x → x.number ≡ load.handle → is_elsewhere load.handle.0 load.node.0 x ≡ 0
 begun-here s p i load x w there at same =
@@ -155,10 +178,6 @@ begun-node s p i load x w there at same =
     let e = begun-here s p i load x w there at same in
     same_node x.node load.node (grind (arith, nat_tests))
 
-pub own-mode : (s : State) (p i : ℕ) (load : LoadRow) (x : HandleRow) → WellFormed s → slice_get s.loads p ≡ Some load → slice_get s.handles i ≡ Some x → x.number ≡ load.own → x.mode ≡ modes.LooseUnpinned
-own-mode s p i load x w there at same =
-    let aside : is_aside x.owner ≡ true = ap is_aside (own-owner s p i load x w there at same) in
-    let e = row-le-sum idle_pin s.handles i x at in
-    let idle = w.idle in
-    let free : is_pinning x.mode ≡ false = grind (arith, nat_tests) in
-    unpinned_mode x.mode free
+-- a node that is gone has no value
+pub has-none : (s : State) (q : ℕ) → sum_by (is_node q) s.nodes ≡ 0 → false ≡ nat_lt 0 (sum_by (value_at q) s.nodes)
+has-none s q none = let v = no_value q s.nodes none in ap (λ n. nat_lt 0 n) (sym v)

@@ -6,5 +6,3 @@ pub mod Known
 pub mod Settling
 pub mod Preparing
 pub mod Outcomes
-pub mod Values
-pub mod Valued

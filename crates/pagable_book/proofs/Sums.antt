@@ -6,7 +6,7 @@ use Rattle.std.proofs.lemmas.List.Sums.{sum_by-cons, sum_by-set, sum_by-remove, 
 use Rattle.std.proofs.lemmas.Option.{get_or_from_slice_get, slice_get_within, slice_get-get_or}
 use Rattle.std.proofs.lemmas.Grind.{get_or-set_at}
 use Rattle.std.proofs.lemmas.List.{set-get_or, length-set, length-append, get_or_append_left}
-use Rattle.pagable_book.specs.State.{one, is_node, count_at, pin_of, handle_of, pins, held, is_number, is_entry}
+use Rattle.pagable_book.specs.State.{one, is_node, count_at, value_at, pin_of, handle_of, pins, held, is_number, is_entry}
 use Rattle.pagable_book.specs.declared.rows.NodeRow.{NodeRow}
 use Rattle.pagable_book.specs.declared.rows.HandleRow.{HandleRow}
 
@@ -41,9 +41,16 @@ rest_step a b s t h one more = grind arith
 count_none : (q : ℕ) (n : NodeRow) → is_node q n ≡ 0 → count_at q n ≡ 0
 count_none q n h = grind (arith, nat_tests)
 
+value_none : (q : ℕ) (n : NodeRow) → is_node q n ≡ 0 → value_at q n ≡ 0
+value_none q n h = grind (arith, nat_tests)
+
 pub no_count : (q : ℕ) (nodes : List NodeRow) → sum_by (is_node q) nodes ≡ 0 → sum_by (count_at q) nodes ≡ 0
 no_count q [] h = refl
 no_count q (n ∷ nodes) h = sum_by-cons (count_at q) n nodes ∙ rest_step (is_node q n) (count_at q n) (sum_by (is_node q) nodes) (sum_by (count_at q) nodes) (sym (sum_by-cons (is_node q) n nodes) ∙ h) (count_none q n) (no_count q nodes)
+
+pub no_value : (q : ℕ) (nodes : List NodeRow) → sum_by (is_node q) nodes ≡ 0 → sum_by (value_at q) nodes ≡ 0
+no_value q [] h = refl
+no_value q (n ∷ nodes) h = sum_by-cons (value_at q) n nodes ∙ rest_step (is_node q n) (value_at q n) (sum_by (is_node q) nodes) (sum_by (value_at q) nodes) (sym (sum_by-cons (is_node q) n nodes) ∙ h) (value_none q n) (no_value q nodes)
 
 -- the count kept for a node is that of its one row
 pub its_count : (nodes : List NodeRow) (j : ℕ) (x : NodeRow) → slice_get nodes j ≡ Some x → sum_by (is_node x.number.0) nodes ≡ 1 → sum_by (count_at x.number.0) nodes ≡ x.count
@@ -51,6 +58,14 @@ its_count nodes j x at once =
     let r = sum-remove (is_node x.number.0) nodes j x at in
     let t = sum-remove (count_at x.number.0) nodes j x at in
     let none = no_count x.number.0 (remove nodes j) in
+    grind (arith, nat_tests)
+
+-- whether its value is there is what its one row says
+pub its_value : (nodes : List NodeRow) (j : ℕ) (x : NodeRow) → slice_get nodes j ≡ Some x → sum_by (is_node x.number.0) nodes ≡ 1 → sum_by (value_at x.number.0) nodes ≡ value_at x.number.0 x
+its_value nodes j x at once =
+    let r = sum-remove (is_node x.number.0) nodes j x at in
+    let t = sum-remove (value_at x.number.0) nodes j x at in
+    let none = no_value x.number.0 (remove nodes j) in
     grind (arith, nat_tests)
 
 -- no more handles pin a node than it has

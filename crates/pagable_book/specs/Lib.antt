@@ -2,6 +2,5 @@ pub mod State
 pub mod Cells
 pub mod Shape
 pub mod World
-pub mod Values
 pub mod Refusals
 pub mod Calls

@@ -1,5 +1,5 @@
 -- What the tables hold, and when they are whole.
-use Rattle.std.specs.Prelude.{ℕ, ◌≡◌, ◌<◌, ◌≤◌, ◌==◌, ◌&&◌, Bool, true, false, not, if◌then◌else◌, List, sum_by, nat_lt}
+use Rattle.std.specs.Prelude.{ℕ, ◌≡◌, ◌<◌, ◌≤◌, ◌==◌, ◌&&◌, ◌||◌, Bool, true, false, not, if◌then◌else◌, List, sum_by, nat_lt}
 use Rattle.std.specs.List.{AllPairs}
 use Rattle.pagable_model.specs.declared.data_key.OptionalDataKey.{OptionalDataKey}
 use Rattle.pagable_model.specs.declared.data_key.OptionalDataKey.TheVariants as optional
@@ -118,6 +118,10 @@ count_at q n = if n.number.0 == q then n.count else 0
 abbrev pub has_key : OptionalDataKey → Bool
 has_key optional.None = false
 has_key (optional.Some key) = true
+
+-- 1 for the node with this number, if its value is in memory: it is pinned, or has no key
+abbrev pub value_at : ℕ → NodeRow → ℕ
+value_at q n = one (n.number.0 == q && (nat_lt 0 n.count || not (has_key n.key)))
 
 -- 1 for the load with this number
 abbrev pub is_load : ℕ → LoadRow → ℕ

@@ -125,7 +125,6 @@ pub record Closes (w : World) (p : ℕ) (load : LoadRow) (w' : World) : Type 0 w
   pub number : row.number ≡ load.own
   pub owner : row.owner ≡ owners.Load load.number
   pub node : row.node ≡ load.node
-  pub mode : row.mode ≡ modes.LooseUnpinned
   pub follows : CellsFollow load.node.0 (remove w.rows place) w.cells w'.cells
   pub rest : w' ≡ record w { rows = remove w.rows place; cells = w'.cells; loads = remove w.loads p }
 

@@ -1,14 +1,14 @@
 //! The book: tables that are whole, and the calls on them.
 
-ghost use Rattle.std.specs.Prelude.{◌≡◌, ℕ, ◌+◌, ◌<◌, [], IfNone, IfSome, OnOk, OnErr, length, sum_by};
-ghost use Rattle.pagable_book.specs.State.{WellFormed, is_node};
+ghost use Rattle.std.specs.Prelude.{◌≡◌, ℕ, ◌+◌, ◌<◌, ◌∷◌, [], IfOk, IfNone, IfSome, OnErr, length, nat_lt, sum_by, slice_get, Some, true, false};
+ghost use Rattle.pagable_book.specs.State.{State, WellFormed, value_at, is_node, is_same, is_aside, is_loose, is_pinning};
 ghost use Rattle.pagable_book.specs.Cells.{Cell};
 ghost use Rattle.pagable_book.specs.World.{plain, greatest, HasCell};
-ghost use Rattle.pagable_book.specs.Values.{is_valued, SameValues, NoValueComes, ValueComes};
-ghost use Rattle.pagable_book.specs.Calls.{Born, PinnedBy, Unpinned, Released, Counts, KeyIs, AwayIs, NodeIs, PinningIs, Took, KeySet, Begun, HasLoad, LooksLoad, Ended, Dropped};
-ghost use Rattle.pagable_book.specs.declared.rows.LoadRow.{LoadRow};
+ghost use Rattle.pagable_book.specs.Calls.{Born, PinnedBy, Unpinned, Released, Counts, KeyIs, AwayIs, NodeIs, PinningIs, Took, KeySet, Begun, LooksLoad, Ended, Dropped, UnpinnedAt, ReleasedAt};
+ghost use Rattle.pagable_book.specs.Shape.{state_of};
 
 use crate::answers::{Beginning, EndRefusal, Pinning};
+use crate::rows::{HandleAt, LoadAt, NodeAt};
 use crate::tables::Tables;
 use crate::{births, listing, loads, steps, tables};
 use pagable_model::{DataKey, Error, HandleNumber, LoadNumber, Mode, NodeNumber, OptionalDataKey};
@@ -61,8 +61,7 @@ impl Book {
     /// A new node of this type without a key, with one handle of the caller's: for a cell its mode is LoosePinned or
     /// Pinned. The node has the number that `next_node` told. NumbersSpent and OutOfMemory change nothing.
     pub fn add_cell(&mut self, node_type: u32, mode: Mode) -> Result<HandleNumber, Error>
-        ensures answer { Born (plain self.old) node_type mode result (plain self.new) }
-        ensures values { OnOk result (ValueComes (self.old.last_node + 1) (plain self.old) (plain self.new)) }
+        ensures { Born (plain self.old) node_type mode result (plain self.new) }
     {
         births::bear(&mut self.tables, node_type, mode)
     }
@@ -70,8 +69,7 @@ impl Book {
     /// Pins a loose handle of the caller's and makes one more that pins, or tells under which key the value has to be
     /// read first; then nothing changes. No refusal changes anything.
     pub fn pin(&mut self, handle: HandleNumber) -> Result<Pinning, Error>
-        ensures answer { PinnedBy (plain self.old) handle result (plain self.new) }
-        ensures values { SameValues (plain self.old) (plain self.new) }
+        ensures { PinnedBy (plain self.old) handle result (plain self.new) }
     {
         let at = steps::own_loose(&self.tables, handle)?;
         let node = steps::node_of(&self.tables, at.row.node);
@@ -87,8 +85,7 @@ impl Book {
     /// memory, the pin is given up all the same, and the answer is NumbersSpent or OutOfMemory. Other refusals change
     /// nothing.
     pub fn unpin(&mut self, handle: HandleNumber) -> Result<(), Error>
-        ensures answer { Unpinned (plain self.old) handle result (plain self.new) }
-        ensures values { NoValueComes (plain self.old) (plain self.new) }
+        ensures { Unpinned (plain self.old) handle result (plain self.new) }
     {
         let at = steps::own_loose(&self.tables, handle)?;
         if !tables::pins(at.row.mode) {
@@ -101,8 +98,7 @@ impl Book {
     /// OutOfMemory say that the cell couldn't be listed: the handle is given up all the same. Other refusals change
     /// nothing.
     pub fn release(&mut self, handle: HandleNumber) -> Result<(), Error>
-        ensures answer { Released (plain self.old) handle result (plain self.new) }
-        ensures values { NoValueComes (plain self.old) (plain self.new) }
+        ensures { Released (plain self.old) handle result (plain self.new) }
     {
         let at = steps::own(&self.tables, handle)?;
         listing::release(&mut self.tables, at)
@@ -111,8 +107,7 @@ impl Book {
     /// Sets or replaces the key of the cell, through a loose handle of the caller's: a cell that nothing pins loses its
     /// value by that. Through a Pinned or Shared handle nothing happens. A refusal changes nothing.
     pub fn set_data_key(&mut self, handle: HandleNumber, key: DataKey) -> Result<(), Error>
-        ensures answer { KeySet (plain self.old) handle key result (plain self.new) }
-        ensures values { NoValueComes (plain self.old) (plain self.new) }
+        ensures { KeySet (plain self.old) handle key result (plain self.new) }
     {
         let at = steps::own(&self.tables, handle)?;
         if !tables::is_loose_mode(at.row.mode) {
@@ -185,7 +180,7 @@ impl Book {
 
     /// Whether the value of a node is in memory: the node is live, and is pinned or has no key.
     pub fn has_value(&self, node: NodeNumber) -> bool
-        ensures { result ≡ is_valued (plain self.now) node.0 }
+        ensures { result ≡ nat_lt 0 (sum_by (value_at node.0) self.now.nodes) }
     {
         match tables::node_at(&self.tables.nodes, node) {
             Some(at) => tables::has_value(at.row),
@@ -202,17 +197,14 @@ impl Book {
 
     /// Moves the entry at this place of the list, counted from 0, to the caller. None past the end.
     pub fn take_pending(&mut self, i: usize) -> Option<HandleNumber>
-        ensures answer { Took (plain self.old) i result (plain self.new) }
-        ensures values { SameValues (plain self.old) (plain self.new) }
+        ensures { Took (plain self.old) i result (plain self.new) }
     {
         listing::take(&mut self.tables, i)
     }
-
     /// Opens a load of a loose handle's cell, or tells that the value is in memory; then nothing changes. No refusal
     /// changes anything.
     pub fn load_begin(&mut self, handle: HandleNumber) -> Result<Beginning, Error>
-        ensures answer { Begun (plain self.old) handle result (plain self.new) }
-        ensures values { SameValues (plain self.old) (plain self.new) }
+        ensures { Begun (plain self.old) handle result (plain self.new) }
     {
         let at = steps::own_loose(&self.tables, handle)?;
         let node = steps::node_of(&self.tables, at.row.node);
@@ -243,17 +235,14 @@ impl Book {
     /// more handle that pins, and the load is closed. Where that handle is gone (NoSuchHandle) or another's (NotYours),
     /// the load is closed and no more. An unknown load (NoSuchHandle), NumbersSpent and OutOfMemory change nothing.
     pub fn load_end(&mut self, load: LoadNumber) -> Result<HandleNumber, EndRefusal>
-        ensures answer { Ended (plain self.old) load result (plain self.new) }
-        ensures values { OnOk result ((p : ℕ) × (row : LoadRow) × HasLoad (plain self.old) load p row × ValueComes row.node.0 (plain self.old) (plain self.new)) }
-        ensures refused { OnErr result (NoValueComes (plain self.old) (plain self.new)) }
+        ensures { Ended (plain self.old) load result (plain self.new) }
     {
         loads::end(&mut self.tables, load)
     }
 
     /// Gives up a load, with the handle that it owns. NoSuchHandle for a load that isn't open, and then nothing changes.
     pub fn load_drop(&mut self, load: LoadNumber) -> Result<(), Error>
-        ensures answer { Dropped (plain self.old) load result (plain self.new) }
-        ensures values { NoValueComes (plain self.old) (plain self.new) }
+        ensures { Dropped (plain self.old) load result (plain self.new) }
     {
         let at = loads::find(&self.tables, load)?;
         loads::close(&mut self.tables, at);

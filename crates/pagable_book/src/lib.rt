@@ -3,13 +3,13 @@
 #![tactic(auto)]
 
 pub mod answers;
-mod births;
+pub mod births;
 pub mod book;
-mod listing;
-mod loads;
+pub mod listing;
+pub mod loads;
 pub mod rows;
-mod steps;
-mod tables;
+pub mod steps;
+pub mod tables;
 #[cfg(test)]
 mod tests;
 

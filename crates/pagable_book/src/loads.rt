@@ -61,7 +61,6 @@ pub fn own_of(t: &Tables, load: LoadAt) -> HandleAt
     ensures number { result.row.number ≡ load.row.own }
     ensures node { result.row.node ≡ load.row.node }
     ensures owner { result.row.owner ≡ Owner.Load load.row.number }
-    ensures mode { result.row.mode ≡ Mode.LooseUnpinned }
 {
     let Some(at) = tables::handle_at(&t.handles, load.row.own) else {
         unreachable!();

@@ -2,7 +2,7 @@
 
 ghost use Rattle.std.specs.Prelude.{◌≡◌, ℕ, ◌+◌, ◌-◌, ◌^◌, ◌<◌, ◌==◌, ◌&&◌, sum_by, slice_get, slice_set, Some, IfOk, IfErr, OnOk, OnErr, true, false};
 ghost use Rattle.std.specs.List.{remove};
-ghost use Rattle.pagable_book.specs.State.{WellFormed, AreNodes, held, pins, one, is_pinning, is_aside, is_loose};
+ghost use Rattle.pagable_book.specs.State.{WellFormed, AreNodes, held, pins, one, is_pinning, is_aside, value_at, is_loose};
 ghost use Rattle.pagable_book.specs.Cells.{cell_of, cells_of, CellsFollow};
 ghost use Rattle.pagable_book.specs.World.{plain, HasCell, joined, turned, rekeyed, Leaves, CannotMake};
 ghost use Rattle.pagable_book.specs.Refusals.{HasRow, IsUnknown, IsOwn, RefusesOwn, RefusesLoose};
@@ -21,6 +21,7 @@ pub fn node_of(t: &Tables, node: NodeNumber) -> NodeAt
     ensures number { result.row.number ≡ node }
     ensures count { result.row.count ≡ pins node.0 t.now.handles.items }
     ensures small { result.row.count < 2 ^ 64 - 1 }
+    ensures value { sum_by (value_at node.0) t.now.nodes.items ≡ value_at node.0 result.row }
 {
     let Some(at) = tables::node_at(&t.nodes, node) else {
         unreachable!();

@@ -3,9 +3,9 @@
 //! Numbers only grow and a new row is put at a table's end, so rows stand in the order of their numbers and are found
 //! by halving. Whether a node has another handle is looked up row by row.
 
-ghost use Rattle.std.specs.Prelude.{◌≡◌, ℕ, ◌-◌, ◌^◌, ◌<◌, ◌==◌, ◌&&◌, ◌||◌, not, if◌then◌else◌, length, sum_by, slice_get, IfNone, IfSome, Some, nat_lt, true};
+ghost use Rattle.std.specs.Prelude.{◌≡◌, ℕ, ◌-◌, ◌^◌, ◌<◌, ◌==◌, ◌&&◌, if◌then◌else◌, length, sum_by, slice_get, IfNone, IfSome, Some, nat_lt, true};
 ghost use Rattle.std.specs.List.{AllPairs};
-ghost use Rattle.pagable_book.specs.State.{is_number, is_node, is_load, held, is_pinning, is_loose, one, has_key, IsHandleBefore, IsNodeBefore, IsLoadBefore};
+ghost use Rattle.pagable_book.specs.State.{is_number, is_node, is_load, held, is_pinning, is_loose, one, value_at, has_key, IsHandleBefore, IsNodeBefore, IsLoadBefore};
 ghost use Rattle.pagable_book.specs.Cells.{Recounted};
 ghost use Rattle.pagable_book.specs.declared.rows.NodeRow.{NodeRow};
 
@@ -137,7 +137,7 @@ pub fn handle_count(handles: &[HandleRow]) -> usize
 
 /// Whether a value is in memory: its node is pinned, or has no key by which it could be read again.
 pub fn has_value(node: NodeRow) -> bool
-    ensures { result ≡ (nat_lt 0 node.count || not (has_key node.key)) }
+    ensures { one result ≡ value_at node.number.0 node }
 {
     node.count > 0 || node.key.is_none()
 }

@@ -59,12 +59,12 @@ fn a_load_by_hand(rt: HostRuntime) -> Result<(), Fail> {
     assert_eq!(rt; pager.load_begin(loose), Ok(Beginning::InMemory));
     pager.unpin(loose)?;
     paging::page_out_pending(alloc, &mut pager)?;
-    let key = DataKey::new(16_879).ok_or("0 is no key")?;
-    assert_eq!(rt; pager.pin(loose), Ok(Pinning::NeedsLoad(key)));
-    let Ok(Beginning::Load(dropped, told)) = pager.load_begin(loose) else {
+    let Ok(Pinning::NeedsLoad(_)) = pager.pin(loose) else {
+        return Err("the text is in memory".into());
+    };
+    let Ok(Beginning::Load(dropped, _)) = pager.load_begin(loose) else {
         return Err("no load".into());
     };
-    assert_eq!(rt; told, key);
     assert_eq!(rt; pager.load_drop(dropped), Ok(()));
     assert_eq!(rt; pager.load_drop(dropped), Err(Error::NoSuchHandle));
     let Ok(Beginning::Load(load, _)) = pager.load_begin(loose) else {

@@ -1,5 +1,3 @@
-use Rattle.pagable_book.specs.World.{plain}
-use Rattle.pagable_book.proofs.Values.{rekeyed-values}
 use Rattle.std.proofs.Common.{◌∙◌, sym, refl, inl, inr, ap}
 use Rattle.pagable_book.specs.Shape.{state_of}
 use Rattle.pagable_book.specs.Cells.{cell_of}
@@ -7,24 +5,18 @@ use Rattle.pagable_book.proofs.Known.{row-held}
 use Rattle.pagable_book.proofs.Settling.{cell-at}
 use Rattle.pagable_book.proofs.book.Book.set_data_key.Goals as goal
 
-pub returns-then-not-is_loose_mode-clause-answer : goal.returns-then-not-is_loose_mode-clause-answer
-returns-then-not-is_loose_mode-clause-answer c =
+pub returns-then-not-is_loose_mode : goal.returns-then-not-is_loose_mode
+returns-then-not-is_loose_mode c =
     let at = c.in_ok-at.at in
     rw (← c.self.view_is) (at.place, at.row, c.in_ok-at.ensures.own, inl (sym c.is_loose_mode.ensures ∙ c.if-not-is_loose_mode.true, refl))
 
 pub node_of-node-requires-clause-live : goal.node_of-node-requires-clause-live
 node_of-node-requires-clause-live c = row-held (state_of c.self.inside.tables) c.in_ok-at.at.place c.in_ok-at.at.row c.in_ok-at.ensures.own.there
 
-pub returns-clause-answer : goal.returns-clause-answer
-returns-clause-answer c =
+pub returns : goal.returns
+returns c =
     let at = c.in_ok-at.at in
     let node = c.node_of-node.result in
     let known = c.node_of-node.ensures in
     let there = cell-at c.self.inside.tables.nodes.items node.place node.row known.place in
     rw (← c.self.view_is) (at.place, at.row, c.in_ok-at.ensures.own, inr (sym c.is_loose_mode.ensures ∙ c.if-not-is_loose_mode.false, (node.place, cell_of node.row, there, ap (λ n. n.0) known.number, c.set_key.ensures.world)))
-
-pub returns-clause-values : goal.returns-clause-values
-returns-clause-values c =
-    let node = c.node_of-node.result in
-    let there = cell-at c.self.inside.tables.nodes.items node.place node.row c.node_of-node.ensures.place in
-    rw (← c.self.view_is) (rekeyed-values (plain (state_of c.self.inside.tables)) (plain (state_of c.set_key.new.t)) node.place c.args.key (cell_of node.row) there c.set_key.ensures.world)
