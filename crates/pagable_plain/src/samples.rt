@@ -74,54 +74,67 @@ fn read_maybe(bytes: &[u8]) -> Result<(Sample, &[u8]), Error>
     Ok((Sample::Maybe(Some(number)), after))
 }
 
+// A text.
+#[tactic(auto, unfolding(pagable_model::specs::Reading::read, pagable_model::specs::Reading::read_with))]
+fn read_text(alloc: Global, bytes: &[u8]) -> Result<(Sample, &[u8]), Error>
+    ensures { Gives memory (λ x. (meaning_of x.0, rest x.1.now [])) result (reads (shape_of Sort.Text) bytes.now) }
+{
+    let (text, after) = next_text(bytes)?;
+    Ok((Sample::Text(String::from_str(alloc, text)?), after))
+}
+
+// A character.
+#[tactic(auto, unfolding(pagable_model::specs::Reading::read, pagable_model::specs::Reading::read_with))]
+fn read_letter(bytes: &[u8]) -> Result<(Sample, &[u8]), Error>
+    ensures { Gives never (λ x. (meaning_of x.0, rest x.1.now [])) result (reads (shape_of Sort.Letter) bytes.now) }
+{
+    let (letter, after) = next_char(bytes)?;
+    Ok((Sample::Letter(letter), after))
+}
+
+// A duration.
+#[tactic(auto, unfolding(pagable_model::specs::Reading::read, pagable_model::specs::Reading::read_with))]
+fn read_time(bytes: &[u8]) -> Result<(Sample, &[u8]), Error>
+    ensures { Gives never (λ x. (meaning_of x.0, rest x.1.now [])) result (reads (shape_of Sort.Time) bytes.now) }
+{
+    let (seconds, nanos, after) = next_duration(bytes)?;
+    Ok((Sample::Time(Span { seconds, nanos }), after))
+}
+
 /// Reads a value of this sort, and answers it with the bytes after it. A refusal is the first fault from the front, or
 /// `OutOfMemory` where a text can't be kept.
 #[tactic(auto, using(crate::proofs::Limits::limits), unfolding(pagable_model::specs::Reading::read, pagable_model::specs::Reading::read_with))]
 pub fn read_sample(alloc: Global, sort: Sort, bytes: &[u8]) -> Result<(Sample, &[u8]), Error>
     ensures { Gives memory (λ x. (meaning_of x.0, rest x.1.now [])) result (reads (shape_of sort) bytes.now) }
 {
-    match sort {
+    let (sample, after) = match sort {
         Sort::Byte => {
             let (number, after) = next_byte(bytes)?;
-            Ok((Sample::Byte(number), after))
+            (Sample::Byte(number), after)
         }
         Sort::Short => {
             let (number, after) = next_varint(bytes, 2, 3)?;
-            Ok((Sample::Short(number as u16), after))
+            (Sample::Short(number as u16), after)
         }
         Sort::Long => {
             let (number, after) = next_varint(bytes, 9, 1)?;
-            Ok((Sample::Long(number), after))
+            (Sample::Long(number), after)
         }
         Sort::Signed => {
             let (number, after) = next_varint(bytes, 9, 1)?;
-            Ok((Sample::Signed(signed_from(number)), after))
+            (Sample::Signed(signed_from(number)), after)
         }
         Sort::Flag => {
             let (flag, after) = next_bool(bytes)?;
-            Ok((Sample::Flag(flag), after))
+            (Sample::Flag(flag), after)
         }
-        Sort::Text => {
-            let (text, after) = next_text(bytes)?;
-            Ok((Sample::Text(String::from_str(alloc, text)?), after))
-        }
-        Sort::Letter => {
-            let (letter, after) = next_char(bytes)?;
-            Ok((Sample::Letter(letter), after))
-        }
-        Sort::Time => {
-            let (seconds, nanos, after) = next_duration(bytes)?;
-            Ok((Sample::Time(Span { seconds, nanos }), after))
-        }
-        Sort::Maybe => {
-            let done = read_maybe(bytes)?;
-            Ok(done)
-        }
-        Sort::Attempt => {
-            let done = read_attempt(alloc, bytes)?;
-            Ok(done)
-        }
-    }
+        Sort::Text => read_text(alloc, bytes)?,
+        Sort::Letter => read_letter(bytes)?,
+        Sort::Time => read_time(bytes)?,
+        Sort::Maybe => read_maybe(bytes)?,
+        Sort::Attempt => read_attempt(alloc, bytes)?,
+    };
+    Ok((sample, after))
 }
 
 // A byte or none, after a flag that says which.

@@ -64,8 +64,12 @@ fn texts_are_written(rt: HostRuntime) -> Result<(), Fail> {
 }
 
 #[test]
-fn values_are_read(rt: HostRuntime) -> Result<(), Fail> {
+fn numbers_are_read(rt: HostRuntime) -> Result<(), Fail> {
     let alloc = rt.alloc();
+    let time = Sample::Time(Span {
+        seconds: 2,
+        nanos: 0,
+    });
     let rows = [
         (Sort::Short, b"\x80\x80\x00".as_slice(), Sample::Short(0)),
         (
@@ -79,28 +83,32 @@ fn values_are_read(rt: HostRuntime) -> Result<(), Fail> {
         (Sort::Byte, b"\x09".as_slice(), Sample::Byte(9)),
         (Sort::Long, b"\xac\x02".as_slice(), Sample::Long(300)),
         (Sort::Signed, b"\x01".as_slice(), Sample::Signed(-1)),
+        (Sort::Time, b"\x01\x80\x94\xeb\xdc\x03".as_slice(), time),
+    ];
+    for (sort, bytes, want) in rows {
+        let (found, rest) = read_sample(alloc, sort, bytes).ok().ok_or("refused")?;
+        assert!(rt; found == want);
+        assert_eq!(rt; rest.len(), 0);
+    }
+    Ok(())
+}
+
+#[test]
+fn texts_are_read(rt: HostRuntime) -> Result<(), Fail> {
+    let alloc = rt.alloc();
+    let text = String::from_str(alloc, "abc")?;
+    let success = String::from_str(alloc, "success")?;
+    let rows = [
         (
             Sort::Letter,
             b"\x02\xc3\xa9".as_slice(),
             Sample::Letter('é'),
         ),
-        (
-            Sort::Time,
-            b"\x01\x80\x94\xeb\xdc\x03".as_slice(),
-            Sample::Time(Span {
-                seconds: 2,
-                nanos: 0,
-            }),
-        ),
-        (
-            Sort::Text,
-            b"\x83\x00abc".as_slice(),
-            Sample::Text(String::from_str(alloc, "abc")?),
-        ),
+        (Sort::Text, b"\x83\x00abc".as_slice(), Sample::Text(text)),
         (
             Sort::Attempt,
             b"\x01\x07success".as_slice(),
-            Sample::Attempt(Ok(String::from_str(alloc, "success")?)),
+            Sample::Attempt(Ok(success)),
         ),
     ];
     for (sort, bytes, want) in rows {
@@ -154,44 +162,34 @@ fn faults_have_names(rt: HostRuntime) {
 }
 
 #[test]
-fn blobs_have_keys(rt: HostRuntime) -> Result<(), Fail> {
-    let alloc = rt.alloc();
-    let all = preimage(alloc, b"\x01".as_slice(), [2].as_slice())?;
+fn blobs_have_preimages(rt: HostRuntime) -> Result<(), Fail> {
+    let all = preimage(rt.alloc(), b"\x01".as_slice(), [2].as_slice())?;
     let mut want = [0u8; 25];
     want[0] = 1;
     want[8] = 1;
     want[9] = 2;
     assert_eq!(rt; all.as_slice(), want.as_slice());
-    assert_eq!(rt; weighed_key(alloc, b"\x01".as_slice(), [2].as_slice())?, 30);
-    assert_eq!(rt; weighed_key(alloc, b"".as_slice(), [].as_slice())?, 1);
-    assert_eq!(rt;
-        weighed_key(alloc, b"\x00\x09".as_slice(), [].as_slice())?,
-        90
-    );
-    assert_eq!(rt;
-        weighed_key(alloc, b"\x0a\x00".as_slice(), [].as_slice())?,
-        90
-    );
-    assert_eq!(rt;
-        weighed_key(alloc, b"\x0bhello world".as_slice(), [].as_slice())?,
-        16879
-    );
-    assert_eq!(rt;
-        weighed_key(alloc, b"\x2a".as_slice(), [16879].as_slice())?,
-        3484
-    );
-    assert_eq!(rt;
-        weighed_key(alloc, b"\x06shared".as_slice(), [].as_slice())?,
-        7908
-    );
-    assert_eq!(rt;
-        weighed_key(alloc, b"\x02".as_slice(), [7908, 7908].as_slice())?,
-        9368
-    );
-    assert_eq!(rt;
-        weighed_key(alloc, b"".as_slice(), [7908, 7908].as_slice())?,
-        8834
-    );
+    Ok(())
+}
+
+#[test]
+fn blobs_have_keys(rt: HostRuntime) -> Result<(), Fail> {
+    let alloc = rt.alloc();
+    let shared = [7908, 7908];
+    let rows = [
+        (b"\x01".as_slice(), [2].as_slice(), 30u128),
+        (b"".as_slice(), [].as_slice(), 1),
+        (b"\x00\x09".as_slice(), [].as_slice(), 90),
+        (b"\x0a\x00".as_slice(), [].as_slice(), 90),
+        (b"\x0bhello world".as_slice(), [].as_slice(), 16879),
+        (b"\x2a".as_slice(), [16879].as_slice(), 3484),
+        (b"\x06shared".as_slice(), [].as_slice(), 7908),
+        (b"\x02".as_slice(), shared.as_slice(), 9368),
+        (b"".as_slice(), shared.as_slice(), 8834),
+    ];
+    for (bytes, keys, want) in rows {
+        assert_eq!(rt; weighed_key(alloc, bytes, keys)?, want);
+    }
     Ok(())
 }
 
