@@ -1,7 +1,7 @@
 -- What contracts see of a pager, and what stays the same.
 use Rattle.std.specs.Prelude.{◌≡◌, ℕ, List}
-use Rattle.pagable_book.specs.State.{State}
-use Rattle.pagable_book.specs.World.{plain}
+use Rattle.pagable_world.specs.State.{State}
+use Rattle.pagable_world.specs.World.{plain}
 use Rattle.pagable.specs.declared.pagable_arc.values.ValueRow.{ValueRow}
 
 -- the tables, the values in memory by node, the storage and the environment

@@ -6,18 +6,17 @@ pub mod pagable_arc;
 pub mod storage;
 
 pub use pagable_arc::pager::{Pager, Want};
-pub use pagable_book::{Beginning, Pinning};
 pub use pagable_core::{
     NoReferences, PagableData, PagableDeserializerImpl, PagableKeys, PagableSerializerImpl,
     PagableStorage, References, SerializedData, SerializerForPaging, WeighHash,
 };
 pub use pagable_flavors::{DataKey, Error, OptionalDataKey, PagableSlice, PagableVecFlavor};
 pub use pagable_model::{
-    ArcRef, HandleNumber, Identity, Kind, LoadNumber, Mode, NodeNumber, Owner, PagableCursor,
-    WorkerNumber,
+    ArcRef, HandleNumber, Identity, Kind, LoadNumber, NodeNumber, PagableCursor, WorkerNumber,
 };
 pub use pagable_traits::{
     Carried, Env, InNode, KeyHash, NodeSet, OneMeaning, PagableDeserialize, PagableDeserializer,
     PagableSerialize, PagableSerializer, Reader,
 };
+pub use pagable_world::{Beginning, Mode, Owner, Pinning};
 pub use storage::in_memory::InMemoryBlobs;

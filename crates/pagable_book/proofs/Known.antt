@@ -5,17 +5,17 @@ use Rattle.std.specs.List.{remove}
 use Rattle.std.proofs.lemmas.Bool.Decides.{nat_tests}
 use Rattle.std.proofs.lemmas.List.Sums.{sum_by-le, sum_by-le-sum_by}
 use Rattle.pagable_model.specs.declared.numbers.HandleNumber.{HandleNumber}
-use Rattle.pagable_model.specs.declared.rows.Mode.{Mode}
-use Rattle.pagable_model.specs.declared.rows.Mode.TheVariants as modes
-use Rattle.pagable_model.specs.declared.rows.Owner.{Owner}
-use Rattle.pagable_model.specs.declared.rows.Owner.TheVariants as owners
+use Rattle.pagable_world.specs.declared.rows.Mode.{Mode}
+use Rattle.pagable_world.specs.declared.rows.Mode.TheVariants as modes
+use Rattle.pagable_world.specs.declared.rows.Owner.{Owner}
+use Rattle.pagable_world.specs.declared.rows.Owner.TheVariants as owners
 use Rattle.pagable_model.specs.declared.numbers.LoadNumber.{LoadNumber}
 use Rattle.pagable_model.specs.declared.numbers.NodeNumber.{NodeNumber}
-use Rattle.pagable_book.specs.State.{State, WellFormed, one, is_pinning, pin_of, pins, handle_of, held, is_node, value_at, is_number, is_entry, is_same, is_listed, is_aside, is_of_load, is_load_with, is_own, is_begun, is_elsewhere, is_loose, idle_pin, AreHandles}
+use Rattle.pagable_world.specs.State.{State, WellFormed, one, is_pinning, pin_of, pins, handle_of, held, is_node, value_at, is_number, is_entry, is_same, is_listed, is_aside, is_of_load, is_load_with, is_own, is_begun, is_elsewhere, is_loose, idle_pin, AreHandles}
 use Rattle.pagable_book.proofs.Sums.{sum-remove, row-le-sum, its_count, its_value, no_value, entries-le}
-use Rattle.pagable_book.specs.declared.rows.NodeRow.{NodeRow}
-use Rattle.pagable_book.specs.declared.rows.LoadRow.{LoadRow}
-use Rattle.pagable_book.specs.declared.rows.HandleRow.{HandleRow}
+use Rattle.pagable_world.specs.declared.rows.NodeRow.{NodeRow}
+use Rattle.pagable_world.specs.declared.rows.LoadRow.{LoadRow}
+use Rattle.pagable_world.specs.declared.rows.HandleRow.{HandleRow}
 
 pin_of-le : (q : ℕ) (h : HandleRow) → pin_of q h ≤ 1
 pin_of-le q h = grind (arith, nat_tests)

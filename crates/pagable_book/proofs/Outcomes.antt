@@ -4,13 +4,13 @@ use Rattle.std.specs.Prelude.{nat_lt, ◌⊎◌}
 use Rattle.std.proofs.lemmas.Bool.Decides.{nat_tests}
 use Rattle.pagable_model.specs.declared.data_key.OptionalDataKey.{OptionalDataKey}
 use Rattle.pagable_model.specs.declared.data_key.OptionalDataKey.TheVariants as optional
-use Rattle.pagable_model.specs.declared.rows.Mode.{Mode}
-use Rattle.pagable_model.specs.declared.rows.Mode.TheVariants as modes
-use Rattle.pagable_book.specs.State.{State, is_pinning, is_loose, pins}
-use Rattle.pagable_book.specs.World.{plain, IsHere, IsAway}
+use Rattle.pagable_world.specs.declared.rows.Mode.{Mode}
+use Rattle.pagable_world.specs.declared.rows.Mode.TheVariants as modes
+use Rattle.pagable_world.specs.State.{State, is_pinning, is_loose, pins}
+use Rattle.pagable_world.specs.World.{plain, IsHere, IsAway}
 use Rattle.pagable_book.proofs.Preparing.{has-key}
-use Rattle.pagable_book.specs.declared.rows.NodeRow.{NodeRow}
-use Rattle.pagable_book.specs.declared.rows.HandleRow.{HandleRow}
+use Rattle.pagable_world.specs.declared.rows.NodeRow.{NodeRow}
+use Rattle.pagable_world.specs.declared.rows.HandleRow.{HandleRow}
 
 pub pinned_mode : (m : Mode) → is_loose m ≡ true → is_pinning m ≡ true → m ≡ modes.LoosePinned
 pinned_mode modes.LoosePinned loose h = refl

@@ -6,15 +6,15 @@ use Rattle.std.proofs.lemmas.Bool.{false≢true}
 use Rattle.pagable_model.specs.declared.error.Error.{Error}
 use Rattle.pagable_model.specs.declared.data_key.OptionalDataKey.{OptionalDataKey}
 use Rattle.pagable_model.specs.declared.data_key.OptionalDataKey.TheVariants as optional
-use Rattle.pagable_model.specs.declared.rows.Mode.{Mode}
-use Rattle.pagable_model.specs.declared.rows.Mode.TheVariants as modes
-use Rattle.pagable_book.specs.State.{State, has_key, is_shared, pins}
-use Rattle.pagable_book.specs.Cells.{cell_of}
-use Rattle.pagable_book.specs.World.{World, plain, enlisted, CannotMake, HasKey, NeedsListing, NeedsNoListing, Prepared}
+use Rattle.pagable_world.specs.declared.rows.Mode.{Mode}
+use Rattle.pagable_world.specs.declared.rows.Mode.TheVariants as modes
+use Rattle.pagable_world.specs.State.{State, has_key, is_shared, pins}
+use Rattle.pagable_world.specs.Cells.{cell_of}
+use Rattle.pagable_world.specs.World.{World, plain, enlisted, CannotMake, HasKey, NeedsListing, NeedsNoListing, Prepared}
 use Rattle.pagable_book.proofs.Sums.{push-there}
 use Rattle.pagable_book.proofs.Settling.{cell-at}
-use Rattle.pagable_book.specs.declared.rows.NodeRow.{NodeRow}
-use Rattle.pagable_book.specs.declared.rows.HandleRow.{HandleRow}
+use Rattle.pagable_world.specs.declared.rows.NodeRow.{NodeRow}
+use Rattle.pagable_world.specs.declared.rows.HandleRow.{HandleRow}
 
 no_key : (k : OptionalDataKey) → not (has_key k) ≡ true → k ≡ optional.None
 no_key optional.None h = refl

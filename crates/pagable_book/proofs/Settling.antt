@@ -7,16 +7,16 @@ use Rattle.std.proofs.lemmas.Bool.Decides.{nat_tests}
 use Rattle.std.proofs.lemmas.List.{map-append, map-set, take-map, drop-map}
 use Rattle.std.proofs.lemmas.Option.{slice_get-map}
 use Rattle.pagable_model.specs.declared.data_key.OptionalDataKey.TheVariants as optional
-use Rattle.pagable_model.specs.declared.rows.Mode.{Mode}
-use Rattle.pagable_model.specs.declared.rows.Mode.TheVariants as modes
-use Rattle.pagable_book.specs.State.{State, WellFormed, one, is_pinning, is_loose, is_aside, pin_of, pins, handle_of, held, is_node, AreNodes}
-use Rattle.pagable_book.specs.Cells.{Cell, cell_of, cells_of, Recounted, CellsFollow}
-use Rattle.pagable_book.specs.World.{plain, turned, rekeyed}
+use Rattle.pagable_world.specs.declared.rows.Mode.{Mode}
+use Rattle.pagable_world.specs.declared.rows.Mode.TheVariants as modes
+use Rattle.pagable_world.specs.State.{State, WellFormed, one, is_pinning, is_loose, is_aside, pin_of, pins, handle_of, held, is_node, AreNodes}
+use Rattle.pagable_world.specs.Cells.{Cell, cell_of, cells_of, Recounted, CellsFollow}
+use Rattle.pagable_world.specs.World.{plain, turned, rekeyed}
 use Rattle.pagable_book.proofs.Sums.{set-same, sum-remove, its_count, pins-le-held}
 use Rattle.pagable_book.proofs.Parts.{nodes-recounted, nodes-along, nodes-remove}
 use Rattle.pagable_book.proofs.Whole.{whole-turn}
-use Rattle.pagable_book.specs.declared.rows.NodeRow.{NodeRow}
-use Rattle.pagable_book.specs.declared.rows.HandleRow.{HandleRow}
+use Rattle.pagable_world.specs.declared.rows.NodeRow.{NodeRow}
+use Rattle.pagable_world.specs.declared.rows.HandleRow.{HandleRow}
 
 -- the node that a pinning handle has left was pinned
 pub settle-some : (nodes : List NodeRow) (handles : List HandleRow) (last j : ℕ) (x : NodeRow) (b : Bool) → AreNodes nodes (λ q. held q handles + one (x.number.0 == q)) (λ q. pins q handles + one (x.number.0 == q && b)) last → slice_get nodes j ≡ Some x → b ≡ true → 0 < x.count

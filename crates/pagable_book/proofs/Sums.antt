@@ -6,9 +6,9 @@ use Rattle.std.proofs.lemmas.List.Sums.{sum_by-cons, sum_by-set, sum_by-remove, 
 use Rattle.std.proofs.lemmas.Option.{get_or_from_slice_get, slice_get_within, slice_get-get_or}
 use Rattle.std.proofs.lemmas.Grind.{get_or-set_at}
 use Rattle.std.proofs.lemmas.List.{set-get_or, length-set, length-append, get_or_append_left}
-use Rattle.pagable_book.specs.State.{one, is_node, count_at, value_at, pin_of, handle_of, pins, held, is_number, is_entry}
-use Rattle.pagable_book.specs.declared.rows.NodeRow.{NodeRow}
-use Rattle.pagable_book.specs.declared.rows.HandleRow.{HandleRow}
+use Rattle.pagable_world.specs.State.{one, is_node, count_at, value_at, pin_of, handle_of, pins, held, is_number, is_entry}
+use Rattle.pagable_world.specs.declared.rows.NodeRow.{NodeRow}
+use Rattle.pagable_world.specs.declared.rows.HandleRow.{HandleRow}
 
 -- what is written at a row's place stands there
 pub set-there : {A : Type 0} (xs : List A) (i : ℕ) (x y : A) → slice_get xs i ≡ Some x → slice_get (set xs i y) i ≡ Some y

@@ -1,6 +1,1 @@
-pub mod State
-pub mod Cells
 pub mod Shape
-pub mod World
-pub mod Refusals
-pub mod Calls

@@ -1,13 +1,13 @@
 //! New nodes.
 
 ghost use Rattle.std.specs.Prelude.{◌≡◌, ℕ, ◌+◌, IfOk, IfErr, OnOk, OnErr};
-ghost use Rattle.pagable_book.specs.State.{WellFormed, one, is_pinning};
-ghost use Rattle.pagable_book.specs.World.{plain, born, CannotBear};
+ghost use Rattle.pagable_world.specs.State.{WellFormed, one, is_pinning};
+ghost use Rattle.pagable_world.specs.World.{plain, born, CannotBear};
 ghost use Rattle.pagable_book.specs.Shape.{state_of};
 
-use crate::rows::{HandleRow, NodeRow};
 use crate::tables::Tables;
-use pagable_model::{Error, HandleNumber, Mode, NodeNumber, OptionalDataKey, Owner};
+use pagable_model::{Error, HandleNumber, NodeNumber, OptionalDataKey};
+use pagable_world::{HandleRow, Mode, NodeRow, Owner};
 
 /// How many pins a new node has with one handle of this mode.
 fn first_count(mode: Mode) -> u64

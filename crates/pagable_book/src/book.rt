@@ -1,17 +1,17 @@
 //! The book: tables that are whole, and the calls on them.
 
 ghost use Rattle.std.specs.Prelude.{◌≡◌, ℕ, ◌+◌, ◌<◌, ◌∷◌, [], IfOk, IfNone, IfSome, OnErr, length, nat_lt, sum_by, slice_get, Some, true, false};
-ghost use Rattle.pagable_book.specs.State.{State, WellFormed, value_at, is_node, is_same, is_aside, is_loose, is_pinning};
-ghost use Rattle.pagable_book.specs.Cells.{Cell};
-ghost use Rattle.pagable_book.specs.World.{plain, greatest, HasCell};
-ghost use Rattle.pagable_book.specs.Calls.{Born, PinnedBy, Unpinned, Released, Counts, KeyIs, AwayIs, NodeIs, PinningIs, Took, KeySet, Begun, LooksLoad, Ended, Dropped, UnpinnedAt, ReleasedAt};
+ghost use Rattle.pagable_world.specs.State.{State, WellFormed, value_at, is_node, is_same, is_aside, is_loose, is_pinning};
+ghost use Rattle.pagable_world.specs.Cells.{Cell};
+ghost use Rattle.pagable_world.specs.World.{plain, greatest, HasCell};
+ghost use Rattle.pagable_world.specs.Calls.{Born, PinnedBy, Unpinned, Released, Counts, KeyIs, AwayIs, NodeIs, PinningIs, Took, KeySet, Begun, LooksLoad, Ended, Dropped, UnpinnedAt, ReleasedAt};
 ghost use Rattle.pagable_book.specs.Shape.{state_of};
 
-use crate::answers::{Beginning, EndRefusal, Pinning};
-use crate::rows::{HandleAt, LoadAt, NodeAt};
+use crate::places::{HandleAt, LoadAt, NodeAt};
 use crate::tables::Tables;
 use crate::{births, listing, loads, steps, tables};
-use pagable_model::{DataKey, Error, HandleNumber, LoadNumber, Mode, NodeNumber, OptionalDataKey};
+use pagable_model::{DataKey, Error, HandleNumber, LoadNumber, NodeNumber, OptionalDataKey};
+use pagable_world::{Beginning, EndRefusal, Mode, Pinning};
 use std::alloc::Global;
 use std::marker::Model;
 
@@ -23,7 +23,7 @@ pub struct Book {
 }
 
 impl Model for Book {
-    ghost use Rattle.pagable_book.specs.State.{State, WellFormed};
+    ghost use Rattle.pagable_world.specs.State.{State, WellFormed};
     ghost use Rattle.pagable_book.specs.Shape.{state_of};
 
     ghost Value = { State };
@@ -201,6 +201,7 @@ impl Book {
     {
         listing::take(&mut self.tables, i)
     }
+
     /// Opens a load of a loose handle's cell, or tells that the value is in memory; then nothing changes. No refusal
     /// changes anything.
     pub fn load_begin(&mut self, handle: HandleNumber) -> Result<Beginning, Error>

@@ -2,17 +2,14 @@
 //! themselves.
 #![tactic(auto)]
 
-pub mod answers;
 pub mod births;
 pub mod book;
 pub mod listing;
 pub mod loads;
-pub mod rows;
+pub mod places;
 pub mod steps;
 pub mod tables;
 #[cfg(test)]
 mod tests;
 
-pub use answers::{Beginning, EndRefusal, Pinning};
 pub use book::Book;
-pub use rows::{HandleRow, LoadRow, NodeRow};

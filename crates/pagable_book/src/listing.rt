@@ -1,16 +1,17 @@
 //! The list of cells that wait for page-out.
 
 ghost use Rattle.std.specs.Prelude.{◌≡◌, ℕ, ◌<◌, ◌==◌, ◌&&◌, slice_get, Some, IfErr, OnOk, OnErr, false, not};
-ghost use Rattle.pagable_book.specs.State.{WellFormed, held, has_key, is_shared, is_aside};
-ghost use Rattle.pagable_book.specs.World.{plain, enlisted, Prepared, CannotMake};
-ghost use Rattle.pagable_book.specs.Calls.{UnpinnedAt, ReleasedAt, Took};
+ghost use Rattle.pagable_world.specs.State.{WellFormed, held, has_key, is_shared, is_aside};
+ghost use Rattle.pagable_world.specs.World.{plain, enlisted, Prepared, CannotMake};
+ghost use Rattle.pagable_world.specs.Calls.{UnpinnedAt, ReleasedAt, Took};
 ghost use Rattle.pagable_book.specs.Shape.{state_of};
 
-use crate::rows::{HandleAt, HandleRow, NodeRow};
+use crate::places::HandleAt;
 use crate::steps::{leave, node_of, unpin_at};
 use crate::tables;
 use crate::tables::Tables;
-use pagable_model::{Error, HandleNumber, Mode, NodeNumber, Owner};
+use pagable_model::{Error, HandleNumber, NodeNumber};
+use pagable_world::{HandleRow, Mode, NodeRow, Owner};
 
 /// Lists a node, under a new unpinned handle at the list's end.
 pub fn enlist(t: &mut Tables, node: NodeNumber) -> Result<(), Error>

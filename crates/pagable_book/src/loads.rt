@@ -1,17 +1,17 @@
 //! Open loads.
 
 ghost use Rattle.std.specs.Prelude.{◌≡◌, ℕ, ◌+◌, slice_get, Some, IfOk, IfErr, OnOk, OnErr, true, false};
-ghost use Rattle.pagable_book.specs.State.{WellFormed, is_pinning, is_loose, is_of_load};
-ghost use Rattle.pagable_book.specs.World.{plain, opened, Closes, CannotOpen};
-ghost use Rattle.pagable_book.specs.Calls.{HasLoad, IsNoLoad, Ended};
+ghost use Rattle.pagable_world.specs.State.{WellFormed, is_pinning, is_loose, is_of_load};
+ghost use Rattle.pagable_world.specs.World.{plain, opened, Closes, CannotOpen};
+ghost use Rattle.pagable_world.specs.Calls.{HasLoad, IsNoLoad, Ended};
 ghost use Rattle.pagable_book.specs.Shape.{state_of};
 
-use crate::answers::EndRefusal;
-use crate::rows::{HandleAt, HandleRow, LoadAt, LoadRow};
+use crate::places::{HandleAt, LoadAt};
 use crate::steps::{node_of, own, pin_through, settle};
 use crate::tables;
 use crate::tables::Tables;
-use pagable_model::{DataKey, Error, HandleNumber, LoadNumber, Mode, Owner};
+use pagable_model::{DataKey, Error, HandleNumber, LoadNumber};
+use pagable_world::{EndRefusal, HandleRow, LoadRow, Mode, Owner};
 
 /// Opens a load of a loose handle's node, with an unpinned handle of its own.
 pub fn open(t: &mut Tables, at: HandleAt, key: DataKey) -> Result<LoadNumber, Error>

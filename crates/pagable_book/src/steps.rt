@@ -2,16 +2,17 @@
 
 ghost use Rattle.std.specs.Prelude.{◌≡◌, ℕ, ◌+◌, ◌-◌, ◌^◌, ◌<◌, ◌==◌, ◌&&◌, sum_by, slice_get, slice_set, Some, IfOk, IfErr, OnOk, OnErr, true, false};
 ghost use Rattle.std.specs.List.{remove};
-ghost use Rattle.pagable_book.specs.State.{WellFormed, AreNodes, held, pins, one, is_pinning, is_aside, value_at, is_loose};
-ghost use Rattle.pagable_book.specs.Cells.{cell_of, cells_of, CellsFollow};
-ghost use Rattle.pagable_book.specs.World.{plain, HasCell, joined, turned, rekeyed, Leaves, CannotMake};
-ghost use Rattle.pagable_book.specs.Refusals.{HasRow, IsUnknown, IsOwn, RefusesOwn, RefusesLoose};
+ghost use Rattle.pagable_world.specs.State.{WellFormed, AreNodes, held, pins, one, is_pinning, is_aside, value_at, is_loose};
+ghost use Rattle.pagable_world.specs.Cells.{cell_of, cells_of, CellsFollow};
+ghost use Rattle.pagable_world.specs.World.{plain, HasCell, joined, turned, rekeyed, Leaves, CannotMake};
+ghost use Rattle.pagable_world.specs.Refusals.{HasRow, IsUnknown, IsOwn, RefusesOwn, RefusesLoose};
 ghost use Rattle.pagable_book.specs.Shape.{state_of};
 
-use crate::rows::{HandleAt, HandleRow, Looked, NodeAt, NodeRow};
+use crate::places::{HandleAt, Looked, NodeAt};
 use crate::tables;
 use crate::tables::Tables;
-use pagable_model::{DataKey, Error, HandleNumber, Mode, NodeNumber, OptionalDataKey, Owner};
+use pagable_model::{DataKey, Error, HandleNumber, NodeNumber, OptionalDataKey};
+use pagable_world::{HandleRow, Mode, NodeRow, Owner};
 
 /// The row of a node that has a handle. Its count is small enough to grow.
 pub fn node_of(t: &Tables, node: NodeNumber) -> NodeAt

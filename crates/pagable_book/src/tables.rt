@@ -5,12 +5,13 @@
 
 ghost use Rattle.std.specs.Prelude.{◌≡◌, ℕ, ◌-◌, ◌^◌, ◌<◌, ◌==◌, ◌&&◌, if◌then◌else◌, length, sum_by, slice_get, IfNone, IfSome, Some, nat_lt, true};
 ghost use Rattle.std.specs.List.{AllPairs};
-ghost use Rattle.pagable_book.specs.State.{is_number, is_node, is_load, held, is_pinning, is_loose, one, value_at, has_key, IsHandleBefore, IsNodeBefore, IsLoadBefore};
-ghost use Rattle.pagable_book.specs.Cells.{Recounted};
-ghost use Rattle.pagable_book.specs.declared.rows.NodeRow.{NodeRow};
+ghost use Rattle.pagable_world.specs.State.{is_number, is_node, is_load, held, is_pinning, is_loose, one, value_at, has_key, IsHandleBefore, IsNodeBefore, IsLoadBefore};
+ghost use Rattle.pagable_world.specs.Cells.{Recounted};
+ghost use Rattle.pagable_world.specs.declared.rows.NodeRow.{NodeRow};
 
-use crate::rows::{HandleAt, HandleRow, LoadAt, LoadRow, NodeAt, NodeRow};
-use pagable_model::{HandleNumber, LoadNumber, Mode, NodeNumber, OptionalDataKey};
+use crate::places::{HandleAt, LoadAt, NodeAt};
+use pagable_model::{HandleNumber, LoadNumber, NodeNumber, OptionalDataKey};
+use pagable_world::{HandleRow, LoadRow, Mode, NodeRow};
 
 /// The tables. Only a `Book` says that they are whole.
 #[derive(Drop)]

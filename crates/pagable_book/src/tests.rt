@@ -1,7 +1,8 @@
 //! Runs of calls whose counts were worked out by hand.
 
-use crate::{Beginning, Book, Pinning};
-use pagable_model::{DataKey, Error, HandleNumber, LoadNumber, Mode, NodeNumber, OptionalDataKey};
+use crate::Book;
+use pagable_model::{DataKey, Error, HandleNumber, LoadNumber, NodeNumber, OptionalDataKey};
+use pagable_world::{Beginning, Mode, Pinning};
 use std::test::Fail;
 
 /// The handle that a pin made, if it made one.

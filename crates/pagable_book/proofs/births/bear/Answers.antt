@@ -1,8 +1,8 @@
 use Rattle.std.proofs.Common.{◌≡◌, ◌+◌, ◌++◌, ◌∷◌, [], refl, arith}
 use Rattle.pagable_model.specs.declared.data_key.OptionalDataKey.TheVariants as optional
-use Rattle.pagable_model.specs.declared.rows.Owner.TheVariants as owners
-use Rattle.pagable_book.specs.declared.rows.HandleRow.{HandleRow}
-use Rattle.pagable_book.specs.declared.rows.NodeRow.{NodeRow}
+use Rattle.pagable_world.specs.declared.rows.Owner.TheVariants as owners
+use Rattle.pagable_world.specs.declared.rows.HandleRow.{HandleRow}
+use Rattle.pagable_world.specs.declared.rows.NodeRow.{NodeRow}
 use Rattle.pagable_book.specs.Shape.{state_of}
 use Rattle.pagable_book.proofs.Whole.{whole-born}
 use Rattle.pagable_book.proofs.births.bear.Goals as goal

@@ -1,5 +1,5 @@
 use Rattle.std.proofs.Common.{arith}
-use Rattle.pagable_book.specs.declared.rows.HandleRow.{HandleRow}
+use Rattle.pagable_world.specs.declared.rows.HandleRow.{HandleRow}
 use Rattle.pagable_book.proofs.Order.{smaller-up, greater-from, none-counted, outside}
 use Rattle.pagable_book.proofs.tables.handle_at.Goals as goal
 

@@ -1,5 +1,5 @@
 use Rattle.std.proofs.Common.{arith}
-use Rattle.pagable_book.specs.declared.rows.NodeRow.{NodeRow}
+use Rattle.pagable_world.specs.declared.rows.NodeRow.{NodeRow}
 use Rattle.pagable_book.proofs.Order.{smaller-up-row, greater-from-row, none-counted, outside}
 use Rattle.pagable_book.proofs.tables.node_at.Goals as goal
 

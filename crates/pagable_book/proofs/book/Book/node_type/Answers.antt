@@ -1,5 +1,5 @@
 use Rattle.std.proofs.Common.{refl, ap}
-use Rattle.pagable_book.specs.Cells.{cell_of}
+use Rattle.pagable_world.specs.Cells.{cell_of}
 use Rattle.pagable_book.proofs.Settling.{cell-at}
 use Rattle.pagable_book.proofs.book.Book.node_type.Goals as goal
 

@@ -1,6 +1,36 @@
-//! The rows of the tables, and where a row was found.
+//! The rows of the pager's tables: how a handle holds its node, who gives it up, and what is open.
 
-use pagable_model::{DataKey, HandleNumber, LoadNumber, Mode, NodeNumber, OptionalDataKey, Owner};
+use pagable_model::{DataKey, HandleNumber, LoadNumber, NodeNumber, OptionalDataKey, WorkerNumber};
+
+/// How a handle holds its node.
+#[derive(Clone, Copy, Debug, PartialEq, Eq)]
+pub enum Mode {
+    /// A loose handle that counts as a pin.
+    LoosePinned,
+    /// A loose handle that keeps its cell, and not the cell's value.
+    LooseUnpinned,
+    /// A pin, taken of a loose handle or made with the node.
+    Pinned,
+    /// A handle of a node that never has a key.
+    Shared,
+}
+
+/// Who gives a handle up.
+#[derive(Clone, Copy, Debug, PartialEq, Eq)]
+pub enum Owner {
+    /// The caller of the pager.
+    Caller,
+    /// The value of the node with this number, which refers to the handle's node.
+    Value(NodeNumber),
+    /// The cache of handles by kind and key.
+    Cache,
+    /// The list of cells that wait for page-out.
+    List,
+    /// The open load with this number.
+    Load(LoadNumber),
+    /// The page-out worker with this number.
+    Worker(WorkerNumber),
+}
 
 /// One live node.
 #[derive(Clone, Copy, Debug, PartialEq)]
@@ -41,32 +71,4 @@ pub struct LoadRow {
     pub node: NodeNumber,
     /// The key that the node had as the load began.
     pub key: DataKey,
-}
-
-/// A node's row with its place in the table, from 0 on.
-#[derive(Clone, Copy, Debug)]
-pub struct NodeAt {
-    pub place: usize,
-    pub row: NodeRow,
-}
-
-/// A handle's row with its place in the table, from 0 on.
-#[derive(Clone, Copy, Debug)]
-pub struct HandleAt {
-    pub place: usize,
-    pub row: HandleRow,
-}
-
-/// An open load's row with its place in the table, from 0 on.
-#[derive(Clone, Copy, Debug)]
-pub struct LoadAt {
-    pub place: usize,
-    pub row: LoadRow,
-}
-
-/// A live handle's row with its node's.
-#[derive(Clone, Copy, Debug)]
-pub struct Looked {
-    pub handle: HandleAt,
-    pub node: NodeAt,
 }

@@ -1,4 +1,4 @@
-//! What the book answers.
+//! What the pager's calls answer.
 
 use pagable_model::{DataKey, Error, HandleNumber, LoadNumber};
 

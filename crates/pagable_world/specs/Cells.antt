@@ -2,9 +2,9 @@
 use Rattle.std.specs.Prelude.{ℕ, ◌≡◌, ◌+◌, ◌<◌, List, map, sum_by, Some, slice_get}
 use Rattle.std.specs.List.{AllPairs, remove}
 use Rattle.pagable_model.specs.declared.data_key.OptionalDataKey.{OptionalDataKey}
-use Rattle.pagable_book.specs.State.{is_node, count_at, held, IsNodeBefore}
-use Rattle.pagable_book.specs.declared.rows.NodeRow.{NodeRow}
-use Rattle.pagable_book.specs.declared.rows.HandleRow.{HandleRow}
+use Rattle.pagable_world.specs.State.{is_node, count_at, held, IsNodeBefore}
+use Rattle.pagable_world.specs.declared.rows.NodeRow.{NodeRow}
+use Rattle.pagable_world.specs.declared.rows.HandleRow.{HandleRow}
 
 -- a node by its number, the type of its value and its key
 pub record Cell : Type 0 where

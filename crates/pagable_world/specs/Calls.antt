@@ -7,20 +7,20 @@ use Rattle.pagable_model.specs.declared.data_key.OptionalDataKey.{OptionalDataKe
 use Rattle.pagable_model.specs.declared.numbers.HandleNumber.{HandleNumber}
 use Rattle.pagable_model.specs.declared.numbers.LoadNumber.{LoadNumber}
 use Rattle.pagable_model.specs.declared.numbers.NodeNumber.{NodeNumber}
-use Rattle.pagable_model.specs.declared.rows.Mode.{Mode}
-use Rattle.pagable_model.specs.declared.rows.Mode.TheVariants as modes
-use Rattle.pagable_model.specs.declared.rows.Owner.TheVariants as owners
-use Rattle.pagable_book.specs.State.{is_pinning, is_loose, is_load, pins, has_key}
-use Rattle.pagable_book.specs.Cells.{Cell}
-use Rattle.pagable_book.specs.World.{World, joined, turned, born, rekeyed, opened, HasCell, IsHere, IsAway, Leaves, Closes, Prepared, CannotMake, CannotBear, CannotOpen}
-use Rattle.pagable_book.specs.Refusals.{HasRow, IsUnknown, IsOwn, RefusesOwn, RefusesLoose}
-use Rattle.pagable_book.specs.declared.answers.Pinning.{Pinning}
-use Rattle.pagable_book.specs.declared.answers.Pinning.TheVariants as pinnings
-use Rattle.pagable_book.specs.declared.answers.Beginning.{Beginning}
-use Rattle.pagable_book.specs.declared.answers.Beginning.TheVariants as beginnings
-use Rattle.pagable_book.specs.declared.answers.EndRefusal.{EndRefusal}
-use Rattle.pagable_book.specs.declared.rows.HandleRow.{HandleRow}
-use Rattle.pagable_book.specs.declared.rows.LoadRow.{LoadRow}
+use Rattle.pagable_world.specs.declared.rows.Mode.{Mode}
+use Rattle.pagable_world.specs.declared.rows.Mode.TheVariants as modes
+use Rattle.pagable_world.specs.declared.rows.Owner.TheVariants as owners
+use Rattle.pagable_world.specs.State.{is_pinning, is_loose, is_load, pins, has_key}
+use Rattle.pagable_world.specs.Cells.{Cell}
+use Rattle.pagable_world.specs.World.{World, joined, turned, born, rekeyed, opened, HasCell, IsHere, IsAway, Leaves, Closes, Prepared, CannotMake, CannotBear, CannotOpen}
+use Rattle.pagable_world.specs.Refusals.{HasRow, IsUnknown, IsOwn, RefusesOwn, RefusesLoose}
+use Rattle.pagable_world.specs.declared.answers.Pinning.{Pinning}
+use Rattle.pagable_world.specs.declared.answers.Pinning.TheVariants as pinnings
+use Rattle.pagable_world.specs.declared.answers.Beginning.{Beginning}
+use Rattle.pagable_world.specs.declared.answers.Beginning.TheVariants as beginnings
+use Rattle.pagable_world.specs.declared.answers.EndRefusal.{EndRefusal}
+use Rattle.pagable_world.specs.declared.rows.HandleRow.{HandleRow}
+use Rattle.pagable_world.specs.declared.rows.LoadRow.{LoadRow}
 
 -- a new node with one handle of the caller's, of this mode
 abbrev pub Born : World → ℕ → Mode → Result HandleNumber Error → World → Type 0

@@ -7,14 +7,14 @@ use Rattle.pagable_model.specs.declared.data_key.OptionalDataKey.{OptionalDataKe
 use Rattle.pagable_model.specs.declared.data_key.OptionalDataKey.TheVariants as optional
 use Rattle.pagable_model.specs.declared.numbers.HandleNumber.{HandleNumber}
 use Rattle.pagable_model.specs.declared.numbers.NodeNumber.{NodeNumber}
-use Rattle.pagable_model.specs.declared.rows.Mode.{Mode}
-use Rattle.pagable_model.specs.declared.rows.Mode.TheVariants as modes
-use Rattle.pagable_model.specs.declared.rows.Owner.{Owner}
-use Rattle.pagable_model.specs.declared.rows.Owner.TheVariants as owners
-use Rattle.pagable_book.specs.State.{State, pins}
-use Rattle.pagable_book.specs.Cells.{Cell, cells_of, CellsFollow}
-use Rattle.pagable_book.specs.declared.rows.HandleRow.{HandleRow}
-use Rattle.pagable_book.specs.declared.rows.LoadRow.{LoadRow}
+use Rattle.pagable_world.specs.declared.rows.Mode.{Mode}
+use Rattle.pagable_world.specs.declared.rows.Mode.TheVariants as modes
+use Rattle.pagable_world.specs.declared.rows.Owner.{Owner}
+use Rattle.pagable_world.specs.declared.rows.Owner.TheVariants as owners
+use Rattle.pagable_world.specs.State.{State, pins}
+use Rattle.pagable_world.specs.Cells.{Cell, cells_of, CellsFollow}
+use Rattle.pagable_world.specs.declared.rows.HandleRow.{HandleRow}
+use Rattle.pagable_world.specs.declared.rows.LoadRow.{LoadRow}
 
 -- the tables without counts, which follow from the rows
 pub record World : Type 0 where

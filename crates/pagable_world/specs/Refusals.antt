@@ -4,10 +4,10 @@ use Rattle.std.specs.Prelude.{ℕ, ◌≡◌, ◌≢◌, sum_by, false, Some, sl
 use Rattle.pagable_model.specs.declared.error.Error.{Error}
 use Rattle.pagable_model.specs.declared.error.Error.TheVariants as errors
 use Rattle.pagable_model.specs.declared.numbers.HandleNumber.{HandleNumber}
-use Rattle.pagable_model.specs.declared.rows.Owner.TheVariants as owners
-use Rattle.pagable_book.specs.State.{is_number, is_loose}
-use Rattle.pagable_book.specs.World.{World}
-use Rattle.pagable_book.specs.declared.rows.HandleRow.{HandleRow}
+use Rattle.pagable_world.specs.declared.rows.Owner.TheVariants as owners
+use Rattle.pagable_world.specs.State.{is_number, is_loose}
+use Rattle.pagable_world.specs.World.{World}
+use Rattle.pagable_world.specs.declared.rows.HandleRow.{HandleRow}
 
 -- the handle has this row, at this place
 abbrev pub HasRow : World → HandleNumber → ℕ → HandleRow → Type 0

@@ -1,0 +1,5 @@
+pub mod State
+pub mod Cells
+pub mod World
+pub mod Refusals
+pub mod Calls

@@ -1,0 +1,9 @@
+//! The words in which the pager is spoken of: rows and answers, and in `specs/` when tables are whole, the plain world
+//! that they stand for, and what each call does to it.
+#![tactic(auto)]
+
+pub mod answers;
+pub mod rows;
+
+pub use answers::{Beginning, EndRefusal, Pinning};
+pub use rows::{HandleRow, LoadRow, Mode, NodeRow, Owner};
