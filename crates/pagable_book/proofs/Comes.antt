@@ -25,9 +25,9 @@ use Rattle.pagable_world.specs.Cells.{Cell, CellsFollow}
 use Rattle.pagable_world.specs.World.{World, plain, next_row, joined, turned, enlisted, born, rekeyed, opened, HasCell, IsHere, Leaves, Closes, Prepared, CannotBear}
 use Rattle.pagable_world.specs.Refusals.{HasRow, IsOwn}
 use Rattle.pagable_world.specs.Calls.{Born, PinnedBy, Unpinned, UnpinnedAt, Released, ReleasedAt, Took, KeySet, Begun, HasLoad, Ended, Dropped}
-use Rattle.pagable_world.specs.Values.{values_of, cell_here, here, SameValues, NoValueComes, OnlyItsValueGoes, ValueComes}
+use Rattle.pagable_world.specs.Values.{value_with, values_of, value_of_node, cell_here, here, SameValues, NoValueComes, OnlyItsValueGoes, ValueComes, ValueIsThere}
 use Rattle.pagable_book.proofs.Sums.{sum-set, sum-remove, row-le-sum, pins-le-held, push-there}
-use Rattle.pagable_book.proofs.Here.{is_cell, cells-nodes, no-cell-here, values-here, Once, once-whole, here-at, here-same, here-as-many, here-less, here-pinned, here-still, unpinned-le}
+use Rattle.pagable_book.proofs.Here.{is_cell, cells-nodes, value-le, value-le-one, fitting-parts, no-cell-here, values-here, Once, once-whole, here-at, here-same, here-as-many, here-less, here-pinned, here-still, unpinned-le}
 use Rattle.pagable_world.specs.declared.rows.NodeRow.{NodeRow}
 use Rattle.pagable_world.specs.declared.rows.HandleRow.{HandleRow}
 use Rattle.pagable_world.specs.declared.rows.LoadRow.{LoadRow}
@@ -41,6 +41,24 @@ same-plain old new w w' same = same-here old new w w' (λ fits q. ap (λ (x : Wo
 
 less-here : (fits : ℕ → Bool) (q : ℕ) (old new : State) → WellFormed old → WellFormed new → here fits q (plain new) ≤ here fits q (plain old) → values_of fits q new ≤ values_of fits q old
 less-here fits q old new w w' less = let a = values-here fits q new w' in let b = values-here fits q old w in omega arith
+
+cases_some : (n : ℕ) → (n ≡ 0) ⊎ (0 < n)
+cases_some n = grind arith
+
+-- where no value comes, one that is there after is the one from before
+stays-or-goes : (old new : State) → WellFormed old → ((fits : ℕ → Bool) (q : ℕ) → values_of fits q new ≤ values_of fits q old) → (fits : ℕ → Bool) (q : ℕ) → (values_of fits q new ≡ values_of fits q old) ⊎ (value_of_node q new ≡ 0)
+stays-or-goes old new w less fits q =
+    elim (cases_some (value_of_node q new)) [
+      | inl none ↦ inr none
+      | inr some ↦
+          let le = value-le-one q old w in
+          let all = less (λ _. true) q in
+          let these = less fits q in
+          let rest = less (λ t. not (fits t)) q in
+          let parts = fitting-parts fits q old.nodes in
+          let parts' = fitting-parts fits q new.nodes in
+          inl (omega arith)
+    ]
 
 -- the pins after one more handle, and after a handle's mode has changed
 pushed-pins : (q : ℕ) (rows : List HandleRow) (x : HandleRow) → is_pinning x.mode ≡ false → pins q (rows ++ x ∷ []) ≡ pins q rows
@@ -216,7 +234,7 @@ goes-rekeyed w j cell key w' at step =
 only-its : (old new : State) (h : HandleNumber) (i : ℕ) (row : HandleRow) → WellFormed old → WellFormed new → IsOwn (plain old) h i row → Goes row.node.0 (plain old) (plain new) → OnlyItsValueGoes h old new
 only-its old new h i row w w' own g =
     record {
-      less = λ fits q. less-here fits q old new w w' (g.less fits q);
+      each = stays-or-goes old new w (λ fits q. less-here fits q old new w w' (g.less fits q));
       others = λ fits q other. values-here fits q new w' ∙ g.others fits q (other i row (own.there, own.number)) ∙ sym (values-here fits q old w);
     }
 
@@ -224,7 +242,7 @@ only-none : (old new : State) (h : HandleNumber) → WellFormed old → WellForm
 only-none old new h w w' same =
     let each = same-plain old new w w' same in
     record {
-      less = λ fits q. let e = each.each fits q in omega arith;
+      each = λ fits q. inl (each.each fits q);
       others = λ fits q other. each.each fits q;
     }
 
@@ -273,7 +291,7 @@ goes-close w p load w' c =
     subst G c.node (goes-leave w c.place c.row w' c.there (ap (λ (x : World). x.rows) c.rest) (subst F (sym c.node) c.follows))
 
 none-comes : (old new : State) (node : ℕ) → WellFormed old → WellFormed new → Goes node (plain old) (plain new) → NoValueComes old new
-none-comes old new node w w' g = record { less = λ fits q. less-here fits q old new w w' (g.less fits q) }
+none-comes old new node w w' g = record { each = stays-or-goes old new w (λ fits q. less-here fits q old new w w' (g.less fits q)) }
 
 pub drop-values : (old new : State) (l : LoadNumber) (r : Result (Unit {0}) Error) → WellFormed old → WellFormed new → Dropped (plain old) l r (plain new) → NoValueComes old new
 drop-values old new l (Ok u) w w' (p, load, has, closes) = none-comes old new load.node.0 w w' (goes-close (plain old) p load (plain new) closes)
@@ -290,6 +308,7 @@ bear-comes old new node_type mode (Ok k) w w' s =
     let cell : Cell = record { number = old.last_node + 1; node_type = node_type; key = optional.None } in
     let next : HandleRow = next_row (plain old) node mode owners.Caller in
     record {
+      before = let le = sum_by-le-sum_by (value_with (λ _. true) (old.last_node + 1)) (is_node (old.last_node + 1)) old.nodes (value-le (λ _. true) (old.last_node + 1)) in let f = w.nodes.fresh (old.last_node + 1) (omega arith) in omega arith;
       now = λ fits.
           let q : ℕ = old.last_node + 1 in
           let b : Bool = nat_lt 0 (pins q (born (plain old) node_type mode).rows) in
@@ -382,16 +401,44 @@ end-now fits old i row h p load w' cell w once own node c has =
     let some = subst P node (through-more (plain old) i row own.there) in
     here-pinned fits load.node.0 has.0 w' cell once there has.2 (omega arith)
 
+cases_test : (b : Bool) → (b ≡ true) ⊎ (b ≡ false)
+cases_test true = inl refl
+cases_test false = inr refl
+
+was-there : (fits : ℕ → Bool) (q : ℕ) (b : Bool) (cell : Cell) → cell.number ≡ q → (b || not (has_key cell.key)) ≡ true → cell_here fits q b cell ≡ one (fits cell.node_type)
+was-there fits q b cell number is = grind (arith, nat_tests)
+
+was-away : (q : ℕ) (b : Bool) (cell : Cell) → (b || not (has_key cell.key)) ≡ false → cell_here (λ _. true) q b cell ≡ 0
+was-away q b cell is = grind (arith, nat_tests)
+
+-- the value of a cell comes, or is there already
+comes-or-stays : (old new : State) (q j : ℕ) (cell : Cell) → WellFormed old → slice_get (plain old).cells j ≡ Some cell → cell.number ≡ q → ((fits : ℕ → Bool) → values_of fits q new ≡ one (fits cell.node_type)) → ((fits : ℕ → Bool) (p : ℕ) → p ≢ q → values_of fits p new ≡ values_of fits p old) → ValueIsThere q cell.node_type old new
+comes-or-stays old new q j cell w at number now others =
+    let b : Bool = nat_lt 0 (pins q old.handles) in
+    let its : (fits : ℕ → Bool) → values_of fits q old ≡ cell_here fits q b cell = λ fits. values-here fits q old w ∙ here-at fits b q j (plain old).cells cell ((once-whole old w).each q) at number in
+    elim (cases_test (b || not (has_key cell.key))) [
+      | inl is ↦
+          let same : (fits : ℕ → Bool) → values_of fits q new ≡ values_of fits q old = λ fits. now fits ∙ sym (its fits ∙ was-there fits q b cell number is) in
+          inr (its (λ _. true) ∙ was-there (λ _. true) q b cell number is, record { each = λ fits p. each-of fits p (same fits) (others fits p) })
+      | inr is ↦ inl (record { before = its (λ _. true) ∙ was-away q b cell is; now = now; others = others })
+    ]
+  where
+    each-of : (fits : ℕ → Bool) (p : ℕ) → values_of fits q new ≡ values_of fits q old → (p ≢ q → values_of fits p new ≡ values_of fits p old) → values_of fits p new ≡ values_of fits p old
+    each-of fits p same other =
+        elim (cases_eq p q) [
+          | inl is ↦ let P : ℕ → Type 0 = λ n. values_of fits n new ≡ values_of fits n old in subst P (sym is) same
+          | inr apart ↦ other apart
+        ]
+
 pub end-comes : (old new : State) (l : LoadNumber) (r : Result HandleNumber EndRefusal) → WellFormed old → WellFormed new → Ended (plain old) l r (plain new)
-    → IfOk r (λ _. (p : ℕ) (load : LoadRow) (cell : Cell) → HasLoad (plain old) l p load → HasCell (plain old) load.node cell → ValueComes load.node.0 cell.node_type old new)
+    → IfOk r (λ _. (p : ℕ) (load : LoadRow) (cell : Cell) → HasLoad (plain old) l p load → HasCell (plain old) load.node cell → ValueIsThere load.node.0 cell.node_type old new)
 end-comes old new l (Ok k) w w' (p, load, i, row, has, own, node, number, closes) = λ p' load' cell has' has_cell.
     let same : load ≡ load' = load-once old p p' load load' w has.0 has'.0 (ap (λ (n : LoadNumber). n.0) (has.1 ∙ sym has'.1)) in
-    let P : LoadRow → Type 0 = λ (x : LoadRow). HasCell (plain old) x.node cell → ValueComes x.node.0 cell.node_type old new in
+    let P : LoadRow → Type 0 = λ (x : LoadRow). HasCell (plain old) x.node cell → ValueIsThere x.node.0 cell.node_type old new in
     let here_now : P load = λ at.
-    record {
-      now = λ fits. values-here fits load.node.0 new w' ∙ end-now fits old i row load.handle p load (plain new) cell w (once-whole new w') own node closes at;
-      others = λ fits q other. values-here fits q new w' ∙ end-others fits q old i row load.handle p load (plain new) w own node closes other ∙ sym (values-here fits q old w);
-    } in
+    comes-or-stays old new load.node.0 at.0 cell w at.1 at.2
+    (λ fits. values-here fits load.node.0 new w' ∙ end-now fits old i row load.handle p load (plain new) cell w (once-whole new w') own node closes at)
+    (λ fits q other. values-here fits q new w' ∙ end-others fits q old i row load.handle p load (plain new) w own node closes other ∙ sym (values-here fits q old w)) in
     subst P same here_now has_cell
 end-comes old new l (Err e) w w' s = tt
 

@@ -24,7 +24,7 @@ pub cells-nodes : (q : ℕ) (nodes : List NodeRow) → sum_by (is_cell q) (cells
 cells-nodes q [] = refl
 cells-nodes q (n ∷ nodes) = sum_by-cons (is_cell q) (cell_of n) (cells_of nodes) ∙ ap (λ m. is_node q n + m) (cells-nodes q nodes) ∙ sym (sum_by-cons (is_node q) n nodes)
 
-value-le : (fits : ℕ → Bool) (q : ℕ) (n : NodeRow) → value_with fits q n ≤ is_node q n
+pub value-le : (fits : ℕ → Bool) (q : ℕ) (n : NodeRow) → value_with fits q n ≤ is_node q n
 value-le fits q n = grind (arith, nat_tests)
 
 cell-le : (fits : ℕ → Bool) (q : ℕ) (b : Bool) (cell : Cell) → cell_here fits q b cell ≤ is_cell q cell
@@ -87,6 +87,33 @@ node-le-one s q w = let l = w.nodes.live q in grind (arith, nat_tests)
 -- Whose value is in memory follows from the plain world.
 pub values-here : (fits : ℕ → Bool) (q : ℕ) (s : State) → WellFormed s → values_of fits q s ≡ here fits q (plain s)
 values-here fits q s w = values-cells fits q (pins q s.handles) s.nodes (node-le-one s q w) (w.nodes.counted q)
+
+value-one : (fits : ℕ → Bool) (q : ℕ) (n : NodeRow) → value_with fits q n ≤ value_with (λ _. true) q n
+value-one fits q n = grind (arith, nat_tests)
+
+-- a value of a type that fits is a value
+pub fitting-le : (fits : ℕ → Bool) (q : ℕ) (s : State) → values_of fits q s ≤ values_of (λ _. true) q s
+fitting-le fits q s = sum_by-le-sum_by (value_with fits q) (value_with (λ _. true) q) s.nodes (value-one fits q)
+
+value-parts : (fits : ℕ → Bool) (q : ℕ) (n : NodeRow) → value_with fits q n + value_with (λ t. not (fits t)) q n ≡ value_with (λ _. true) q n
+value-parts fits q n = grind (arith, nat_tests)
+
+parts-step : (a b c s t u : ℕ) → a + b ≡ c → s + t ≡ u → (a + s) + (b + t) ≡ c + u
+parts-step a b c s t u e f = omega arith
+
+-- a value is of a type that fits, or of another
+pub fitting-parts : (fits : ℕ → Bool) (q : ℕ) (nodes : List NodeRow) → sum_by (value_with fits q) nodes + sum_by (value_with (λ t. not (fits t)) q) nodes ≡ sum_by (value_with (λ _. true) q) nodes
+fitting-parts fits q [] = refl
+fitting-parts fits q (n ∷ nodes) =
+    let a = sum_by-cons (value_with fits q) n nodes in
+    let b = sum_by-cons (value_with (λ t. not (fits t)) q) n nodes in
+    let c = sum_by-cons (value_with (λ _. true) q) n nodes in
+    let e = parts-step (value_with fits q n) (value_with (λ t. not (fits t)) q n) (value_with (λ _. true) q n) (sum_by (value_with fits q) nodes) (sum_by (value_with (λ t. not (fits t)) q) nodes) (sum_by (value_with (λ _. true) q) nodes) (value-parts fits q n) (fitting-parts fits q nodes) in
+    omega arith
+
+-- a node has at most one value
+pub value-le-one : (q : ℕ) (s : State) → WellFormed s → values_of (λ _. true) q s ≤ 1
+value-le-one q s w = let le = sum_by-le-sum_by (value_with (λ _. true) q) (is_node q) s.nodes (value-le (λ _. true) q) in let l = node-le-one s q w in omega arith
 
 -- no number is two cells'
 pub record Once (w : World) : Type 0 where

@@ -5,7 +5,7 @@ ghost use Rattle.pagable_world.specs.State.{State, WellFormed, value_at, is_node
 ghost use Rattle.pagable_world.specs.Cells.{Cell};
 ghost use Rattle.pagable_world.specs.World.{plain, greatest, HasCell};
 ghost use Rattle.pagable_world.specs.Calls.{Born, PinnedBy, Unpinned, Released, Counts, KeyIs, AwayIs, NodeIs, PinningIs, Took, KeySet, Begun, HasLoad, LooksLoad, Ended, Dropped};
-ghost use Rattle.pagable_world.specs.Values.{values_of, here, SameValues, NoValueComes, OnlyItsValueGoes, ValueComes};
+ghost use Rattle.pagable_world.specs.Values.{values_of, here, SameValues, NoValueComes, OnlyItsValueGoes, ValueComes, ValueIsThere};
 ghost use Rattle.pagable_world.specs.declared.rows.LoadRow.{LoadRow};
 ghost use Rattle.pagable_book.specs.Shape.{state_of};
 
@@ -225,7 +225,7 @@ impl Book {
     /// the load is closed and no more. An unknown load (NoSuchHandle), NumbersSpent and OutOfMemory change nothing.
     pub fn load_end(&mut self, load: LoadNumber) -> Result<HandleNumber, EndRefusal>
         ensures step { Ended (plain self.old) load result (plain self.new) }
-        ensures comes { IfOk result (λ _. (p : ℕ) (row : LoadRow) (cell : Cell) → HasLoad (plain self.old) load p row → HasCell (plain self.old) row.node cell → ValueComes row.node.0 cell.node_type self.old self.new) }
+        ensures comes { IfOk result (λ _. (p : ℕ) (row : LoadRow) (cell : Cell) → HasLoad (plain self.old) load p row → HasCell (plain self.old) row.node cell → ValueIsThere row.node.0 cell.node_type self.old self.new) }
         ensures goes { OnErr result (NoValueComes self.old self.new) }
     {
         loads::end(&mut self.tables, load)

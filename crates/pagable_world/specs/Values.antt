@@ -1,6 +1,6 @@
 -- Whose value is in memory, before and after a call. `fits` chooses among the types of values: with each choice allowed,
 -- what is said holds of all values, and of those of every type.
-use Rattle.std.specs.Prelude.{ℕ, ◌≡◌, ◌≢◌, ◌≤◌, ◌==◌, ◌&&◌, ◌||◌, Bool, not, sum_by, nat_lt}
+use Rattle.std.specs.Prelude.{ℕ, ◌≡◌, ◌≢◌, ◌==◌, ◌&&◌, ◌||◌, ◌⊎◌, Bool, true, not, sum_by, nat_lt}
 use Rattle.pagable_model.specs.declared.numbers.HandleNumber.{HandleNumber}
 use Rattle.pagable_world.specs.State.{State, one, has_key, pins}
 use Rattle.pagable_world.specs.Cells.{Cell}
@@ -29,16 +29,25 @@ here fits q w = sum_by (cell_here fits q (nat_lt 0 (pins q w.rows))) w.cells
 pub record SameValues (old new : State) : Type 0 where
   pub each : (fits : ℕ → Bool) (q : ℕ) → values_of fits q new ≡ values_of fits q old
 
--- no value comes into memory
+-- the node's value is in memory, or not
+abbrev pub value_of_node : ℕ → State → ℕ
+value_of_node q s = values_of (λ _. true) q s
+
+-- a value in memory stays, or isn't in memory any more; none comes
 pub record NoValueComes (old new : State) : Type 0 where
-  pub less : (fits : ℕ → Bool) (q : ℕ) → values_of fits q new ≤ values_of fits q old
+  pub each : (fits : ℕ → Bool) (q : ℕ) → (values_of fits q new ≡ values_of fits q old) ⊎ (value_of_node q new ≡ 0)
 
 -- No value comes into memory, and at most that of the handle's node goes.
 pub record OnlyItsValueGoes (h : HandleNumber) (old new : State) : Type 0 where
-  pub less : (fits : ℕ → Bool) (q : ℕ) → values_of fits q new ≤ values_of fits q old
+  pub each : (fits : ℕ → Bool) (q : ℕ) → (values_of fits q new ≡ values_of fits q old) ⊎ (value_of_node q new ≡ 0)
   pub others : (fits : ℕ → Bool) (q : ℕ) → ((i : ℕ) (row : HandleRow) → HasRow (plain old) h i row → row.node.0 ≢ q) → values_of fits q new ≡ values_of fits q old
 
--- The node's value is in memory from now on, and is of the node's type. The other values in memory stay, and no other comes.
+-- The node's value comes into memory, of this type. The other values in memory stay, and no other comes.
 pub record ValueComes (node node_type : ℕ) (old new : State) : Type 0 where
+  pub before : value_of_node node old ≡ 0
   pub now : (fits : ℕ → Bool) → values_of fits node new ≡ one (fits node_type)
   pub others : (fits : ℕ → Bool) (q : ℕ) → q ≢ node → values_of fits q new ≡ values_of fits q old
+
+-- the node's value comes into memory, or it is there already and each value stays
+abbrev pub ValueIsThere : ℕ → ℕ → State → State → Type 0
+ValueIsThere node node_type old new = ValueComes node node_type old new ⊎ ((value_of_node node old ≡ 1) × SameValues old new)
