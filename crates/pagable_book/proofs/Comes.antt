@@ -446,3 +446,8 @@ pub end-goes : (old new : State) (l : LoadNumber) (r : Result HandleNumber EndRe
 end-goes old new l (Ok k) w w' s = tt
 end-goes old new l (Err e) w w' (inl stays) = none-comes old new 0 w w' (goes-same 0 (plain old) (plain new) stays.1)
 end-goes old new l (Err e) w w' (inr (closed, (p, load, has, why, closes))) = none-comes old new load.node.0 w w' (goes-close (plain old) p load (plain new) closes)
+
+pub end-stays : (old new : State) (l : LoadNumber) (r : Result HandleNumber EndRefusal) → WellFormed old → WellFormed new → Ended (plain old) l r (plain new) → IfErr r (λ refusal. (refusal.closed ≡ false) → SameValues old new)
+end-stays old new l (Ok k) w w' s = tt
+end-stays old new l (Err e) w w' (inl stays) = λ is_open. same-plain old new w w' stays.1
+end-stays old new l (Err e) w w' (inr (closed, rest)) = λ is_open. absurd (let bad : true ≡ false = sym closed ∙ is_open in cc)

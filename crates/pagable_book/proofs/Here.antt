@@ -7,7 +7,7 @@ use Rattle.std.proofs.lemmas.List.Sums.{sum_by-cons, sum_by_push, sum_by-le-sum_
 use Rattle.pagable_model.specs.declared.data_key.OptionalDataKey.{OptionalDataKey}
 use Rattle.pagable_model.specs.declared.data_key.OptionalDataKey.TheVariants as optional
 use Rattle.pagable_model.specs.declared.numbers.NodeNumber.{NodeNumber}
-use Rattle.pagable_world.specs.State.{State, WellFormed, one, has_key, is_node, count_at, pins, pin_of, held}
+use Rattle.pagable_world.specs.State.{State, WellFormed, one, has_key, is_node, is_pinning, count_at, pins, pin_of}
 use Rattle.pagable_world.specs.Cells.{Cell, cell_of, cells_of}
 use Rattle.pagable_world.specs.World.{World, plain, HasCell, IsHere}
 use Rattle.pagable_world.specs.Values.{value_with, values_of, cell_here, here}
@@ -182,3 +182,10 @@ here-still fits w w' node once cells is pinned =
           let there : slice_get w'.cells at.0 ≡ Some cell = ap (λ (l : List Cell). slice_get l at.0) cells ∙ at.1 in
           here-pinned fits node.0 at.0 w' cell once' there at.2 pinned ∙ sym (here-keyless fits node.0 at.0 w cell once at.1 at.2 keyless.2)
     ]
+
+-- the value of a pinning handle's node is in memory
+pub pinned-value : (s : State) (i : ℕ) (x : HandleRow) (cell : Cell) → WellFormed s → slice_get s.handles i ≡ Some x → HasCell (plain s) x.node cell → is_pinning x.mode ≡ true → values_of (λ _. true) x.node.0 s ≡ 1
+pinned-value s i x cell w at has pinning =
+    let le = row-le-sum (pin_of x.node.0) s.handles i x at in
+    let some : 0 < pins x.node.0 s.handles = grind (arith, nat_tests) in
+    values-here (λ _. true) x.node.0 s w ∙ here-pinned (λ _. true) x.node.0 has.0 (plain s) cell (once-whole s w) has.1 has.2 some

@@ -1,11 +1,11 @@
 //! The book: tables that are whole, and the calls on them.
 
-ghost use Rattle.std.specs.Prelude.{◌≡◌, ℕ, ◌+◌, [], Bool, IfOk, IfNone, IfSome, OnOk, OnErr, length, nat_lt, sum_by};
+ghost use Rattle.std.specs.Prelude.{◌≡◌, ℕ, ◌+◌, [], Bool, IfOk, IfErr, IfNone, IfSome, OnOk, OnErr, length, nat_lt, sum_by, false};
 ghost use Rattle.pagable_world.specs.State.{State, WellFormed, value_at, is_node};
 ghost use Rattle.pagable_world.specs.Cells.{Cell};
 ghost use Rattle.pagable_world.specs.World.{plain, greatest, HasCell};
-ghost use Rattle.pagable_world.specs.Calls.{Born, PinnedBy, Unpinned, Released, Counts, KeyIs, AwayIs, NodeIs, PinningIs, Took, KeySet, Begun, HasLoad, LooksLoad, Ended, Dropped};
-ghost use Rattle.pagable_world.specs.Values.{values_of, here, SameValues, NoValueComes, OnlyItsValueGoes, ValueComes, ValueIsThere};
+ghost use Rattle.pagable_world.specs.Calls.{Born, PinnedBy, Unpinned, Released, Counts, KeyIs, AwayIs, NodeIs, PinningIs, PinsNode, Took, KeySet, Begun, HasLoad, LooksLoad, Ended, Dropped};
+ghost use Rattle.pagable_world.specs.Values.{values_of, value_of_node, here, SameValues, NoValueComes, OnlyItsValueGoes, ValueComes, ValueIsThere};
 ghost use Rattle.pagable_world.specs.declared.rows.LoadRow.{LoadRow};
 ghost use Rattle.pagable_book.specs.Shape.{state_of};
 
@@ -150,6 +150,18 @@ impl Book {
         Ok(tables::pins(looked.handle.row.mode))
     }
 
+    /// The handle's node, if the handle pins it: then its value is in memory.
+    pub fn pinned_node(&self, handle: HandleNumber) -> Result<Option<NodeNumber>, Error>
+        ensures step { PinsNode (plain self.now) handle result }
+        ensures there { IfOk result (λ found. IfSome found (λ node. value_of_node node.0 self.now ≡ 1)) }
+    {
+        let looked = steps::look(&self.tables, handle)?;
+        if !tables::pins(looked.handle.row.mode) {
+            return Ok(None);
+        }
+        Ok(Some(looked.handle.row.node))
+    }
+
     /// The number that the next node will have, or None where all were given.
     pub fn next_node(&self) -> Option<NodeNumber>
         ensures next { IfSome result (λ node. node.0 ≡ self.now.last_node + 1) }
@@ -220,6 +232,18 @@ impl Book {
         Ok(at.row.node)
     }
 
+    /// The node whose value an open load reads, and the type of that value. NoSuchHandle for a load that isn't open.
+    pub fn load_cell(&self, load: LoadNumber) -> Result<(NodeNumber, u32), Error>
+        ensures { LooksLoad (plain self.now) load (λ found row. (found.0 ≡ row.node) × ((cell : Cell) × HasCell (plain self.now) row.node cell × (cell.node_type ≡ found.1))) result }
+    {
+        let at = loads::find(&self.tables, load)?;
+        let number = at.row.node;
+        let own = loads::own_of(&self.tables, at);
+        let node = steps::node_of(&self.tables, own.row.node);
+        let node_type = node.row.node_type;
+        Ok((number, node_type))
+    }
+
     /// Ends a load whose value is installed: the handle by which it was begun is pinned from now on, the answer is one
     /// more handle that pins, and the load is closed. Where that handle is gone (NoSuchHandle) or another's (NotYours),
     /// the load is closed and no more. An unknown load (NoSuchHandle), NumbersSpent and OutOfMemory change nothing.
@@ -227,6 +251,7 @@ impl Book {
         ensures step { Ended (plain self.old) load result (plain self.new) }
         ensures comes { IfOk result (λ _. (p : ℕ) (row : LoadRow) (cell : Cell) → HasLoad (plain self.old) load p row → HasCell (plain self.old) row.node cell → ValueIsThere row.node.0 cell.node_type self.old self.new) }
         ensures goes { OnErr result (NoValueComes self.old self.new) }
+        ensures stays { IfErr result (λ refusal. (refusal.closed ≡ false) → SameValues self.old self.new) }
     {
         loads::end(&mut self.tables, load)
     }
