@@ -1,4 +1,6 @@
 //! The carried types.
 
+pub mod holders;
 pub mod numbers;
+pub mod parts;
 pub mod texts;
