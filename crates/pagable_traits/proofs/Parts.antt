@@ -1,23 +1,21 @@
 -- Values that hold others: what writing their parts one after another adds, and what reading them so gives.
-use Rattle.std.proofs.Common.{◌≡◌, ℕ, zero, suc, ◌+◌, ◌-◌, ◌<◌, ◌≤◌, Bool, true, false, subst, List, [], ◌∷◌, ◌++◌, length, take, drop, get_or, arith, refl, sym, ap, ◌∙◌, append_assoc, Result, Ok, Err, Option, Some, None, inl, inr}
-use Rattle.std.proofs.lemmas.List.{append-nil, take_more}
-use Rattle.std.specs.Prelude.{IfErr, ◌⊎◌, IsTrue}
+use Rattle.std.proofs.Common.{◌≡◌, ℕ, true, false, subst, List, [], ◌∷◌, ◌++◌, refl, sym, ◌∙◌, Result, Ok, Err, Some, None, inl, inr}
+use Rattle.std.proofs.lemmas.List.{append-nil}
+use Rattle.std.specs.Prelude.{IfErr, IsTrue}
 use Rattle.pagable_model.specs.declared.error.Error.{Error}
-use Rattle.pagable_model.specs.declared.error.Error.TheVariants as errors
 use Rattle.pagable_model.specs.declared.numbers.ArcRef.{ArcRef}
 use Rattle.pagable_model.specs.Refusals.{is_writing_fault}
 use Rattle.pagable_model.specs.Steps.{◌>>=◌}
-use Rattle.pagable_model.specs.Basic.{longest, bool_form, length_form}
+use Rattle.pagable_model.specs.Basic.{bool_form}
 use Rattle.pagable_model.specs.Gives.{memory, memory_or, either}
 use Rattle.pagable_flavors.specs.Lengths.{long_or_memory}
-use Rattle.pagable_model.specs.Meaning.{Meaning, pair, sequence, absent, present}
-use Rattle.pagable_model.specs.Shape.{Shape, optional, list, both}
-use Rattle.pagable_model.specs.Form.{none-form, some-form, both-form, list-form, no-forms, more-forms}
-use Rattle.pagable_model.specs.Reading.{Rest, Gets, items}
-use Rattle.pagable_model.specs.Writing.{Out, Nesting, FormAt, FormsAt, Writes, WritesAll, WritesSome, WritesSomeAll, Grows, added, NoForm, NoForms, NoFormOfSome, NoFormsOfSome, Refused, RefusedAll, IsRefusal}
+use Rattle.pagable_model.specs.Meaning.{Meaning, pair, absent, present}
+use Rattle.pagable_model.specs.Shape.{Shape, optional, both}
+use Rattle.pagable_model.specs.Form.{none-form, some-form, both-form}
+use Rattle.pagable_model.specs.Writing.{Out, Nesting, WritesSome, Grows, added, NoForm, Refused, IsRefusal}
 use Rattle.pagable_model.specs.Standing.{Gave, SomeMeaning}
-use Rattle.pagable_traits.specs.Lifted.{MeansOption, means-none, means-some, MeanAll, mean-none, mean-more, MeansList, MeansPair, items_have_meanings}
-use Rattle.pagable_traits.proofs.Writing.{out_is, grows_refl, grows_trans, grows_writes, grows_some, then, refused_memory, only_memory}
+use Rattle.pagable_traits.specs.Lifted.{MeansOption, means-none, means-some, MeansPair}
+use Rattle.pagable_traits.proofs.Writing.{out_is, then}
 
 -- ---- bytes, added
 

@@ -1,11 +1,10 @@
 -- What writing a part adds, and what has no form.
-use Rattle.std.proofs.Common.{◌≡◌, ℕ, Bool, true, false, subst, ◌<◌, ◌≤◌, ◌-◌, ◌^◌, List, [], ◌∷◌, ◌++◌, length, arith, refl, sym, ap, ◌∙◌, append_assoc, Result, Ok, Err, inl, inr}
+use Rattle.std.proofs.Common.{◌≡◌, ℕ, false, subst, ◌<◌, ◌≤◌, List, [], ◌∷◌, ◌++◌, length, arith, refl, sym, ap, ◌∙◌, append_assoc, Result, Ok, Err, inl, inr}
 use Rattle.std.proofs.lemmas.List.{append-nil}
-use Rattle.std.specs.Prelude.{IfErr, ◌⊎◌, IsTrue}
-use Rattle.std.specs.Int.{Width, w16, w64}
+use Rattle.std.specs.Prelude.{IfErr, IsTrue}
+use Rattle.std.specs.Int.{Width}
 use Rattle.std.specs.Str.{IsUtf8}
 use Rattle.pagable_model.specs.declared.error.Error.{Error}
-use Rattle.pagable_model.specs.declared.error.Error.TheVariants as errors
 use Rattle.pagable_model.specs.declared.numbers.ArcRef.{ArcRef}
 use Rattle.pagable_model.specs.Refusals.{is_writing_fault}
 use Rattle.pagable_model.specs.Numbers.{bound, unsigned_form}
@@ -17,7 +16,7 @@ use Rattle.pagable_model.specs.Meaning as meanings
 use Rattle.pagable_model.specs.Shape.{Shape, unsigned}
 use Rattle.pagable_model.specs.Shape as shapes
 use Rattle.pagable_model.specs.Form.{unsigned-form, text-form, reference-form}
-use Rattle.pagable_model.specs.Writing.{Out, Nesting, FormAt, Writes, WritesSome, Grows, added, kind_of_arc, NoForm, NoFormOfSome, Refused, IsRefusal}
+use Rattle.pagable_model.specs.Writing.{Out, Nesting, FormAt, Writes, WritesSome, Grows, added, kind_of_arc, NoForm, Refused, IsRefusal}
 use Rattle.pagable_model.specs.Standing.{Is}
 
 pub out_is : (b c : List ℕ) (r s : List ArcRef) → b ≡ c → r ≡ s → (let x : Out = record { bytes = b; refs = r } in x) ≡ (let y : Out = record { bytes = c; refs = s } in y)
@@ -61,7 +60,7 @@ writes_unsigned n w x old bytes lt e = writes_is number x n (unsigned w) old _ (
 memory_is_no_fault : (e : Error) → memory e → is_writing_fault e ≡ false
 memory_is_no_fault e h = let P : Error → Type 0 = λ x. is_writing_fault x ≡ false in subst P (sym h) refl
 
-memory_refuses : (e : Error) (M : Meaning ArcRef → Type 0) (n : Nesting) (s : Shape) → memory e → Refused M n s e
+pub memory_refuses : (e : Error) (M : Meaning ArcRef → Type 0) (n : Nesting) (s : Shape) → memory e → Refused M n s e
 memory_refuses e M n s h = λ fault. let none = memory_is_no_fault e h in absurd cc
 
 -- want of memory says nothing of the value

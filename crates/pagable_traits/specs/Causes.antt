@@ -2,7 +2,6 @@
 use Rattle.std.specs.Prelude.{◌≡◌, false, refl}
 use Rattle.std.proofs.Common.{subst, sym, inl, inr}
 use Rattle.pagable_model.specs.declared.error.Error.{Error}
-use Rattle.pagable_model.specs.declared.error.Error.TheVariants as errors
 use Rattle.pagable_model.specs.Refusals.{is_reading_fault, is_writing_fault}
 use Rattle.pagable_model.specs.Gives.{never, memory, memory_or, either}
 

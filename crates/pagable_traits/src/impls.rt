@@ -1,6 +1,7 @@
 //! The carried types.
 
 pub mod holders;
+pub mod lists;
 pub mod numbers;
 pub mod parts;
 pub mod texts;

@@ -21,6 +21,11 @@ pub trait Reader {
         ensures place { result ≡ (track self.now).position }
         ensures within { result ≤ length (track self.now).all };
 
+    /// How many bytes are left.
+    fn size_hint(&self) -> usize
+        ensures bytes { result ≡ length (left (track self.now)) }
+        ensures within { (track self.now).position ≤ length (track self.now).all };
+
     /// Goes to a place that isn't past the end.
     fn set_position(&mut self, position: usize)
         requires { position ≤ length (track self.old).all }
@@ -53,6 +58,10 @@ impl Reader for PagableSlice<'_> {
 
     fn position(&self) -> usize {
         PagableSlice::position(self)
+    }
+
+    fn size_hint(&self) -> usize {
+        PagableSlice::size_hint(self)
     }
 
     fn set_position(&mut self, position: usize) {
