@@ -8,6 +8,9 @@ use Rattle.pagable_model.specs.Gives.{never, memory, memory_or, either}
 pub never_is_own_reading : (e : Error) → never e → is_reading_fault e ≡ false
 never_is_own_reading e h = absurd h
 
+pub never_is_own_writing : (e : Error) → never e → is_writing_fault e ≡ false
+never_is_own_writing e h = absurd h
+
 pub memory_is_own_reading : (e : Error) → memory e → is_reading_fault e ≡ false
 memory_is_own_reading e h = let P : Error → Type 0 = λ x. is_reading_fault x ≡ false in subst P (sym h) refl
 

@@ -29,8 +29,7 @@ pub fn write_flag<E: Env, S: PagableSerializer<E>>(
     serializer.serde().write_bool(flag)
 }
 
-/// Writes how many items follow. TooLong above 4,294,967,295, and then nothing was written; else refused by want of
-/// memory alone.
+/// Writes how many items follow. TooLong above 4,294,967,295; else refused by want of memory alone.
 #[tactic(auto, using(crate::proofs::Writing::parts, crate::proofs::Parts::steps))]
 pub fn write_count<E: Env, S: PagableSerializer<E>>(
     count: usize,
