@@ -3,9 +3,9 @@
 
     tools/original_rows.py original.jsonl > crates/replay/data/original.txt
 
-Each line of the input is a JSON object: a value that the original wrote ("op": "enc"), or an input that it read ("op":
-"dec"). docs/TESTING.md says what the lines of the output mean, and how a type is added: by its name in CARRIED, and by
-a case of `form` and of `shown` where it is a new kind of type.
+Each line of the input is a JSON object: a value that the original wrote ("op": "enc"), an input that it read ("op":
+"dec"), or a tree of blobs that it stored ("op": "blob"). docs/TESTING.md says what the lines of the output mean, and how
+a type is added: by its name in CARRIED, and by a case of `form` and of `shown` where it is a new kind of type.
 
 The original's own bytes check `form`: a line that it wrote and `form` doesn't give ends the program.
 """
@@ -177,15 +177,29 @@ def row(line):
     return f"{name} read {data} {accepted(name, line['value'], used)}"
 
 
+def blob_rows(line):
+    """A line for each blob, under the hash that can be worked out by hand; the others aren't there yet."""
+    if line["hash"] != "weigh":
+        return
+    for blob in line["blobs"]:
+        children = ":" + ",".join(blob["arcs"]) if blob["arcs"] else ""
+        yield f"weigh wrote {blob['data_hex'] or '-'}{children} key {blob['key']}"
+
+
 def main():
     print("# What the original crate wrote and read, by tools/original_rows.py. docs/TESTING.md says what a line means.")
+    blobs = {}
     with open(sys.argv[1], encoding="utf-8") as lines:
         for text in lines:
             line = json.loads(text)
-            if line.get("type") in CARRIED and not line.get("differs"):
+            if line["op"] == "blob":
+                blobs.update(dict.fromkeys(blob_rows(line)))
+            elif line.get("type") in CARRIED and not line.get("differs"):
                 made = row(line)
                 if made is not None:
                     print(made)
+    for made in blobs:
+        print(made)
 
 
 main()

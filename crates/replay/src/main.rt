@@ -4,6 +4,7 @@
 
 pub mod answers;
 pub mod basic;
+pub mod blobs;
 pub mod carried;
 pub mod counts;
 pub mod lines;
