@@ -179,7 +179,7 @@ fn try_call(alloc: Global, pager: &mut TextPager, call: Call) -> Result<Answer, 
 }
 
 /// Makes a call, and gives what it answers.
-pub fn answer(alloc: Global, pager: &mut TextPager, call: Call) -> Answer {
+pub fn answer_to(alloc: Global, pager: &mut TextPager, call: Call) -> Answer {
     match try_call(alloc, pager, call) {
         Ok(answer) => answer,
         Err(refusal) => Answer::Refused(refusal),

@@ -2,7 +2,7 @@
 //! 1; an entry of the list and an open load have a handle of their own. The key of a text is the sum of its bytes times
 //! their places, of which 8 stand before it and one holds its length.
 
-use crate::calls::{Answer, Call, answer, empty, text};
+use crate::calls::{Answer, Call, answer_to, empty, text};
 use pagable::{DataKey, Error, HandleNumber, LoadNumber, NodeNumber};
 use std::alloc::Global;
 use std::process::Abort;
@@ -34,7 +34,7 @@ fn run<const N: usize>(
     let mut pager = empty(alloc);
     let rows = Vec::from_array(alloc, rows)?;
     for (call, wanted) in rows {
-        assert_eq!(rt; answer(alloc, &mut pager, call), wanted, "at {call:?}");
+        assert_eq!(rt; answer_to(alloc, &mut pager, call), wanted, "at {call:?}");
     }
     pager.is_whole();
     Ok(())

@@ -13,9 +13,9 @@ use std::fmt::Debug;
 type AnyEnv = TextEnv<WeighHash>;
 
 /// What comes of an input of the type `T`.
-fn replay_as<T>(alloc: Global, input: &[u8]) -> anyhow::Result<Answer>
+fn replay_as<'de, T>(alloc: Global, input: &'de [u8]) -> anyhow::Result<Answer>
 where
-    T: PagableSerialize<AnyEnv> + PagableDeserialize<'static, AnyEnv> + Debug + Drop,
+    T: PagableSerialize<AnyEnv> + PagableDeserialize<'de, AnyEnv> + Debug + Drop,
 {
     let env = AnyEnv::new();
     let mut source = PagableDeserializerImpl::new(input, &[], NoReferences::new(&env));
