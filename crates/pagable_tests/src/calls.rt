@@ -140,13 +140,20 @@ fn read(alloc: Global, pager: &mut TextPager, call: Call) -> Result<Option<Answe
     Ok(Some(answer))
 }
 
+fn new_loose(alloc: Global, pager: &mut TextPager, text: &str) -> Result<Answer, Error> {
+    let node = TextNode::new(alloc, text)?;
+    let handle = pager.new_loose(alloc, node).map_err(|refused| refused.0)?;
+    Ok(Answer::Handle(handle))
+}
+
+fn page_out(alloc: Global, pager: &mut TextPager) -> Answer {
+    done(paging::page_out_pending(alloc, pager))
+}
+
 /// Makes a call that changes cells, and answers None for another one.
 fn step(alloc: Global, pager: &mut TextPager, call: Call) -> Result<Option<Answer>, Error> {
     let answer = match call {
-        Call::NewLoose(text) => match pager.new_loose(alloc, TextNode::new(alloc, text)?) {
-            Ok(handle) => Answer::Handle(handle),
-            Err((refusal, _)) => Answer::Refused(refusal),
-        },
+        Call::NewLoose(text) => new_loose(alloc, pager, text)?,
         Call::Pin(handle) => match pager.pin(handle)? {
             Pinning::Pinned(pinned) => Answer::Handle(pinned),
             Pinning::NeedsLoad(key) => Answer::NeedsLoad(key.get()),
@@ -161,7 +168,7 @@ fn step(alloc: Global, pager: &mut TextPager, call: Call) -> Result<Option<Answe
             Some(entry) => Answer::Handle(entry),
             None => Answer::NoHandle,
         },
-        Call::PageOut => done(paging::page_out_pending(alloc, pager)),
+        Call::PageOut => page_out(alloc, pager),
         _ => return Ok(None),
     };
     Ok(Some(answer))
