@@ -2,8 +2,6 @@
 #![tactic(auto)]
 
 pub mod paging;
-#[cfg(test)]
-mod tests;
 pub mod text;
 
 pub use text::{TextEnv, TextNode};
