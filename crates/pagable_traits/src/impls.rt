@@ -1,4 +1,9 @@
 //! The carried types.
 
+pub mod basic;
+pub mod holders;
+pub mod lists;
 pub mod numbers;
+pub mod parts;
+pub mod signed;
 pub mod texts;
