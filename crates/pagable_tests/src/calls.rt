@@ -11,7 +11,7 @@ use std::alloc::{AllocError, Global};
 pub type TextPager = Pager<TextEnv<WeighHash>, InMemoryBlobs<TextEnv<WeighHash>>>;
 
 /// A call of the pager.
-#[derive(Clone, Copy, Debug, PartialEq)]
+#[derive(Clone, Copy)]
 pub enum Call {
     NewLoose(&'static str),
     Pin(HandleNumber),
@@ -36,7 +36,7 @@ pub enum Call {
 }
 
 /// What a call answers.
-#[derive(Debug, PartialEq, Drop)]
+#[derive(PartialEq, Drop)]
 pub enum Answer {
     Done,
     Refused(Error),

@@ -25,11 +25,15 @@ const LOAD: LoadNumber = LoadNumber(1);
 
 const NEXT_LOAD: LoadNumber = LoadNumber(2);
 
-/// Makes the calls of a table on an empty pager, and compares their answers.
+/// Makes the calls of a table on an empty pager, and compares their answers. A failure names the row alone: a `Debug` of calls and
+/// answers would cost more of the check than all these tests.
 fn run(rt: &impl Abort, alloc: Global, rows: Vec<(Call, Answer)>) {
     let mut pager = empty(alloc);
-    for (call, wanted) in rows {
-        assert_eq!(rt; answer_to(alloc, &mut pager, call), wanted, "at {call:?}");
+    for (place, (call, wanted)) in rows.into_iter().enumerate() {
+        assert!(rt;
+            answer_to(alloc, &mut pager, call) == wanted,
+            "row {place} from 0"
+        );
     }
     pager.is_whole();
 }
