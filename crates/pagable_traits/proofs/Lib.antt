@@ -3,3 +3,4 @@ pub mod Reading
 pub mod Parts
 pub mod Items
 pub mod Slices
+pub mod Collecting

@@ -1,8 +1,10 @@
 //! The carried types.
 
+pub mod collecting;
 pub mod holders;
 pub mod lists;
 pub mod numbers;
 pub mod parts;
 pub mod slices;
+pub mod small;
 pub mod texts;
