@@ -4,12 +4,11 @@
 
 pub mod births;
 pub mod book;
+pub mod calls;
 pub mod listing;
 pub mod loads;
 pub mod places;
 pub mod steps;
 pub mod tables;
-#[cfg(test)]
-mod tests;
 
 pub use book::Book;

@@ -4,8 +4,6 @@
 pub mod nested;
 pub mod paging;
 pub mod storages;
-#[cfg(test)]
-mod tests;
 pub mod text;
 
 pub use nested::{Nested, NestedEnv};

@@ -2,3 +2,5 @@ pub mod Writing
 pub mod Reading
 pub mod Parts
 pub mod Items
+pub mod Slices
+pub mod Collecting

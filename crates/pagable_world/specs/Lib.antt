@@ -2,4 +2,5 @@ pub mod State
 pub mod Cells
 pub mod World
 pub mod Refusals
+pub mod Values
 pub mod Calls

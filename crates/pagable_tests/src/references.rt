@@ -1,4 +1,4 @@
-//! A reference is written and read by the concrete serializer and deserializer, and blobs have their keys.
+//! A reference is written and read by the concrete serializer and deserializer.
 
 ghost use Rattle.std.specs.Prelude.{◌≡◌, refl};
 ghost use Rattle.pagable_model.specs.Gives.{memory, never};
@@ -7,13 +7,10 @@ ghost use Rattle.pagable_model.specs.Shape.{reference, nothing};
 ghost use Rattle.pagable_model.specs.Standing.{Is};
 ghost use Rattle.pagable_traits.specs.Causes.{memory_is_own_writing, never_is_own_reading};
 
-use crate::context::{PagableDeserializerImpl, PagableSerializerImpl, References};
-use crate::storage::data::PagableData;
-use crate::storage::weigh::WeighHash;
-use pagable_flavors::{DataKey, Error};
-use pagable_traits::{
-    ArcRef, Carried, Env, HandleNumber, Kind, NodeNumber, PagableDeserialize, PagableDeserializer,
-    PagableSerialize, PagableSerializer,
+use pagable::{
+    ArcRef, Carried, DataKey, Env, Error, HandleNumber, Kind, NodeNumber, PagableDeserialize,
+    PagableDeserializer, PagableDeserializerImpl, PagableSerialize, PagableSerializer,
+    PagableSerializerImpl, References, WeighHash,
 };
 use std::alloc::Global;
 use std::test::Fail;
@@ -143,22 +140,5 @@ fn a_reference_is_written_as_no_byte(rt: HostRuntime) -> Result<(), Fail> {
     let data = out.finish().ok().ok_or("refused")?;
     assert_eq!(rt; data.bytes.len(), 0);
     assert_eq!(rt; data.arcs.as_slice(), [held.arc].as_slice());
-    Ok(())
-}
-
-#[test]
-fn keys_by_weight(rt: HostRuntime) -> Result<(), Fail> {
-    let alloc = rt.alloc();
-    // The preimage is 01, seven 00, 01, 02, fifteen 00: 1·1 + 9·1 + 10·2.
-    let child = PagableData {
-        bytes: vec![in alloc; 1u8]?,
-        arcs: vec![in alloc; key(2)?]?,
-    };
-    assert_eq!(rt; child.compute_key::<WeighHash>().get(), 30);
-    let nothing = PagableData {
-        bytes: Vec::new(alloc),
-        arcs: Vec::new(alloc),
-    };
-    assert_eq!(rt; nothing.compute_key::<WeighHash>().get(), 1);
     Ok(())
 }
