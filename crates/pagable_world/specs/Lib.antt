@@ -3,3 +3,10 @@ pub mod Cells
 pub mod World
 pub mod Refusals
 pub mod Calls
+pub mod Words
+pub mod Least
+pub mod Kinds
+pub mod Whole
+pub mod Causes
+pub mod Falls
+pub mod Handles
