@@ -109,16 +109,18 @@ module _ (rows : List HandleRow) (cells : List Cell) (entries : List HandleRow) 
   stays s t within closed = sum-zero (only_in (more s) t) rows (λ h among. part h among (s h.number.0) refl (nat_lt 0 (sum_by (follows (lost s) h.number.0) rows)) refl)
     where
       owned : (h : HandleRow) → Among rows h → 0 < sum_by (follows (lost s) h.number.0) rows → t h.number.0 ≡ true
-      owned h among some =
-          let found = counted (follows (lost s) h.number.0) rows some in
-          let both = one-true _ found.2 in
-          let number : found.0.number.0 ≡ h.number.0 = same-number _ _ (left-true _ _ both) in
-          let value = owner-of (lost s) found.0.owner (right-true _ _ both) in
-          let zero = closed value.0 (wider s t value.0 within value.2) in
-          let at = at-most-sum (owned_outside t value.0) rows found.0 found.1 in
-          let is = value.1 in
-          let it : t found.0.number.0 ≡ true = grind (arith, nat_tests) in
-          sym (ap t number) ∙ it
+      owned h among some = of-row h (counted (follows (lost s) h.number.0) rows some)
+        where
+          of-value : (h x : HandleRow) → Among rows x → x.number.0 ≡ h.number.0 → (n : ℕ) × (is_of_value n x.owner ≡ true) × (lost s n ≡ true) → t h.number.0 ≡ true
+          of-value h x among number (n, is, goes) =
+              let none : sum_by (owned_outside t n) rows ≡ 0 = closed n (wider s t n within goes) in
+              let at : owned_outside t n x ≤ sum_by (owned_outside t n) rows = at-most-sum (owned_outside t n) rows x among in
+              let it : t x.number.0 ≡ true = grind (arith, nat_tests) in
+              sym (ap t number) ∙ it
+          of-row : (h : HandleRow) → (x : HandleRow) × Among rows x × (0 < follows (lost s) h.number.0 x) → t h.number.0 ≡ true
+          of-row h (x, among, some) =
+              let both : (x.number.0 == h.number.0 && owner_goes (lost s) x.owner) ≡ true = one-true _ some in
+              of-value h x among (same-number _ _ (left-true _ _ both)) (owner-of (lost s) x.owner (right-true _ _ both))
       part : (h : HandleRow) → Among rows h → (a : Bool) → s h.number.0 ≡ a → (b : Bool) → nat_lt 0 (sum_by (follows (lost s) h.number.0) rows) ≡ b → only_in (more s) t h ≡ 0
       part h among true e b f = let c = inside s t h within among e in grind (arith, nat_tests)
       part h among false e true f = let c = owned h among (grind (arith, nat_tests)) in grind (arith, nat_tests)
