@@ -10,3 +10,6 @@ pub mod Whole
 pub mod Causes
 pub mod Falls
 pub mod Handles
+pub mod Storing
+pub mod Loads
+pub mod Seen
