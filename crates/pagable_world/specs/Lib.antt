@@ -13,3 +13,6 @@ pub mod Handles
 pub mod Storing
 pub mod Loads
 pub mod Seen
+pub mod Pages
+pub mod Steps
+pub mod Stands
