@@ -16,3 +16,7 @@ pub mod Seen
 pub mod Pages
 pub mod Steps
 pub mod Stands
+pub mod LoadSteps
+pub mod Met
+pub mod WorkerSteps
+pub mod Events
