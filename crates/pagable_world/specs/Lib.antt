@@ -20,3 +20,9 @@ pub mod LoadSteps
 pub mod Met
 pub mod WorkerSteps
 pub mod Events
+pub mod Premises
+pub mod Runs
+pub mod Order
+pub mod Bounds
+pub mod Interleaved
+pub mod Headline
