@@ -6,4 +6,5 @@ pub mod lists;
 pub mod numbers;
 pub mod parts;
 pub mod signed;
+pub mod static_value;
 pub mod texts;
