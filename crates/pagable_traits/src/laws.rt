@@ -22,8 +22,8 @@ use crate::env::Env;
 use crate::impls::static_value::{HasStaticValueRegistry, StaticValue};
 use crate::traits::{Carried, PagableDeserialize, PagableSerialize};
 
-/// A `bool` is spelled as a flag, means itself, and is refused by want of memory alone, and never
-/// on reading.
+/// A `bool` is spelled as a flag and means itself. Writing wants memory at most;
+/// reading has no cause of its own.
 pub fn bool_is_carried<E: Env>()
     ensures shape { (e : E) → ⟦<bool as Carried<E>>⟧.shape e ≡ flag }
     ensures means { (b : Bool) (m : Meaning Reference) → ⟦<bool as Carried<E>>⟧.means b m ↔ (m ≡ meanings.flag b) }
@@ -31,8 +31,8 @@ pub fn bool_is_carried<E: Env>()
     ensures reads { (e : Refusal) → ⟦<bool as PagableDeserialize<'static, E>>⟧.read_causes e ↔ never e }
 {}
 
-/// A `char` is spelled as a text of one character, means its code, and is refused by want of memory alone, and never
-/// on reading.
+/// A `char` is spelled as a text of one character and means its code. Writing wants memory at most;
+/// reading has no cause of its own.
 pub fn char_is_carried<E: Env>()
     ensures shape { (e : E) → ⟦<char as Carried<E>>⟧.shape e ≡ letter }
     ensures means { (c : ℕ) (m : Meaning Reference) → ⟦<char as Carried<E>>⟧.means c m ↔ (m ≡ number c) }
@@ -40,8 +40,8 @@ pub fn char_is_carried<E: Env>()
     ensures reads { (e : Refusal) → ⟦<char as PagableDeserialize<'static, E>>⟧.read_causes e ↔ never e }
 {}
 
-/// A `u8` is spelled as an unsigned number of 8 bits, means itself, and is refused by want of memory alone, and never
-/// on reading.
+/// A `u8` is spelled as an unsigned number of 8 bits and means itself. Writing wants memory at most;
+/// reading has no cause of its own.
 pub fn u8_is_carried<E: Env>()
     ensures shape { (e : E) → ⟦<u8 as Carried<E>>⟧.shape e ≡ unsigned w8 }
     ensures means { (n : ℕ) (m : Meaning Reference) → ⟦<u8 as Carried<E>>⟧.means n m ↔ (m ≡ number n) }
@@ -49,8 +49,8 @@ pub fn u8_is_carried<E: Env>()
     ensures reads { (e : Refusal) → ⟦<u8 as PagableDeserialize<'static, E>>⟧.read_causes e ↔ never e }
 {}
 
-/// A `u16` is spelled as an unsigned number of 16 bits, means itself, and is refused by want of memory alone, and never
-/// on reading.
+/// A `u16` is spelled as an unsigned number of 16 bits and means itself. Writing wants memory at most;
+/// reading has no cause of its own.
 pub fn u16_is_carried<E: Env>()
     ensures shape { (e : E) → ⟦<u16 as Carried<E>>⟧.shape e ≡ unsigned w16 }
     ensures means { (n : ℕ) (m : Meaning Reference) → ⟦<u16 as Carried<E>>⟧.means n m ↔ (m ≡ number n) }
@@ -58,8 +58,8 @@ pub fn u16_is_carried<E: Env>()
     ensures reads { (e : Refusal) → ⟦<u16 as PagableDeserialize<'static, E>>⟧.read_causes e ↔ never e }
 {}
 
-/// A `u32` is spelled as an unsigned number of 32 bits, means itself, and is refused by want of memory alone, and never
-/// on reading.
+/// A `u32` is spelled as an unsigned number of 32 bits and means itself. Writing wants memory at most;
+/// reading has no cause of its own.
 pub fn u32_is_carried<E: Env>()
     ensures shape { (e : E) → ⟦<u32 as Carried<E>>⟧.shape e ≡ unsigned w32 }
     ensures means { (n : ℕ) (m : Meaning Reference) → ⟦<u32 as Carried<E>>⟧.means n m ↔ (m ≡ number n) }
@@ -67,8 +67,8 @@ pub fn u32_is_carried<E: Env>()
     ensures reads { (e : Refusal) → ⟦<u32 as PagableDeserialize<'static, E>>⟧.read_causes e ↔ never e }
 {}
 
-/// A `u64` is spelled as an unsigned number of 64 bits, means itself, and is refused by want of memory alone, and never
-/// on reading.
+/// A `u64` is spelled as an unsigned number of 64 bits and means itself. Writing wants memory at most;
+/// reading has no cause of its own.
 pub fn u64_is_carried<E: Env>()
     ensures shape { (e : E) → ⟦<u64 as Carried<E>>⟧.shape e ≡ unsigned w64 }
     ensures means { (n : ℕ) (m : Meaning Reference) → ⟦<u64 as Carried<E>>⟧.means n m ↔ (m ≡ number n) }
@@ -76,8 +76,8 @@ pub fn u64_is_carried<E: Env>()
     ensures reads { (e : Refusal) → ⟦<u64 as PagableDeserialize<'static, E>>⟧.read_causes e ↔ never e }
 {}
 
-/// A `u128` is spelled as an unsigned number of 128 bits, means itself, and is refused by want of memory alone, and never
-/// on reading.
+/// A `u128` is spelled as an unsigned number of 128 bits and means itself. Writing wants memory at most;
+/// reading has no cause of its own.
 pub fn u128_is_carried<E: Env>()
     ensures shape { (e : E) → ⟦<u128 as Carried<E>>⟧.shape e ≡ unsigned w128 }
     ensures means { (n : ℕ) (m : Meaning Reference) → ⟦<u128 as Carried<E>>⟧.means n m ↔ (m ≡ number n) }
@@ -85,8 +85,8 @@ pub fn u128_is_carried<E: Env>()
     ensures reads { (e : Refusal) → ⟦<u128 as PagableDeserialize<'static, E>>⟧.read_causes e ↔ never e }
 {}
 
-/// A `usize` is spelled as an unsigned number of 64 bits, means itself, and is refused by want of memory alone, and never
-/// on reading.
+/// A `usize` is spelled as an unsigned number of 64 bits and means itself. Writing wants memory at most;
+/// reading has no cause of its own.
 pub fn usize_is_carried<E: Env>()
     ensures shape { (e : E) → ⟦<usize as Carried<E>>⟧.shape e ≡ unsigned w64 }
     ensures means { (n : ℕ) (m : Meaning Reference) → ⟦<usize as Carried<E>>⟧.means n m ↔ (m ≡ number n) }
@@ -94,8 +94,8 @@ pub fn usize_is_carried<E: Env>()
     ensures reads { (e : Refusal) → ⟦<usize as PagableDeserialize<'static, E>>⟧.read_causes e ↔ never e }
 {}
 
-/// An `i8` is spelled as a signed number of 8 bits, means itself, and is refused by want of memory alone, and never
-/// on reading.
+/// An `i8` is spelled as a signed number of 8 bits and means itself. Writing wants memory at most;
+/// reading has no cause of its own.
 pub fn i8_is_carried<E: Env>()
     ensures shape { (e : E) → ⟦<i8 as Carried<E>>⟧.shape e ≡ signed w8 }
     ensures means { (z : ℤ) (m : Meaning Reference) → ⟦<i8 as Carried<E>>⟧.means z m ↔ (m ≡ integer z) }
@@ -103,8 +103,8 @@ pub fn i8_is_carried<E: Env>()
     ensures reads { (e : Refusal) → ⟦<i8 as PagableDeserialize<'static, E>>⟧.read_causes e ↔ never e }
 {}
 
-/// An `i16` is spelled as a signed number of 16 bits, means itself, and is refused by want of memory alone, and never
-/// on reading.
+/// An `i16` is spelled as a signed number of 16 bits and means itself. Writing wants memory at most;
+/// reading has no cause of its own.
 pub fn i16_is_carried<E: Env>()
     ensures shape { (e : E) → ⟦<i16 as Carried<E>>⟧.shape e ≡ signed w16 }
     ensures means { (z : ℤ) (m : Meaning Reference) → ⟦<i16 as Carried<E>>⟧.means z m ↔ (m ≡ integer z) }
@@ -112,8 +112,8 @@ pub fn i16_is_carried<E: Env>()
     ensures reads { (e : Refusal) → ⟦<i16 as PagableDeserialize<'static, E>>⟧.read_causes e ↔ never e }
 {}
 
-/// An `i32` is spelled as a signed number of 32 bits, means itself, and is refused by want of memory alone, and never
-/// on reading.
+/// An `i32` is spelled as a signed number of 32 bits and means itself. Writing wants memory at most;
+/// reading has no cause of its own.
 pub fn i32_is_carried<E: Env>()
     ensures shape { (e : E) → ⟦<i32 as Carried<E>>⟧.shape e ≡ signed w32 }
     ensures means { (z : ℤ) (m : Meaning Reference) → ⟦<i32 as Carried<E>>⟧.means z m ↔ (m ≡ integer z) }
@@ -121,8 +121,8 @@ pub fn i32_is_carried<E: Env>()
     ensures reads { (e : Refusal) → ⟦<i32 as PagableDeserialize<'static, E>>⟧.read_causes e ↔ never e }
 {}
 
-/// An `i64` is spelled as a signed number of 64 bits, means itself, and is refused by want of memory alone, and never
-/// on reading.
+/// An `i64` is spelled as a signed number of 64 bits and means itself. Writing wants memory at most;
+/// reading has no cause of its own.
 pub fn i64_is_carried<E: Env>()
     ensures shape { (e : E) → ⟦<i64 as Carried<E>>⟧.shape e ≡ signed w64 }
     ensures means { (z : ℤ) (m : Meaning Reference) → ⟦<i64 as Carried<E>>⟧.means z m ↔ (m ≡ integer z) }
@@ -130,8 +130,8 @@ pub fn i64_is_carried<E: Env>()
     ensures reads { (e : Refusal) → ⟦<i64 as PagableDeserialize<'static, E>>⟧.read_causes e ↔ never e }
 {}
 
-/// An `i128` is spelled as a signed number of 128 bits, means itself, and is refused by want of memory alone, and never
-/// on reading.
+/// An `i128` is spelled as a signed number of 128 bits and means itself. Writing wants memory at most;
+/// reading has no cause of its own.
 pub fn i128_is_carried<E: Env>()
     ensures shape { (e : E) → ⟦<i128 as Carried<E>>⟧.shape e ≡ signed w128 }
     ensures means { (z : ℤ) (m : Meaning Reference) → ⟦<i128 as Carried<E>>⟧.means z m ↔ (m ≡ integer z) }
