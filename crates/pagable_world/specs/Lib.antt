@@ -26,3 +26,6 @@ pub mod Order
 pub mod Bounds
 pub mod Interleaved
 pub mod Headline
+pub mod Alone
+pub mod Over
+pub mod Results
