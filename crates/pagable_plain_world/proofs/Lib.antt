@@ -3,3 +3,4 @@ mod Existing
 mod Alone
 mod Two
 mod Joining
+mod Missing

@@ -1,3 +1,4 @@
 pub mod Samples
 pub mod FallLaws
 pub mod RunLaws
+pub mod NearMisses

@@ -3,6 +3,7 @@
 ghost use Rattle.pagable_world.specs.Seen.{Seen};
 ghost use Rattle.pagable_plain_world.specs.FallLaws.{IsThere, IsOne, IsGivenAlone, PinsAreAFilter, TwoLevelsFall, TwoLevelsAreReleased, LoneIsListed};
 ghost use Rattle.pagable_plain_world.specs.RunLaws.{RunsJoin, NewIsWhole};
+ghost use Rattle.pagable_plain_world.specs.NearMisses.{NewNodeHasItsValue, NoLoadInMemory, OnlyLooseIsUnfit, ItemIsAtOne, FirstIsTheRoot, NoWaitForFree};
 
 /// How values of this type are seen, with blobs B and what is written W: any values, so that a law is one of all.
 pub trait SeenAs<B, W>: Sized {
@@ -53,4 +54,34 @@ pub fn runs_join<N: SeenAs<B, W>, B, W>()
 /// A new pager is whole and stands for the empty world.
 pub fn new_is_whole<N: SeenAs<B, W>, B, W>()
     ensures { NewIsWhole N.seen }
+{}
+
+/// A new node has the value that was handed in, which stands for its tree.
+pub fn new_node_has_its_value<N: SeenAs<B, W>, B, W>()
+    ensures { NewNodeHasItsValue N.seen }
+{}
+
+/// A pin asks for a load only where the value isn't in memory.
+pub fn no_load_in_memory()
+    ensures { NoLoadInMemory }
+{}
+
+/// A worker's pin is refused by its mode only where the reference is loose.
+pub fn only_loose_is_unfit()
+    ensures { OnlyLooseIsUnfit }
+{}
+
+/// An item's references are claimed at the first place of the path.
+pub fn item_is_at_one()
+    ensures { ItemIsAtOne }
+{}
+
+/// A load's first step gets the blob of its own key.
+pub fn first_is_the_root<N: SeenAs<B, W>, B, W>()
+    ensures { FirstIsTheRoot N.seen }
+{}
+
+/// No worker waits for a free slot.
+pub fn no_wait_for_free()
+    ensures { NoWaitForFree }
 {}

@@ -27,3 +27,6 @@ pub mod Order
 pub mod Bounds
 pub mod Interleaved
 pub mod Headline
+pub mod Alone
+pub mod Over
+pub mod Results
