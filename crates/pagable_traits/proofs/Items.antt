@@ -7,7 +7,7 @@ use Rattle.pagable_model.specs.declared.numbers.ArcRef.{ArcRef}
 use Rattle.pagable_model.specs.Steps.{◌>>=◌}
 use Rattle.pagable_model.specs.Basic.{longest, length_form, length_at}
 use Rattle.pagable_model.specs.Gives.{memory_or}
-use Rattle.pagable_flavors.specs.Lengths.{long_or_memory}
+use Rattle.pagable_model.specs.Lengths.{long_or_memory}
 use Rattle.pagable_model.specs.Meaning.{Meaning, sequence}
 use Rattle.pagable_model.specs.Shape.{Shape, list}
 use Rattle.pagable_model.specs.Form.{Form, Forms, list-form, no-forms, more-forms}

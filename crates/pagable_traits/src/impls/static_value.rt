@@ -13,7 +13,7 @@ ghost use Rattle.pagable_model.specs.Reading.{registered};
 ghost use Rattle.pagable_model.specs.Shape.{static_value};
 ghost use Rattle.pagable_model.specs.Standing.{Is};
 ghost use Rattle.pagable_model.specs.Writing.{nesting, WritesSome, Refused, IsRefusal, Grows};
-ghost use Rattle.pagable_flavors.specs.Lengths.{long_or_memory};
+ghost use Rattle.pagable_model.specs.Lengths.{long_or_memory};
 ghost use Rattle.pagable_traits.specs.Causes.{never_is_own_reading, memory_or_is_own_writing};
 ghost use Rattle.pagable_traits.specs.Statics.{HasEqual, NoEqualBelow, StandsAt, meanings_of, unregistered, unregistered_is_own_writing};
 
