@@ -14,7 +14,7 @@ use Rattle.pagable_model.specs.Shape.{Shape, optional, both}
 use Rattle.pagable_model.specs.Form.{none-form, some-form, both-form}
 use Rattle.pagable_model.specs.Writing.{Out, Nesting, WritesSome, Grows, added, NoForm, Refused, IsRefusal}
 use Rattle.pagable_model.specs.Standing.{Gave, SomeMeaning}
-use Rattle.pagable_traits.specs.Lifted.{MeansOption, means-none, means-some, MeansPair}
+use Rattle.pagable_model.specs.Lifted.{MeansOption, means-none, means-some, MeansPair}
 use Rattle.pagable_traits.proofs.Writing.{out_is, then}
 
 -- ---- bytes, added

@@ -1,4 +1,3 @@
 pub mod Causes
 pub mod Collected
-pub mod Lifted
 pub mod Statics

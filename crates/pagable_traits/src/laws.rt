@@ -10,7 +10,7 @@ ghost use Rattle.pagable_model.specs.Gives.{never, memory, memory_or, either};
 ghost use Rattle.pagable_model.specs.Shape.{nothing, unsigned, signed, flag, text, letter, optional, list, both};
 ghost use Rattle.pagable_model.specs.Meaning.{Meaning, number, integer, none};
 ghost use Rattle.pagable_model.specs.Meaning as meanings;
-ghost use Rattle.pagable_traits.specs.Lifted.{MeansOption, MeansList, MeansPair};
+ghost use Rattle.pagable_model.specs.Lifted.{MeansOption, MeansList, MeansPair};
 ghost use Rattle.pagable_model.specs.declared.error.Error.{Error as Refusal};
 ghost use Rattle.pagable_model.specs.declared.numbers.ArcRef.{ArcRef as Reference};
 ghost use Rattle.pagable_model.specs.Meaning.{lifted};
