@@ -25,7 +25,6 @@ map-filter g p (x ∷ xs) = one-more g (p (g x)) x (filter (λ y. p (g y)) xs) (
 pub kept-rows : {N : Type 0} (book : State) (rows : List (ValueRow N)) → map value_of (filter (λ r. nat_lt 0 (sum_by (value_at r.node.0) book.nodes)) rows) ≡ kept book (map value_of rows)
 kept-rows book rows = map-filter value_of (λ v. nat_lt 0 (sum_by (value_at v.0) book.nodes)) rows
 
-
 -- values that nothing did anything to stay in step
 pub in-same : {N : Type 0} (type_of : N → ℕ) (old new : State) (values : List (ℕ × N)) → InStep type_of old values → SameValues old new → InStep type_of new values
 in-same type_of old new values i s = record { each = λ fits q. i.each fits q ∙ sym (s.each fits q) }
