@@ -11,7 +11,7 @@ use Rattle.std.proofs.lemmas.Bool.{eqb-true, eq-eqb}
 use Rattle.std.proofs.lemmas.Bool.Decides.{eqb_tells}
 use Rattle.pagable_model.specs.Blob.{Blob}
 use Rattle.pagable_core.specs.Data.{blob_of}
-use Rattle.pagable_core.specs.Stored.{Adds}
+use Rattle.pagable_model.specs.Stored.{Adds}
 use Rattle.pagable_core.specs.declared.storage.data.PagableData.{PagableData}
 use Rattle.pagable.specs.Blobs.{stored_in}
 

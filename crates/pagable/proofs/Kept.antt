@@ -15,7 +15,7 @@ use Rattle.pagable_model.specs.declared.numbers.LoadNumber.{LoadNumber}
 use Rattle.pagable_model.specs.Blob.{Blob}
 use Rattle.pagable_model.specs.Meaning.{Meaning}
 use Rattle.pagable_model.specs.Trees.{Tree, Types, KeyRef, type_of, ReadsAs, ReadsTree, IsFollowed, number-followed, integer-followed, text-followed, pattern-followed, none-followed, pair-followed, variant-followed, reference-followed}
-use Rattle.pagable_core.specs.Stored.{Adds}
+use Rattle.pagable_model.specs.Stored.{Adds}
 use Rattle.pagable_world.specs.State.{State, one, held}
 use Rattle.pagable_world.specs.Refusals.{HasRow, IsOwn}
 use Rattle.pagable_world.specs.declared.answers.Pinning.{Pinning}

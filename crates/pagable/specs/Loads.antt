@@ -12,7 +12,7 @@ use Rattle.pagable_model.specs.declared.numbers.ArcRef.{ArcRef}
 use Rattle.pagable_model.specs.declared.numbers.LoadNumber.{LoadNumber}
 use Rattle.pagable_model.specs.declared.numbers.NodeNumber.{NodeNumber}
 use Rattle.pagable_core.specs.Data.{blob_of}
-use Rattle.pagable_core.specs.Stored.{RefusesFetch}
+use Rattle.pagable_model.specs.Stored.{RefusesFetch}
 use Rattle.pagable_core.specs.declared.storage.data.PagableData.{PagableData}
 use Rattle.pagable_world.specs.State.{State}
 use Rattle.pagable_world.specs.Values.{value_of_node}

@@ -15,8 +15,9 @@ pub use pagable_model::{
     ArcRef, HandleNumber, Identity, Kind, LoadNumber, NodeNumber, PagableCursor, WorkerNumber,
 };
 pub use pagable_traits::{
-    Carried, Env, InNode, KeyHash, NodeSet, OneMeaning, PagableDeserialize, PagableDeserializer,
-    PagableSerialize, PagableSerializer, Reader,
+    Carried, Env, HasStaticValueRegistry, InNode, KeyHash, NodeSet, OneMeaning, PagableDeserialize,
+    PagableDeserializer, PagableSerialize, PagableSerializer, Reader, StaticBytes, StaticStr,
+    StaticValue, StaticValueEntry, StaticValueRegistry, serialize_slice,
 };
 pub use pagable_world::{Beginning, Mode, Owner, Pinning};
 pub use storage::in_memory::InMemoryBlobs;

@@ -10,7 +10,5 @@ pub mod loads;
 pub mod places;
 pub mod steps;
 pub mod tables;
-#[cfg(test)]
-mod tests;
 
 pub use book::Book;

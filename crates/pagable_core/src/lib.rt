@@ -4,8 +4,6 @@
 
 pub mod context;
 pub mod storage;
-#[cfg(test)]
-mod tests;
 
 pub use context::{
     NoReferences, PagableDeserializerImpl, PagableKeys, PagableSerializerImpl, References,

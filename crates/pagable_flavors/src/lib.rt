@@ -13,6 +13,3 @@ mod zigzag;
 pub use pagable_model::{DataKey, Error, OptionalDataKey};
 pub use slice::PagableSlice;
 pub use vec_flavor::PagableVecFlavor;
-
-#[cfg(test)]
-mod tests;

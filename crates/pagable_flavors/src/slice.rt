@@ -61,7 +61,8 @@ impl<'de> PagableSlice<'de> {
 
     /// How many bytes are left.
     pub fn size_hint(&self) -> usize
-        ensures { result ≡ length (left self.now) }
+        ensures bytes { result ≡ length (left self.now) }
+        ensures within { self.now.position ≤ length self.now.all }
     {
         self.bytes.len() - self.position
     }

@@ -16,7 +16,7 @@ use Rattle.pagable_model.specs.Blob.{preimage, weight}
 use Rattle.pagable_model.specs.Deep.{kid, deep, folded}
 use Rattle.pagable_model.specs.Merkle.{unfolded, key-of, no-keys, more-keys}
 use Rattle.pagable_model.specs.Canonical.{IsReadable, IsCanonical, HasNoCase, LiesIn, unwritten, throughout-in}
-use Rattle.pagable_plain.specs.Rows.{NumbersAreSpelled, NumbersAreRead, CasesAreSpelled, ListsAreSpelled, MapsAreRead, JsonIsRead, KeysAreWeighed, TextsAreRead, DurationsAreRead, RegistriesAreRead, ReferencesTakeKeys, UnknownTagsAreWritten, ReferencesAreFollowed, TreesHaveKeys, ShapesAreMet, only_cat, cats, chain}
+use Rattle.pagable_plain.specs.Rows.{NumbersAreSpelled, NumbersAreRead, CasesAreSpelled, ListsAreSpelled, MapsAreRead, JsonIsRead, KeysAreWeighed, TextsAreRead, DurationsAreRead, NamedTypesAreRead, RegistriesAreRead, ReferencesTakeKeys, UnknownTagsAreWritten, ReferencesAreFollowed, TreesHaveKeys, ShapesAreMet, only_cat, cats, chain}
 use Rattle.pagable_plain.specs.Samples.{no_parts}
 
 pub numbers_spelled : NumbersAreSpelled
@@ -62,6 +62,10 @@ texts_read = (refl, refl, refl, refl, refl, refl, refl, refl)
 pub durations_read : DurationsAreRead
 unfolding read read_with varint_at duration_at
 durations_read = (refl, refl)
+
+pub named_read : NamedTypesAreRead
+unfolding read read_with varint_at bool_at length_at items text_at is_utf8 put_all code plain chars encode_utf8
+named_read = (refl, refl, refl, refl, refl, refl, refl, refl, refl, refl)
 
 pub registries_read : RegistriesAreRead
 unfolding read read_with varint varint_at length_at text_at is_utf8 rename chars encode_utf8

@@ -8,10 +8,10 @@ use Rattle.pagable_model.specs.Numbers.{unsigned_form, signed_form}
 use Rattle.pagable_model.specs.Basic.{duration_form, char_form, text_form}
 use Rattle.pagable_model.specs.Meaning.{Meaning, number, integer, text, none, pair, variant, followed, sequence, absent, present, success}
 use Rattle.pagable_model.specs.Meaning as meanings
-use Rattle.pagable_model.specs.Keys.{number_order}
+use Rattle.pagable_model.specs.Keys.{number_order, integer_order}
 use Rattle.pagable_model.specs.Shape.{Shape, nothing, unsigned, signed, letter, duration, json, optional, outcome, list, run, array, sorted_map, placed_map, static_value, cases, reference, nested}
 use Rattle.pagable_model.specs.Shape as shapes
-use Rattle.pagable_model.specs.Carried.{thin, tagged_by, of_duration, of_tagged}
+use Rattle.pagable_model.specs.Carried.{path_text, thin, atomic_i64, once_lock, triple, tagged_by, of_list, of_duration, of_tagged}
 use Rattle.pagable_model.specs.Reading.{read}
 use Rattle.pagable_model.specs.Blob.{Blob, preimage, key_of, weigh_hash}
 use Rattle.pagable_model.specs.Trees.{KeyRef, Types, tree, key_ref, blob_context}
@@ -127,6 +127,20 @@ abbrev pub DurationsAreRead : Type 0
 DurationsAreRead =
     Means duration (0x01 ∷ 0x80 ∷ 0x94 ∷ 0xEB ∷ 0xDC ∷ 0x03 ∷ []) (of_duration 2 0) []
     × IsRefused duration (0xFF ∷ 0xFF ∷ 0xFF ∷ 0xFF ∷ 0xFF ∷ 0xFF ∷ 0xFF ∷ 0xFF ∷ 0xFF ∷ 0x01 ∷ 0x80 ∷ 0x94 ∷ 0xEB ∷ 0xDC ∷ 0x03 ∷ []) errors.BadDuration
+
+-- types that are spelled as others are, three numbers in turn, and a map whose keys have a sign
+abbrev pub NamedTypesAreRead : Type 0
+NamedTypesAreRead =
+    Means path_text (0x01 ∷ 0x61 ∷ []) (text (codes "a")) []
+    × IsRefused path_text (0x01 ∷ 0xFF ∷ []) errors.BadUtf8
+    × Means atomic_i64 (0x01 ∷ []) (integer (negsuc 0)) []
+    × IsRefused atomic_i64 [] errors.UnexpectedEnd
+    × Means (once_lock (unsigned w16)) (0x01 ∷ 0xAC ∷ 0x02 ∷ []) (present (number 300)) []
+    × IsRefused (once_lock (unsigned w16)) (0x02 ∷ []) errors.BadBool
+    × Means (triple (unsigned w8) (unsigned w8) (unsigned w8)) (0x01 ∷ 0x02 ∷ 0x03 ∷ []) (pair (number 1) (pair (number 2) (number 3))) []
+    × IsRefused (triple (unsigned w8) (unsigned w8) (unsigned w8)) (0x01 ∷ 0x02 ∷ []) errors.UnexpectedEnd
+    × Means (list (unsigned w8)) (0x02 ∷ 0x01 ∷ 0x02 ∷ []) (of_list number (1 ∷ 2 ∷ [])) []
+    × Means (sorted_map integer_order (signed w16) (unsigned w8)) (0x02 ∷ 0x02 ∷ 0x05 ∷ 0x01 ∷ 0x06 ∷ []) (sequence (pair (integer (negsuc 0)) (number 6) ∷ pair (integer (pos 1)) (number 5) ∷ [])) []
 
 -- the empty one, hello, world
 abbrev pub static_bytes : List (Meaning ⊥)

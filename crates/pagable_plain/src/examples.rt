@@ -1,6 +1,6 @@
 //! Worked examples of the definitions: bytes and keys that were worked out elsewhere.
 
-ghost use Rattle.pagable_plain.specs.Rows.{NumbersAreSpelled, NumbersAreRead, CasesAreSpelled, ListsAreSpelled, MapsAreRead, JsonIsRead, KeysAreWeighed, TextsAreRead, DurationsAreRead, RegistriesAreRead, ReferencesTakeKeys, UnknownTagsAreWritten, ReferencesAreFollowed, TreesHaveKeys, ShapesAreMet};
+ghost use Rattle.pagable_plain.specs.Rows.{NumbersAreSpelled, NumbersAreRead, CasesAreSpelled, ListsAreSpelled, MapsAreRead, JsonIsRead, KeysAreWeighed, TextsAreRead, DurationsAreRead, NamedTypesAreRead, RegistriesAreRead, ReferencesTakeKeys, UnknownTagsAreWritten, ReferencesAreFollowed, TreesHaveKeys, ShapesAreMet};
 
 /// What was worked out elsewhere is what the definitions make of the bytes, by computation.
 pub fn worked_examples()
@@ -13,6 +13,7 @@ pub fn worked_examples()
     ensures keys { KeysAreWeighed }
     ensures texts { TextsAreRead }
     ensures durations { DurationsAreRead }
+    ensures named { NamedTypesAreRead }
     ensures registries { RegistriesAreRead }
     ensures references { ReferencesTakeKeys }
     ensures unknown { UnknownTagsAreWritten }

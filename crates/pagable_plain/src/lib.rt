@@ -9,8 +9,6 @@ mod plain_reader;
 mod plain_writer;
 pub mod samples;
 pub mod spans;
-#[cfg(test)]
-mod tests;
 
 pub use blobs::{preimage, weighed_key};
 pub use samples::{Sample, Sort, read_sample, write_sample};

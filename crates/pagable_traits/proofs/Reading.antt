@@ -1,10 +1,9 @@
 -- What reading a part gives, and where a deserializer stands then.
-use Rattle.std.proofs.Common.{◌≡◌, ℕ, ◌≤◌, Result, Ok, Err, refl, arith, sym, ◌∙◌, inl, inr}
-use Rattle.std.specs.Prelude.{◌⊎◌}
+use Rattle.std.proofs.Common.{◌≡◌, Result, Ok, refl, arith, ◌∙◌}
 use Rattle.pagable_model.specs.declared.error.Error.{Error}
 use Rattle.pagable_model.specs.declared.numbers.ArcRef.{ArcRef}
 use Rattle.pagable_model.specs.Meaning.{Meaning}
-use Rattle.pagable_model.specs.Standing.{Gave, MovesOn, Standing, Is, IsWithin}
+use Rattle.pagable_model.specs.Standing.{Gave, MovesOn, Standing}
 
 pub moves_trans : (a b c : Standing) → MovesOn a b → MovesOn b c → MovesOn a c
 moves_trans a b c g h = record { whole = h.whole ∙ g.whole; bytes = omega (arith, g.bytes, h.bytes); refs = omega (arith, g.refs, h.refs); within = λ w. h.within (g.within w) }

@@ -1,23 +1,23 @@
 -- What writing a part adds, and what has no form.
-use Rattle.std.proofs.Common.{◌≡◌, ℕ, Bool, true, false, subst, ◌<◌, ◌≤◌, ◌-◌, ◌^◌, List, [], ◌∷◌, ◌++◌, length, arith, refl, sym, ap, ◌∙◌, append_assoc, Result, Ok, Err, inl, inr}
+use Rattle.std.proofs.Common.{◌≡◌, ℕ, Bool, false, subst, ◌<◌, ◌≤◌, List, [], ◌∷◌, ◌++◌, length, arith, refl, sym, ap, ◌∙◌, append_assoc, Result, Ok, Err, inl, inr}
 use Rattle.std.proofs.lemmas.List.{append-nil}
-use Rattle.std.specs.Prelude.{IfErr, ◌⊎◌, IsTrue}
-use Rattle.std.specs.Int.{Width, w16, w64}
+use Rattle.std.specs.Prelude.{ℤ, IfErr, IsTrue}
+use Rattle.std.specs.Int.{Width}
 use Rattle.std.specs.Str.{IsUtf8}
+use Rattle.std.specs.Char.{IsScalar}
 use Rattle.pagable_model.specs.declared.error.Error.{Error}
-use Rattle.pagable_model.specs.declared.error.Error.TheVariants as errors
 use Rattle.pagable_model.specs.declared.numbers.ArcRef.{ArcRef}
 use Rattle.pagable_model.specs.Refusals.{is_writing_fault}
-use Rattle.pagable_model.specs.Numbers.{bound, unsigned_form}
-use Rattle.pagable_model.specs.Basic.{longest, text_form}
+use Rattle.pagable_model.specs.Numbers.{bound, IsSigned, unsigned_form, signed_form}
+use Rattle.pagable_model.specs.Basic.{longest, bool_form, char_form, text_form}
 use Rattle.pagable_model.specs.Gives.{Extends, memory}
-use Rattle.pagable_flavors.specs.Lengths.{long_or_memory}
-use Rattle.pagable_model.specs.Meaning.{Meaning, number}
+use Rattle.pagable_model.specs.Lengths.{long_or_memory}
+use Rattle.pagable_model.specs.Meaning.{Meaning, number, integer}
 use Rattle.pagable_model.specs.Meaning as meanings
-use Rattle.pagable_model.specs.Shape.{Shape, unsigned}
+use Rattle.pagable_model.specs.Shape.{Shape, unsigned, signed}
 use Rattle.pagable_model.specs.Shape as shapes
-use Rattle.pagable_model.specs.Form.{unsigned-form, text-form, reference-form}
-use Rattle.pagable_model.specs.Writing.{Out, Nesting, FormAt, Writes, WritesSome, Grows, added, kind_of_arc, NoForm, NoFormOfSome, Refused, IsRefusal}
+use Rattle.pagable_model.specs.Form.{nothing-form, unsigned-form, signed-form, flag-form, letter-form, text-form, reference-form}
+use Rattle.pagable_model.specs.Writing.{Out, Nesting, FormAt, Writes, WritesSome, Grows, added, kind_of_arc, NoForm, Refused, IsRefusal}
 use Rattle.pagable_model.specs.Standing.{Is}
 
 pub out_is : (b c : List ℕ) (r s : List ArcRef) → b ≡ c → r ≡ s → (let x : Out = record { bytes = b; refs = r } in x) ≡ (let y : Out = record { bytes = c; refs = s } in y)
@@ -56,12 +56,24 @@ writes_is meaning x n s old new w = record { m = meaning x; is = refl; wrote = w
 pub writes_unsigned : (n : Nesting) (w : Width) (x : ℕ) (old : Out) (bytes : List ℕ) → x < bound w → bytes ≡ old.bytes ++ unsigned_form w x → WritesSome (Is number x) n (unsigned w) old (record old { bytes = bytes })
 writes_unsigned n w x old bytes lt e = writes_is number x n (unsigned w) old _ (writes_bytes n (unsigned w) (number x) old bytes (unsigned_form w x) e (unsigned-form _ w x lt))
 
+pub writes_signed : (n : Nesting) (w : Width) (x : ℤ) (old : Out) (bytes : List ℕ) → IsSigned w x → bytes ≡ old.bytes ++ signed_form w x → WritesSome (Is integer x) n (signed w) old (record old { bytes = bytes })
+writes_signed n w x old bytes within e = writes_is integer x n (signed w) old _ (writes_bytes n (signed w) (integer x) old bytes (signed_form w x) e (signed-form _ w x within))
+
+pub writes_flag : (n : Nesting) (b : Bool) (old : Out) (bytes : List ℕ) → bytes ≡ old.bytes ++ bool_form b → WritesSome (Is meanings.flag b) n shapes.flag old (record old { bytes = bytes })
+writes_flag n b old bytes e = writes_is meanings.flag b n shapes.flag old _ (writes_bytes n shapes.flag (meanings.flag b) old bytes (bool_form b) e (flag-form _ b))
+
+pub writes_letter : (n : Nesting) (c : ℕ) (old : Out) (bytes : List ℕ) → IsScalar c → bytes ≡ old.bytes ++ char_form c → WritesSome (Is number c) n shapes.letter old (record old { bytes = bytes })
+writes_letter n c old bytes scalar e = writes_is number c n shapes.letter old _ (writes_bytes n shapes.letter (number c) old bytes (char_form c) e (letter-form _ c scalar))
+
+pub writes_nothing : (n : Nesting) (old : Out) → WritesSome (λ m. m ≡ meanings.none) n shapes.nothing old old
+writes_nothing n old = record { m = meanings.none; is = refl; wrote = record { bytes = []; refs = []; form = nothing-form _; grown = out_is _ _ _ _ (sym (append-nil old.bytes)) (sym (append-nil old.refs)) } }
+
 -- ---- refusals
 
 memory_is_no_fault : (e : Error) → memory e → is_writing_fault e ≡ false
 memory_is_no_fault e h = let P : Error → Type 0 = λ x. is_writing_fault x ≡ false in subst P (sym h) refl
 
-memory_refuses : (e : Error) (M : Meaning ArcRef → Type 0) (n : Nesting) (s : Shape) → memory e → Refused M n s e
+pub memory_refuses : (e : Error) (M : Meaning ArcRef → Type 0) (n : Nesting) (s : Shape) → memory e → Refused M n s e
 memory_refuses e M n s h = λ fault. let none = memory_is_no_fault e h in absurd cc
 
 -- want of memory says nothing of the value
@@ -101,7 +113,7 @@ only_long (Ok y) len h = tt
 only_long (Err e) len (inl h) = inl (let P : Error → Type 0 = λ x. IsTrue (is_writing_fault x) in subst P (sym h.1) refl)
 only_long (Err e) len (inr h) = inr h.1
 
-pub ruleset parts = (grows_bytes, grows_refl, grows_trans, grows_some, writes_is, writes_unsigned, writes_text, refused_memory, only_memory, refused_text, only_long)
+pub ruleset parts = (grows_bytes, grows_refl, grows_trans, grows_some, writes_is, writes_unsigned, writes_signed, writes_flag, writes_letter, writes_text, refused_memory, only_memory, refused_text, only_long)
 
 -- a reference alone
 pub writes_reference : {X : Type 0} (meaning : X → Meaning ArcRef) (x : X) (n : Nesting) (kind : ℕ) (r : ArcRef) (old new : Out) → new ≡ added old [] (r ∷ []) → meaning x ≡ meanings.reference r → kind_of_arc r ≡ kind → WritesSome (Is meaning x) n (shapes.reference kind) old new

@@ -1,1 +1,3 @@
 pub mod Causes
+pub mod Collected
+pub mod Statics

@@ -1,23 +1,56 @@
 //! What the carried types mean and how they are spelled, as laws that callers can cite: each is a function that
 //! does nothing, whose contract holds for every environment and every value.
 
-ghost use Rattle.std.specs.Prelude.{◌≡◌, ◌↔◌, ℕ};
-ghost use Rattle.std.specs.Int.{w16, w64};
+ghost use Rattle.std.specs.Prelude.{◌≡◌, ◌↔◌, ℕ, ℤ, Bool};
+ghost use Rattle.std.specs.Int.{w8, w16, w32, w64, w128};
 ghost use Rattle.std.specs.String.{string_bytes};
-ghost use Rattle.std.specs.Prelude.{String as Text};
+ghost use Rattle.std.specs.Prelude.{String as Text, Option as Maybe, Box as Boxed, Vec as Items};
 ghost use Rattle.std.specs.Global.{Global as Heap};
-ghost use Rattle.pagable_model.specs.Gives.{never, memory};
-ghost use Rattle.pagable_model.specs.Shape.{unsigned, text};
-ghost use Rattle.pagable_model.specs.Meaning.{Meaning, number};
+ghost use Rattle.pagable_model.specs.Gives.{never, memory, memory_or, either};
+ghost use Rattle.pagable_model.specs.Shape.{nothing, unsigned, signed, flag, text, letter, optional, list, both};
+ghost use Rattle.pagable_model.specs.Meaning.{Meaning, number, integer, none};
 ghost use Rattle.pagable_model.specs.Meaning as meanings;
+ghost use Rattle.pagable_model.specs.Lifted.{MeansOption, MeansList, MeansPair};
 ghost use Rattle.pagable_model.specs.declared.error.Error.{Error as Refusal};
 ghost use Rattle.pagable_model.specs.declared.numbers.ArcRef.{ArcRef as Reference};
+ghost use Rattle.pagable_model.specs.Meaning.{lifted};
+ghost use Rattle.pagable_model.specs.Shape.{static_value};
+ghost use Rattle.pagable_traits.specs.Statics.{meanings_of, unregistered};
+ghost use Rattle.pagable_traits.specs.declared.impls.static_value.StaticValue.{StaticValue as Static};
 
 use crate::env::Env;
+use crate::impls::static_value::{HasStaticValueRegistry, StaticValue};
 use crate::traits::{Carried, PagableDeserialize, PagableSerialize};
 
-/// A `u16` is spelled as an unsigned number of 16 bits, means itself, and is refused by want of memory alone, and
-/// never on reading.
+/// A `bool` is spelled as a flag and means itself. Writing wants memory at most;
+/// reading has no cause of its own.
+pub fn bool_is_carried<E: Env>()
+    ensures shape { (e : E) → ⟦<bool as Carried<E>>⟧.shape e ≡ flag }
+    ensures means { (b : Bool) (m : Meaning Reference) → ⟦<bool as Carried<E>>⟧.means b m ↔ (m ≡ meanings.flag b) }
+    ensures writes { (e : Refusal) → ⟦<bool as PagableSerialize<E>>⟧.write_causes e ↔ memory e }
+    ensures reads { (e : Refusal) → ⟦<bool as PagableDeserialize<'static, E>>⟧.read_causes e ↔ never e }
+{}
+
+/// A `char` is spelled as a text of one character and means its code. Writing wants memory at most;
+/// reading has no cause of its own.
+pub fn char_is_carried<E: Env>()
+    ensures shape { (e : E) → ⟦<char as Carried<E>>⟧.shape e ≡ letter }
+    ensures means { (c : ℕ) (m : Meaning Reference) → ⟦<char as Carried<E>>⟧.means c m ↔ (m ≡ number c) }
+    ensures writes { (e : Refusal) → ⟦<char as PagableSerialize<E>>⟧.write_causes e ↔ memory e }
+    ensures reads { (e : Refusal) → ⟦<char as PagableDeserialize<'static, E>>⟧.read_causes e ↔ never e }
+{}
+
+/// A `u8` is spelled as an unsigned number of 8 bits and means itself. Writing wants memory at most;
+/// reading has no cause of its own.
+pub fn u8_is_carried<E: Env>()
+    ensures shape { (e : E) → ⟦<u8 as Carried<E>>⟧.shape e ≡ unsigned w8 }
+    ensures means { (n : ℕ) (m : Meaning Reference) → ⟦<u8 as Carried<E>>⟧.means n m ↔ (m ≡ number n) }
+    ensures writes { (e : Refusal) → ⟦<u8 as PagableSerialize<E>>⟧.write_causes e ↔ memory e }
+    ensures reads { (e : Refusal) → ⟦<u8 as PagableDeserialize<'static, E>>⟧.read_causes e ↔ never e }
+{}
+
+/// A `u16` is spelled as an unsigned number of 16 bits and means itself. Writing wants memory at most;
+/// reading has no cause of its own.
 pub fn u16_is_carried<E: Env>()
     ensures shape { (e : E) → ⟦<u16 as Carried<E>>⟧.shape e ≡ unsigned w16 }
     ensures means { (n : ℕ) (m : Meaning Reference) → ⟦<u16 as Carried<E>>⟧.means n m ↔ (m ≡ number n) }
@@ -25,13 +58,93 @@ pub fn u16_is_carried<E: Env>()
     ensures reads { (e : Refusal) → ⟦<u16 as PagableDeserialize<'static, E>>⟧.read_causes e ↔ never e }
 {}
 
-/// A `usize` is spelled as an unsigned number of 64 bits, means itself, and is refused by want of memory alone, and
-/// never on reading.
+/// A `u32` is spelled as an unsigned number of 32 bits and means itself. Writing wants memory at most;
+/// reading has no cause of its own.
+pub fn u32_is_carried<E: Env>()
+    ensures shape { (e : E) → ⟦<u32 as Carried<E>>⟧.shape e ≡ unsigned w32 }
+    ensures means { (n : ℕ) (m : Meaning Reference) → ⟦<u32 as Carried<E>>⟧.means n m ↔ (m ≡ number n) }
+    ensures writes { (e : Refusal) → ⟦<u32 as PagableSerialize<E>>⟧.write_causes e ↔ memory e }
+    ensures reads { (e : Refusal) → ⟦<u32 as PagableDeserialize<'static, E>>⟧.read_causes e ↔ never e }
+{}
+
+/// A `u64` is spelled as an unsigned number of 64 bits and means itself. Writing wants memory at most;
+/// reading has no cause of its own.
+pub fn u64_is_carried<E: Env>()
+    ensures shape { (e : E) → ⟦<u64 as Carried<E>>⟧.shape e ≡ unsigned w64 }
+    ensures means { (n : ℕ) (m : Meaning Reference) → ⟦<u64 as Carried<E>>⟧.means n m ↔ (m ≡ number n) }
+    ensures writes { (e : Refusal) → ⟦<u64 as PagableSerialize<E>>⟧.write_causes e ↔ memory e }
+    ensures reads { (e : Refusal) → ⟦<u64 as PagableDeserialize<'static, E>>⟧.read_causes e ↔ never e }
+{}
+
+/// A `u128` is spelled as an unsigned number of 128 bits and means itself. Writing wants memory at most;
+/// reading has no cause of its own.
+pub fn u128_is_carried<E: Env>()
+    ensures shape { (e : E) → ⟦<u128 as Carried<E>>⟧.shape e ≡ unsigned w128 }
+    ensures means { (n : ℕ) (m : Meaning Reference) → ⟦<u128 as Carried<E>>⟧.means n m ↔ (m ≡ number n) }
+    ensures writes { (e : Refusal) → ⟦<u128 as PagableSerialize<E>>⟧.write_causes e ↔ memory e }
+    ensures reads { (e : Refusal) → ⟦<u128 as PagableDeserialize<'static, E>>⟧.read_causes e ↔ never e }
+{}
+
+/// A `usize` is spelled as an unsigned number of 64 bits and means itself. Writing wants memory at most;
+/// reading has no cause of its own.
 pub fn usize_is_carried<E: Env>()
     ensures shape { (e : E) → ⟦<usize as Carried<E>>⟧.shape e ≡ unsigned w64 }
     ensures means { (n : ℕ) (m : Meaning Reference) → ⟦<usize as Carried<E>>⟧.means n m ↔ (m ≡ number n) }
     ensures writes { (e : Refusal) → ⟦<usize as PagableSerialize<E>>⟧.write_causes e ↔ memory e }
     ensures reads { (e : Refusal) → ⟦<usize as PagableDeserialize<'static, E>>⟧.read_causes e ↔ never e }
+{}
+
+/// An `i8` is spelled as a signed number of 8 bits and means itself. Writing wants memory at most;
+/// reading has no cause of its own.
+pub fn i8_is_carried<E: Env>()
+    ensures shape { (e : E) → ⟦<i8 as Carried<E>>⟧.shape e ≡ signed w8 }
+    ensures means { (z : ℤ) (m : Meaning Reference) → ⟦<i8 as Carried<E>>⟧.means z m ↔ (m ≡ integer z) }
+    ensures writes { (e : Refusal) → ⟦<i8 as PagableSerialize<E>>⟧.write_causes e ↔ memory e }
+    ensures reads { (e : Refusal) → ⟦<i8 as PagableDeserialize<'static, E>>⟧.read_causes e ↔ never e }
+{}
+
+/// An `i16` is spelled as a signed number of 16 bits and means itself. Writing wants memory at most;
+/// reading has no cause of its own.
+pub fn i16_is_carried<E: Env>()
+    ensures shape { (e : E) → ⟦<i16 as Carried<E>>⟧.shape e ≡ signed w16 }
+    ensures means { (z : ℤ) (m : Meaning Reference) → ⟦<i16 as Carried<E>>⟧.means z m ↔ (m ≡ integer z) }
+    ensures writes { (e : Refusal) → ⟦<i16 as PagableSerialize<E>>⟧.write_causes e ↔ memory e }
+    ensures reads { (e : Refusal) → ⟦<i16 as PagableDeserialize<'static, E>>⟧.read_causes e ↔ never e }
+{}
+
+/// An `i32` is spelled as a signed number of 32 bits and means itself. Writing wants memory at most;
+/// reading has no cause of its own.
+pub fn i32_is_carried<E: Env>()
+    ensures shape { (e : E) → ⟦<i32 as Carried<E>>⟧.shape e ≡ signed w32 }
+    ensures means { (z : ℤ) (m : Meaning Reference) → ⟦<i32 as Carried<E>>⟧.means z m ↔ (m ≡ integer z) }
+    ensures writes { (e : Refusal) → ⟦<i32 as PagableSerialize<E>>⟧.write_causes e ↔ memory e }
+    ensures reads { (e : Refusal) → ⟦<i32 as PagableDeserialize<'static, E>>⟧.read_causes e ↔ never e }
+{}
+
+/// An `i64` is spelled as a signed number of 64 bits and means itself. Writing wants memory at most;
+/// reading has no cause of its own.
+pub fn i64_is_carried<E: Env>()
+    ensures shape { (e : E) → ⟦<i64 as Carried<E>>⟧.shape e ≡ signed w64 }
+    ensures means { (z : ℤ) (m : Meaning Reference) → ⟦<i64 as Carried<E>>⟧.means z m ↔ (m ≡ integer z) }
+    ensures writes { (e : Refusal) → ⟦<i64 as PagableSerialize<E>>⟧.write_causes e ↔ memory e }
+    ensures reads { (e : Refusal) → ⟦<i64 as PagableDeserialize<'static, E>>⟧.read_causes e ↔ never e }
+{}
+
+/// An `i128` is spelled as a signed number of 128 bits and means itself. Writing wants memory at most;
+/// reading has no cause of its own.
+pub fn i128_is_carried<E: Env>()
+    ensures shape { (e : E) → ⟦<i128 as Carried<E>>⟧.shape e ≡ signed w128 }
+    ensures means { (z : ℤ) (m : Meaning Reference) → ⟦<i128 as Carried<E>>⟧.means z m ↔ (m ≡ integer z) }
+    ensures writes { (e : Refusal) → ⟦<i128 as PagableSerialize<E>>⟧.write_causes e ↔ memory e }
+    ensures reads { (e : Refusal) → ⟦<i128 as PagableDeserialize<'static, E>>⟧.read_causes e ↔ never e }
+{}
+
+/// `()` is spelled as nothing, means nothing, and is never refused.
+pub fn nothing_is_carried<E: Env>()
+    ensures shape { (e : E) → ⟦<() as Carried<E>>⟧.shape e ≡ nothing }
+    ensures means { (m : Meaning Reference) → ⟦<() as Carried<E>>⟧.means tt m ↔ (m ≡ none) }
+    ensures writes { (e : Refusal) → ⟦<() as PagableSerialize<E>>⟧.write_causes e ↔ never e }
+    ensures reads { (e : Refusal) → ⟦<() as PagableDeserialize<'static, E>>⟧.read_causes e ↔ never e }
 {}
 
 /// A `String` is spelled as a text, means its bytes, and is refused by want of memory alone.
@@ -40,4 +153,51 @@ pub fn string_is_carried<E: Env>()
     ensures means { (s : Text Heap) (m : Meaning Reference) → ⟦<String as Carried<E>>⟧.means s m ↔ (m ≡ meanings.text (string_bytes s)) }
     ensures writes { (e : Refusal) → ⟦<String as PagableSerialize<E>>⟧.write_causes e ↔ memory e }
     ensures reads { (e : Refusal) → ⟦<String as PagableDeserialize<'static, E>>⟧.read_causes e ↔ memory e }
+{}
+
+/// An `Option` is spelled as a flag and the value where it is true, and means that there is none or what the value
+/// means. Writing it may want memory or be refused as the value is; reading it is refused as the value is.
+pub fn option_is_carried<E: Env, T: PagableSerialize<E> + PagableDeserialize<'static, E>>()
+    ensures shape { (e : E) → ⟦<Option<T> as Carried<E>>⟧.shape e ≡ optional (T.Carried.shape e) }
+    ensures means { (o : Maybe T) (m : Meaning Reference) → ⟦<Option<T> as Carried<E>>⟧.means o m ↔ MeansOption T.Carried.means o m }
+    ensures writes { (e : Refusal) → ⟦<Option<T> as PagableSerialize<E>>⟧.write_causes e ↔ memory_or T.write_causes e }
+    ensures reads { (e : Refusal) → ⟦<Option<T> as PagableDeserialize<'static, E>>⟧.read_causes e ↔ T.read_causes e }
+{}
+
+/// A `Box` is spelled as its value and means what that means. It is refused as its value is; reading may want memory.
+pub fn box_is_carried<E: Env, T: PagableSerialize<E> + PagableDeserialize<'static, E> + Drop>()
+    ensures shape { (e : E) → ⟦<Box<T> as Carried<E>>⟧.shape e ≡ T.Carried.shape e }
+    ensures means { (b : Boxed T Heap) (m : Meaning Reference) → ⟦<Box<T> as Carried<E>>⟧.means b m ↔ T.Carried.means b.value m }
+    ensures writes { (e : Refusal) → ⟦<Box<T> as PagableSerialize<E>>⟧.write_causes e ↔ T.write_causes e }
+    ensures reads { (e : Refusal) → ⟦<Box<T> as PagableDeserialize<'static, E>>⟧.read_causes e ↔ memory_or T.read_causes e }
+{}
+
+/// A pair is spelled as its parts one after the other, means what they mean, and is refused as they are.
+pub fn pair_is_carried<
+    E: Env,
+    A: PagableSerialize<E> + PagableDeserialize<'static, E> + Drop,
+    B: PagableSerialize<E> + PagableDeserialize<'static, E>,
+>()
+    ensures shape { (e : E) → ⟦<(A, B) as Carried<E>>⟧.shape e ≡ both (A.Carried.shape e) (B.Carried.shape e) }
+    ensures means { (p : A × B) (m : Meaning Reference) → ⟦<(A, B) as Carried<E>>⟧.means p m ↔ MeansPair A.Carried.means B.Carried.means p m }
+    ensures writes { (e : Refusal) → ⟦<(A, B) as PagableSerialize<E>>⟧.write_causes e ↔ either A.write_causes B.write_causes e }
+    ensures reads { (e : Refusal) → ⟦<(A, B) as PagableDeserialize<'static, E>>⟧.read_causes e ↔ either A.read_causes B.read_causes e }
+{}
+
+/// A `Vec` is spelled as a length and its items, means what they mean, and is refused by want of memory or as an item
+/// is.
+pub fn list_is_carried<E: Env, T: PagableSerialize<E> + PagableDeserialize<'static, E> + Drop>()
+    ensures shape { (e : E) → ⟦<Vec<T> as Carried<E>>⟧.shape e ≡ list (T.Carried.shape e) }
+    ensures means { (v : Items T Heap) (m : Meaning Reference) → ⟦<Vec<T> as Carried<E>>⟧.means v m ↔ MeansList T.Carried.means v.items m }
+    ensures writes { (e : Refusal) → ⟦<Vec<T> as PagableSerialize<E>>⟧.write_causes e ↔ memory_or T.write_causes e }
+    ensures reads { (e : Refusal) → ⟦<Vec<T> as PagableDeserialize<'static, E>>⟧.read_causes e ↔ memory_or T.read_causes e }
+{}
+
+/// A static value is spelled as an index into the environment's registry, means its value whatever its index, and is
+/// refused by want of memory or where it isn't registered; reading it is never refused for a cause of its own.
+pub fn static_value_is_carried<E: Env, T: HasStaticValueRegistry<'static, E> + 'static>()
+    ensures shape { (e : E) → ⟦<StaticValue<'static, T> as Carried<E>>⟧.shape e ≡ static_value (meanings_of T.plain (T.known e)) }
+    ensures means { (v : Static T) (m : Meaning Reference) → ⟦<StaticValue<'static, T> as Carried<E>>⟧.means v m ↔ (m ≡ lifted (T.plain v.0.value.now)) }
+    ensures writes { (e : Refusal) → ⟦<StaticValue<'static, T> as PagableSerialize<E>>⟧.write_causes e ↔ memory_or unregistered e }
+    ensures reads { (e : Refusal) → ⟦<StaticValue<'static, T> as PagableDeserialize<'static, E>>⟧.read_causes e ↔ never e }
 {}

@@ -15,6 +15,11 @@ pub mod traits;
 pub use deserializer::PagableDeserializer;
 pub use env::Env;
 pub use hash::KeyHash;
+pub use impls::slices::serialize_slice;
+pub use impls::static_value::{
+    HasStaticValueRegistry, StaticBytes, StaticStr, StaticValue, StaticValueEntry,
+    StaticValueRegistry,
+};
 pub use nodes::{InNode, NodeSet};
 pub use pagable_model::{
     ArcRef, HandleNumber, Identity, Kind, LoadNumber, NodeNumber, PagableCursor, WorkerNumber,

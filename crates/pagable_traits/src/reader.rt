@@ -1,12 +1,12 @@
 //! What a deserializer lends to read basic types.
 
 ghost use Rattle.std.specs.Prelude.{◌≡◌, ◌≤◌, length};
-ghost use Rattle.std.specs.Int.{w16, w64};
+ghost use Rattle.std.specs.Int.{w8, w16, w32, w64, w128};
 ghost use Rattle.std.specs.String.{string_bytes};
 ghost use Rattle.pagable_model.specs.Track.{Track, left, GoesOn};
 ghost use Rattle.pagable_model.specs.Gives.{Gives, never, memory};
-ghost use Rattle.pagable_model.specs.Numbers.{unsigned_at};
-ghost use Rattle.pagable_model.specs.Basic.{length_at, text_at, bool_at};
+ghost use Rattle.pagable_model.specs.Numbers.{unsigned_at, signed_at};
+ghost use Rattle.pagable_model.specs.Basic.{length_at, text_at, bool_at, char_at};
 
 use pagable_flavors::{Error, PagableSlice};
 use std::alloc::Global;
@@ -21,6 +21,11 @@ pub trait Reader {
         ensures place { result ≡ (track self.now).position }
         ensures within { result ≤ length (track self.now).all };
 
+    /// How many bytes are left.
+    fn size_hint(&self) -> usize
+        ensures bytes { result ≡ length (left (track self.now)) }
+        ensures within { (track self.now).position ≤ length (track self.now).all };
+
     /// Goes to a place that isn't past the end.
     fn set_position(&mut self, position: usize)
         requires { position ≤ length (track self.old).all }
@@ -30,12 +35,53 @@ pub trait Reader {
         ensures gives { Gives never (λ b. (b, left (track self.new))) result (bool_at (left (track self.old))) }
         ensures goes { GoesOn (track self.old) (track self.new) };
 
+    fn read_u8(&mut self) -> Result<u8, Error>
+        ensures gives { Gives never (λ n. (n, left (track self.new))) result (unsigned_at w8 (left (track self.old))) }
+        ensures goes { GoesOn (track self.old) (track self.new) };
+
     fn read_u16(&mut self) -> Result<u16, Error>
         ensures gives { Gives never (λ n. (n, left (track self.new))) result (unsigned_at w16 (left (track self.old))) }
         ensures goes { GoesOn (track self.old) (track self.new) };
 
+    fn read_u32(&mut self) -> Result<u32, Error>
+        ensures gives { Gives never (λ n. (n, left (track self.new))) result (unsigned_at w32 (left (track self.old))) }
+        ensures goes { GoesOn (track self.old) (track self.new) };
+
+    fn read_u64(&mut self) -> Result<u64, Error>
+        ensures gives { Gives never (λ n. (n, left (track self.new))) result (unsigned_at w64 (left (track self.old))) }
+        ensures goes { GoesOn (track self.old) (track self.new) };
+
+    fn read_u128(&mut self) -> Result<u128, Error>
+        ensures gives { Gives never (λ n. (n, left (track self.new))) result (unsigned_at w128 (left (track self.old))) }
+        ensures goes { GoesOn (track self.old) (track self.new) };
+
     fn read_usize(&mut self) -> Result<usize, Error>
         ensures gives { Gives never (λ n. (n, left (track self.new))) result (unsigned_at w64 (left (track self.old))) }
+        ensures goes { GoesOn (track self.old) (track self.new) };
+
+    fn read_i8(&mut self) -> Result<i8, Error>
+        ensures gives { Gives never (λ n. (n, left (track self.new))) result (signed_at w8 (left (track self.old))) }
+        ensures goes { GoesOn (track self.old) (track self.new) };
+
+    fn read_i16(&mut self) -> Result<i16, Error>
+        ensures gives { Gives never (λ n. (n, left (track self.new))) result (signed_at w16 (left (track self.old))) }
+        ensures goes { GoesOn (track self.old) (track self.new) };
+
+    fn read_i32(&mut self) -> Result<i32, Error>
+        ensures gives { Gives never (λ n. (n, left (track self.new))) result (signed_at w32 (left (track self.old))) }
+        ensures goes { GoesOn (track self.old) (track self.new) };
+
+    fn read_i64(&mut self) -> Result<i64, Error>
+        ensures gives { Gives never (λ n. (n, left (track self.new))) result (signed_at w64 (left (track self.old))) }
+        ensures goes { GoesOn (track self.old) (track self.new) };
+
+    fn read_i128(&mut self) -> Result<i128, Error>
+        ensures gives { Gives never (λ n. (n, left (track self.new))) result (signed_at w128 (left (track self.old))) }
+        ensures goes { GoesOn (track self.old) (track self.new) };
+
+    /// A text of one character: BadChar where it has none or more.
+    fn read_char(&mut self) -> Result<char, Error>
+        ensures gives { Gives never (λ c. (c, left (track self.new))) result (char_at (left (track self.old))) }
         ensures goes { GoesOn (track self.old) (track self.new) };
 
     /// A length: TooLong above 4,294,967,295.
@@ -55,6 +101,10 @@ impl Reader for PagableSlice<'_> {
         PagableSlice::position(self)
     }
 
+    fn size_hint(&self) -> usize {
+        PagableSlice::size_hint(self)
+    }
+
     fn set_position(&mut self, position: usize) {
         PagableSlice::set_position(self, position);
     }
@@ -63,12 +113,52 @@ impl Reader for PagableSlice<'_> {
         PagableSlice::read_bool(self)
     }
 
+    fn read_u8(&mut self) -> Result<u8, Error> {
+        PagableSlice::read_u8(self)
+    }
+
     fn read_u16(&mut self) -> Result<u16, Error> {
         PagableSlice::read_u16(self)
     }
 
+    fn read_u32(&mut self) -> Result<u32, Error> {
+        PagableSlice::read_u32(self)
+    }
+
+    fn read_u64(&mut self) -> Result<u64, Error> {
+        PagableSlice::read_u64(self)
+    }
+
+    fn read_u128(&mut self) -> Result<u128, Error> {
+        PagableSlice::read_u128(self)
+    }
+
     fn read_usize(&mut self) -> Result<usize, Error> {
         PagableSlice::read_usize(self)
+    }
+
+    fn read_i8(&mut self) -> Result<i8, Error> {
+        PagableSlice::read_i8(self)
+    }
+
+    fn read_i16(&mut self) -> Result<i16, Error> {
+        PagableSlice::read_i16(self)
+    }
+
+    fn read_i32(&mut self) -> Result<i32, Error> {
+        PagableSlice::read_i32(self)
+    }
+
+    fn read_i64(&mut self) -> Result<i64, Error> {
+        PagableSlice::read_i64(self)
+    }
+
+    fn read_i128(&mut self) -> Result<i128, Error> {
+        PagableSlice::read_i128(self)
+    }
+
+    fn read_char(&mut self) -> Result<char, Error> {
+        PagableSlice::read_char(self)
     }
 
     fn read_len(&mut self) -> Result<usize, Error> {

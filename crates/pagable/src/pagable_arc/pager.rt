@@ -4,7 +4,7 @@ ghost use Rattle.std.specs.Prelude.{◌≡◌, ◌+◌, ◌++◌, ◌∷◌, [],
 ghost use Rattle.std.specs.Arc.{arc_value};
 ghost use Rattle.pagable_model.specs.Blob.{key_of};
 ghost use Rattle.pagable_core.specs.Data.{blob_of};
-ghost use Rattle.pagable_core.specs.Stored.{Adds, RefusesFetch, RefusesStore};
+ghost use Rattle.pagable_model.specs.Stored.{Adds, RefusesFetch, RefusesStore};
 ghost use Rattle.pagable_world.specs.State.{WellFormed, is_node};
 ghost use Rattle.pagable_world.specs.Cells.{Cell};
 ghost use Rattle.pagable_world.specs.World.{plain, born, HasCell};

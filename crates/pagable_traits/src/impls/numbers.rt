@@ -1,11 +1,11 @@
-//! Whole numbers.
+//! Whole numbers without a sign.
 
-ghost use Rattle.std.specs.Int.{w16, w64};
-ghost use Rattle.pagable_model.specs.Gives.{never, memory};
-ghost use Rattle.pagable_model.specs.Shape.{unsigned};
-ghost use Rattle.pagable_model.specs.Meaning.{number};
-ghost use Rattle.pagable_model.specs.Standing.{Is};
 ghost use Rattle.std.specs.Prelude.{refl};
+ghost use Rattle.std.specs.Int.{w8, w16, w32, w64, w128};
+ghost use Rattle.pagable_model.specs.Gives.{never, memory};
+ghost use Rattle.pagable_model.specs.Meaning.{number};
+ghost use Rattle.pagable_model.specs.Shape.{unsigned};
+ghost use Rattle.pagable_model.specs.Standing.{Is};
 ghost use Rattle.pagable_traits.specs.Causes.{never_is_own_reading, memory_is_own_writing};
 
 use crate::deserializer::PagableDeserializer;
@@ -15,6 +15,47 @@ use crate::serializer::PagableSerializer;
 use crate::traits::{Carried, OneMeaning, PagableDeserialize, PagableSerialize};
 use pagable_flavors::Error;
 use std::alloc::Global;
+
+impl<E: Env> Carried<E> for u8 {
+    ghost shape = { λ e. unsigned w8 };
+
+    ghost means = { Is number };
+
+    ghost has_meaning = { λ x. (number x, refl) };
+}
+
+impl<E: Env> OneMeaning<E> for u8 {
+    ghost meaning = { number };
+
+    ghost is_meaning = { λ x. refl };
+
+    ghost single = { λ x m is. is };
+}
+
+impl<E: Env> PagableSerialize<E> for u8 {
+    ghost write_causes = { memory };
+
+    ghost write_causes_are_own = { memory_is_own_writing };
+
+    #[tactic(auto, using(crate::proofs::Writing::parts))]
+    fn pagable_serialize<S: PagableSerializer<E>>(&self, serializer: &mut S) -> Result<(), Error> {
+        serializer.serde().write_u8(*self)
+    }
+}
+
+impl<'de, E: Env> PagableDeserialize<'de, E> for u8 {
+    ghost read_causes = { never };
+
+    ghost read_causes_are_own = { never_is_own_reading };
+
+    #[tactic(auto, unfolding(pagable_model::specs::Reading::read, pagable_model::specs::Reading::read_with), using(crate::proofs::Reading::parts))]
+    fn pagable_deserialize<D: PagableDeserializer<E>>(
+        _alloc: Global,
+        deserializer: &mut D,
+    ) -> Result<Self, Error> {
+        deserializer.serde().read_u8()
+    }
+}
 
 impl<E: Env> Carried<E> for u16 {
     ghost shape = { λ e. unsigned w16 };
@@ -54,6 +95,129 @@ impl<'de, E: Env> PagableDeserialize<'de, E> for u16 {
         deserializer: &mut D,
     ) -> Result<Self, Error> {
         deserializer.serde().read_u16()
+    }
+}
+
+impl<E: Env> Carried<E> for u32 {
+    ghost shape = { λ e. unsigned w32 };
+
+    ghost means = { Is number };
+
+    ghost has_meaning = { λ x. (number x, refl) };
+}
+
+impl<E: Env> OneMeaning<E> for u32 {
+    ghost meaning = { number };
+
+    ghost is_meaning = { λ x. refl };
+
+    ghost single = { λ x m is. is };
+}
+
+impl<E: Env> PagableSerialize<E> for u32 {
+    ghost write_causes = { memory };
+
+    ghost write_causes_are_own = { memory_is_own_writing };
+
+    #[tactic(auto, using(crate::proofs::Writing::parts))]
+    fn pagable_serialize<S: PagableSerializer<E>>(&self, serializer: &mut S) -> Result<(), Error> {
+        serializer.serde().write_u32(*self)
+    }
+}
+
+impl<'de, E: Env> PagableDeserialize<'de, E> for u32 {
+    ghost read_causes = { never };
+
+    ghost read_causes_are_own = { never_is_own_reading };
+
+    #[tactic(auto, unfolding(pagable_model::specs::Reading::read, pagable_model::specs::Reading::read_with), using(crate::proofs::Reading::parts))]
+    fn pagable_deserialize<D: PagableDeserializer<E>>(
+        _alloc: Global,
+        deserializer: &mut D,
+    ) -> Result<Self, Error> {
+        deserializer.serde().read_u32()
+    }
+}
+
+impl<E: Env> Carried<E> for u64 {
+    ghost shape = { λ e. unsigned w64 };
+
+    ghost means = { Is number };
+
+    ghost has_meaning = { λ x. (number x, refl) };
+}
+
+impl<E: Env> OneMeaning<E> for u64 {
+    ghost meaning = { number };
+
+    ghost is_meaning = { λ x. refl };
+
+    ghost single = { λ x m is. is };
+}
+
+impl<E: Env> PagableSerialize<E> for u64 {
+    ghost write_causes = { memory };
+
+    ghost write_causes_are_own = { memory_is_own_writing };
+
+    #[tactic(auto, using(crate::proofs::Writing::parts))]
+    fn pagable_serialize<S: PagableSerializer<E>>(&self, serializer: &mut S) -> Result<(), Error> {
+        serializer.serde().write_u64(*self)
+    }
+}
+
+impl<'de, E: Env> PagableDeserialize<'de, E> for u64 {
+    ghost read_causes = { never };
+
+    ghost read_causes_are_own = { never_is_own_reading };
+
+    #[tactic(auto, unfolding(pagable_model::specs::Reading::read, pagable_model::specs::Reading::read_with), using(crate::proofs::Reading::parts))]
+    fn pagable_deserialize<D: PagableDeserializer<E>>(
+        _alloc: Global,
+        deserializer: &mut D,
+    ) -> Result<Self, Error> {
+        deserializer.serde().read_u64()
+    }
+}
+
+impl<E: Env> Carried<E> for u128 {
+    ghost shape = { λ e. unsigned w128 };
+
+    ghost means = { Is number };
+
+    ghost has_meaning = { λ x. (number x, refl) };
+}
+
+impl<E: Env> OneMeaning<E> for u128 {
+    ghost meaning = { number };
+
+    ghost is_meaning = { λ x. refl };
+
+    ghost single = { λ x m is. is };
+}
+
+impl<E: Env> PagableSerialize<E> for u128 {
+    ghost write_causes = { memory };
+
+    ghost write_causes_are_own = { memory_is_own_writing };
+
+    #[tactic(auto, using(crate::proofs::Writing::parts))]
+    fn pagable_serialize<S: PagableSerializer<E>>(&self, serializer: &mut S) -> Result<(), Error> {
+        serializer.serde().write_u128(*self)
+    }
+}
+
+impl<'de, E: Env> PagableDeserialize<'de, E> for u128 {
+    ghost read_causes = { never };
+
+    ghost read_causes_are_own = { never_is_own_reading };
+
+    #[tactic(auto, unfolding(pagable_model::specs::Reading::read, pagable_model::specs::Reading::read_with), using(crate::proofs::Reading::parts))]
+    fn pagable_deserialize<D: PagableDeserializer<E>>(
+        _alloc: Global,
+        deserializer: &mut D,
+    ) -> Result<Self, Error> {
+        deserializer.serde().read_u128()
     }
 }
 

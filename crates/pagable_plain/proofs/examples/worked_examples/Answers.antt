@@ -1,4 +1,4 @@
-use Rattle.pagable_plain.proofs.Computed.{numbers_spelled, numbers_read, cases_spelled, lists_spelled, maps_read, json_read, keys_weighed, texts_read, durations_read, registries_read, references_take, unknown_tags, references_followed, trees_keyed, shapes_met}
+use Rattle.pagable_plain.proofs.Computed.{numbers_spelled, numbers_read, cases_spelled, lists_spelled, maps_read, json_read, keys_weighed, texts_read, durations_read, named_read, registries_read, references_take, unknown_tags, references_followed, trees_keyed, shapes_met}
 use Rattle.pagable_plain.proofs.examples.worked_examples.Goals as goal
 
 pub returns : goal.returns
@@ -12,6 +12,7 @@ returns c = record {
   keys = keys_weighed;
   texts = texts_read;
   durations = durations_read;
+  named = named_read;
   registries = registries_read;
   references = references_take;
   unknown = unknown_tags;

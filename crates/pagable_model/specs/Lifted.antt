@@ -1,0 +1,79 @@
+-- What values that hold others mean: the meanings of their parts, put together.
+use Rattle.std.specs.Prelude.{◌≡◌, refl, Option, Some, None, List, [], ◌∷◌, map}
+use Rattle.std.proofs.Common.{ap}
+use Rattle.pagable_model.specs.declared.numbers.ArcRef.{ArcRef}
+use Rattle.pagable_model.specs.Meaning.{Meaning, pair, sequence, absent, present}
+use Rattle.pagable_model.specs.Carried.{of_option}
+use Rattle.pagable_model.specs.Standing.{SomeMeaning}
+
+-- no value, or what the value means
+pub data MeansOption {T : Type 0} (M : T → Meaning ArcRef → Type 0) : Option T → Meaning ArcRef → Type 0 where
+  means-none : MeansOption M None absent
+  means-some : (x : T) (m : Meaning ArcRef) → M x m → MeansOption M (Some x) (present m)
+
+-- each item with its meaning, in their order
+pub data MeanAll {T : Type 0} (M : T → Meaning ArcRef → Type 0) : List T → List (Meaning ArcRef) → Type 0 where
+  mean-none : MeanAll M [] []
+  mean-more : (x : T) (m : Meaning ArcRef) (xs : List T) (ms : List (Meaning ArcRef)) → M x m → MeanAll M xs ms → MeanAll M (x ∷ xs) (m ∷ ms)
+
+-- the meanings of its items
+pub record MeansList {T : Type 0} (M : T → Meaning ArcRef → Type 0) (xs : List T) (m : Meaning ArcRef) : Type 0 where
+  pub ms : List (Meaning ArcRef)
+  pub each : MeanAll M xs ms
+  pub is : m ≡ sequence ms
+
+-- the meanings of its two parts
+pub record MeansPair {A B : Type 0} (M : A → Meaning ArcRef → Type 0) (N : B → Meaning ArcRef → Type 0) (p : A × B) (m : Meaning ArcRef) : Type 0 where
+  pub first : Meaning ArcRef
+  pub second : Meaning ArcRef
+  pub is_first : M p.0 first
+  pub is_second : N p.1 second
+  pub is : m ≡ pair first second
+
+-- ---- a value has a meaning if its parts have
+
+pub option_has_meaning : {T : Type 0} (M : T → Meaning ArcRef → Type 0) → ((x : T) → SomeMeaning (M x)) → (o : Option T) → SomeMeaning (MeansOption M o)
+option_has_meaning M has None = (absent, means-none)
+option_has_meaning M has (Some x) = (present (has x).0, means-some x (has x).0 (has x).1)
+
+pub items_have_meanings : {T : Type 0} (M : T → Meaning ArcRef → Type 0) → ((x : T) → SomeMeaning (M x)) → (xs : List T) → (ms : List (Meaning ArcRef)) × MeanAll M xs ms
+items_have_meanings M has [] = ([], mean-none)
+items_have_meanings M has (x ∷ xs) = let rest = items_have_meanings M has xs in ((has x).0 ∷ rest.0, mean-more x (has x).0 xs rest.0 (has x).1 rest.1)
+
+pub list_has_meaning : {T : Type 0} (M : T → Meaning ArcRef → Type 0) → ((x : T) → SomeMeaning (M x)) → (xs : List T) → SomeMeaning (MeansList M xs)
+list_has_meaning M has xs = let all = items_have_meanings M has xs in (sequence all.0, record { ms = all.0; each = all.1; is = refl })
+
+pub pair_has_meaning : {A B : Type 0} (M : A → Meaning ArcRef → Type 0) (N : B → Meaning ArcRef → Type 0) → ((x : A) → SomeMeaning (M x)) → ((y : B) → SomeMeaning (N y)) → (p : A × B) → SomeMeaning (MeansPair M N p)
+pair_has_meaning M N has_first has_second p =
+    (pair (has_first p.0).0 (has_second p.1).0, record { first = (has_first p.0).0; second = (has_second p.1).0; is_first = (has_first p.0).1; is_second = (has_second p.1).1; is = refl })
+
+-- ---- and one meaning if each of its parts has one
+
+pub option_is_meaning : {T : Type 0} (M : T → Meaning ArcRef → Type 0) (meaning : T → Meaning ArcRef) → ((x : T) → M x (meaning x)) → (o : Option T) → MeansOption M o (of_option meaning o)
+option_is_meaning M meaning is None = means-none
+option_is_meaning M meaning is (Some x) = means-some x (meaning x) (is x)
+
+pub option_single : {T : Type 0} (M : T → Meaning ArcRef → Type 0) (meaning : T → Meaning ArcRef) → ((x : T) (m : Meaning ArcRef) → M x m → m ≡ meaning x) → (o : Option T) (m : Meaning ArcRef) → MeansOption M o m → m ≡ of_option meaning o
+option_single M meaning single None _ means-none = refl
+option_single M meaning single (Some x) _ (means-some x' m is) = ap present (single x' m is)
+
+pub items_are_meanings : {T : Type 0} (M : T → Meaning ArcRef → Type 0) (meaning : T → Meaning ArcRef) → ((x : T) → M x (meaning x)) → (xs : List T) → MeanAll M xs (map meaning xs)
+items_are_meanings M meaning is [] = mean-none
+items_are_meanings M meaning is (x ∷ xs) = mean-more x (meaning x) xs (map meaning xs) (is x) (items_are_meanings M meaning is xs)
+
+pub items_single : {T : Type 0} (M : T → Meaning ArcRef → Type 0) (meaning : T → Meaning ArcRef) → ((x : T) (m : Meaning ArcRef) → M x m → m ≡ meaning x) → (xs : List T) (ms : List (Meaning ArcRef)) → MeanAll M xs ms → ms ≡ map meaning xs
+items_single M meaning single _ _ mean-none = refl
+items_single M meaning single _ _ (mean-more x m xs ms is all) = rw (single x m is, items_single M meaning single xs ms all) refl
+
+pub list_is_meaning : {T : Type 0} (M : T → Meaning ArcRef → Type 0) (meaning : T → Meaning ArcRef) → ((x : T) → M x (meaning x)) → (xs : List T) → MeansList M xs (sequence (map meaning xs))
+list_is_meaning M meaning is xs = record { ms = map meaning xs; each = items_are_meanings M meaning is xs; is = refl }
+
+pub list_single : {T : Type 0} (M : T → Meaning ArcRef → Type 0) (meaning : T → Meaning ArcRef) → ((x : T) (m : Meaning ArcRef) → M x m → m ≡ meaning x) → (xs : List T) (m : Meaning ArcRef) → MeansList M xs m → m ≡ sequence (map meaning xs)
+list_single M meaning single xs m means = rw (means.is, items_single M meaning single xs means.ms means.each) refl
+
+pub pair_is_meaning : {A B : Type 0} (M : A → Meaning ArcRef → Type 0) (N : B → Meaning ArcRef → Type 0) (f : A → Meaning ArcRef) (g : B → Meaning ArcRef) → ((x : A) → M x (f x)) → ((y : B) → N y (g y)) → (p : A × B) → MeansPair M N p (pair (f p.0) (g p.1))
+pair_is_meaning M N f g is_first is_second p = record { first = f p.0; second = g p.1; is_first = is_first p.0; is_second = is_second p.1; is = refl }
+
+pub pair_single : {A B : Type 0} (M : A → Meaning ArcRef → Type 0) (N : B → Meaning ArcRef → Type 0) (f : A → Meaning ArcRef) (g : B → Meaning ArcRef) → ((x : A) (m : Meaning ArcRef) → M x m → m ≡ f x) → ((y : B) (m : Meaning ArcRef) → N y m → m ≡ g y)
+    → (p : A × B) (m : Meaning ArcRef) → MeansPair M N p m → m ≡ pair (f p.0) (g p.1)
+pair_single M N f g single_first single_second p m means = rw (means.is, single_first p.0 means.first means.is_first, single_second p.1 means.second means.is_second) refl

@@ -1,0 +1,6 @@
+mod Sums
+mod Existing
+mod Alone
+mod Two
+mod Joining
+mod Missing

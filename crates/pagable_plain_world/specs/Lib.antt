@@ -1,0 +1,4 @@
+pub mod Samples
+pub mod FallLaws
+pub mod RunLaws
+pub mod NearMisses

@@ -1,0 +1,15 @@
+//! Tests of the crates below that are no data: cursors of readers and writers, references, laws, and the pager's calls.
+#![tactic(auto)]
+
+#[cfg(test)]
+mod calls;
+#[cfg(test)]
+mod cursors;
+#[cfg(test)]
+mod laws;
+#[cfg(test)]
+mod pager;
+#[cfg(test)]
+mod references;
+#[cfg(test)]
+mod storage;

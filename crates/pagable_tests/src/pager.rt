@@ -1,0 +1,155 @@
+//! Runs of the pager's calls over cells of texts. Each number was worked out by hand: handles, nodes and loads count from
+//! 1; an entry of the list and an open load have a handle of their own. The key of a text is the sum of its bytes times
+//! their places, of which 8 stand before it and one holds its length.
+
+use crate::calls::{Answer, Call, answer_to, empty, text};
+use pagable::{DataKey, Error, HandleNumber, LoadNumber, NodeNumber};
+use std::alloc::Global;
+use std::process::Abort;
+use std::test::Fail;
+
+/// The first node, and its loose handle.
+const NODE: NodeNumber = NodeNumber(1);
+
+const CELL: HandleNumber = HandleNumber(1);
+
+/// The handles that are made next.
+const SECOND: HandleNumber = HandleNumber(2);
+
+const THIRD: HandleNumber = HandleNumber(3);
+
+const SIXTH: HandleNumber = HandleNumber(6);
+
+/// The first open load, and the second.
+const LOAD: LoadNumber = LoadNumber(1);
+
+const NEXT_LOAD: LoadNumber = LoadNumber(2);
+
+/// Makes the calls of a table on an empty pager, and compares their answers. A failure names the row alone: a `Debug` of calls and
+/// answers would cost more of the check than all these tests.
+fn run(rt: &impl Abort, alloc: Global, rows: Vec<(Call, Answer)>) {
+    let mut pager = empty(alloc);
+    for (place, (call, wanted)) in rows.into_iter().enumerate() {
+        assert!(rt;
+            answer_to(alloc, &mut pager, call) == wanted,
+            "row {place} from 0"
+        );
+    }
+    pager.is_whole();
+}
+
+#[test]
+fn counts_and_the_list(rt: HostRuntime) -> Result<(), Fail> {
+    let rows = vec![in rt.alloc();
+        (Call::Pin(CELL), Answer::Refused(Error::NoSuchHandle)),
+        (Call::NewLoose("x"), Answer::Handle(CELL)),
+        (Call::NodeOf(CELL), Answer::Node(NODE)),
+        (Call::NodeLive(NODE), Answer::NodeType(Some(0))),
+        (Call::Count(CELL), Answer::Count(1)),
+        (Call::Pin(CELL), Answer::Handle(SECOND)),
+        (Call::Count(SECOND), Answer::Count(2)),
+        (Call::Pin(SECOND), Answer::Refused(Error::WrongMode)),
+        (Call::Unpin(SECOND), Answer::Refused(Error::WrongMode)),
+        (Call::SetDataKey(SECOND, 5), Answer::Done),
+        (Call::Key(SECOND), Answer::Key(None)),
+        (Call::Unpin(CELL), Answer::Done),
+        (Call::Unpin(CELL), Answer::Done),
+        (Call::Count(SECOND), Answer::Count(1)),
+        (Call::Pending, Answer::Pending(0)),
+        (Call::Release(SECOND), Answer::Done),
+        (Call::Release(SECOND), Answer::Refused(Error::NoSuchHandle)),
+        (Call::Count(CELL), Answer::Count(0)),
+        (Call::IsPagedOut(CELL), Answer::IsTrue(false)),
+        (Call::Pending, Answer::Pending(1)),
+        (Call::Count(THIRD), Answer::Count(0)),
+        (Call::Release(THIRD), Answer::Refused(Error::NotYours)),
+        (Call::TakePending(1), Answer::NoHandle),
+        (Call::TakePending(0), Answer::Handle(THIRD)),
+        (Call::NodeOf(THIRD), Answer::Node(NODE)),
+        (Call::Pending, Answer::Pending(0)),
+        (Call::Release(THIRD), Answer::Done),
+        (Call::Release(CELL), Answer::Done),
+        (Call::NodeLive(NODE), Answer::NodeType(None)),
+    ]?;
+    run(&rt, rt.alloc(), rows);
+    Ok(())
+}
+
+#[test]
+fn a_load_by_hand(rt: HostRuntime) -> Result<(), Fail> {
+    let hello = text(rt.alloc(), "hello world")?;
+    let rows = vec![in rt.alloc();
+        (Call::NewLoose("hello world"), Answer::Handle(CELL)),
+        (Call::LoadBegin(CELL), Answer::InMemory),
+        (Call::Unpin(CELL), Answer::Done),
+        (Call::PageOut, Answer::Done),
+        (Call::Key(CELL), Answer::Key(Some(16_879))),
+        (Call::IsPagedOut(CELL), Answer::IsTrue(true)),
+        (Call::Fetch(16_879), Answer::Blob(12)),
+        (Call::Pin(CELL), Answer::NeedsLoad(16_879)),
+        (Call::LoadBegin(CELL), Answer::Load(LOAD, 16_879)),
+        (Call::LoadDrop(LOAD), Answer::Done),
+        (Call::LoadDrop(LOAD), Answer::Refused(Error::NoSuchHandle)),
+        (Call::LoadBegin(CELL), Answer::Load(NEXT_LOAD, 16_879)),
+        (Call::LoadFetch(NEXT_LOAD), Answer::Blob(12)),
+        (Call::Count(CELL), Answer::Count(0)),
+        (
+            Call::LoadEnd(NEXT_LOAD, "hello world"),
+            Answer::Handle(SIXTH),
+        ),
+        (Call::Count(SIXTH), Answer::Count(2)),
+        (Call::Value(SIXTH), hello),
+        (Call::LoadBegin(CELL), Answer::InMemory),
+        (
+            Call::LoadDrop(NEXT_LOAD),
+            Answer::Refused(Error::NoSuchHandle),
+        ),
+        (Call::Release(SIXTH), Answer::Done),
+        (Call::Unpin(CELL), Answer::Done),
+        (Call::Value(CELL), Answer::NoText),
+        (Call::Pending, Answer::Pending(0)),
+    ]?;
+    run(&rt, rt.alloc(), rows);
+    Ok(())
+}
+
+#[test]
+fn a_key_that_is_set_by_hand(rt: HostRuntime) -> Result<(), Fail> {
+    let five = DataKey::new(5).ok_or("5 is a key")?;
+    let rows = vec![in rt.alloc();
+        (Call::NewLoose("x"), Answer::Handle(CELL)),
+        (Call::Unpin(CELL), Answer::Done),
+        (Call::TakePending(0), Answer::Handle(SECOND)),
+        (Call::SetDataKey(SECOND, 5), Answer::Done),
+        (Call::Release(SECOND), Answer::Done),
+        (Call::Key(CELL), Answer::Key(Some(5))),
+        (Call::Pin(CELL), Answer::NeedsLoad(5)),
+        (Call::LoadBegin(CELL), Answer::Load(LOAD, 5)),
+        (Call::LoadFetch(LOAD), Answer::Refused(Error::NoData(five))),
+    ]?;
+    run(&rt, rt.alloc(), rows);
+    Ok(())
+}
+
+#[test]
+fn a_load_whose_handle_is_gone(rt: HostRuntime) -> Result<(), Fail> {
+    let rows = vec![in rt.alloc();
+        (Call::NewLoose("x"), Answer::Handle(CELL)),
+        (Call::Unpin(CELL), Answer::Done),
+        (Call::PageOut, Answer::Done),
+        (Call::LoadBegin(CELL), Answer::Load(LOAD, 1209)),
+        (Call::Release(CELL), Answer::Done),
+        (Call::NodeLive(NODE), Answer::NodeType(Some(0))),
+        (
+            Call::LoadEnd(LOAD, "x"),
+            Answer::EndRefused(Error::NoSuchHandle, false),
+        ),
+        (Call::NodeLive(NODE), Answer::NodeType(None)),
+        (
+            Call::LoadEnd(LOAD, "x"),
+            Answer::EndRefused(Error::NoSuchHandle, true),
+        ),
+    ]?;
+    run(&rt, rt.alloc(), rows);
+    Ok(())
+}

@@ -1,0 +1,144 @@
+//! A reference is written and read by the concrete serializer and deserializer.
+
+ghost use Rattle.std.specs.Prelude.{◌≡◌, refl};
+ghost use Rattle.pagable_model.specs.Gives.{memory, never};
+ghost use Rattle.pagable_model.specs.Meaning.{reference as reference_meaning};
+ghost use Rattle.pagable_model.specs.Shape.{reference, nothing};
+ghost use Rattle.pagable_model.specs.Standing.{Is};
+ghost use Rattle.pagable_traits.specs.Causes.{memory_is_own_writing, never_is_own_reading};
+
+use pagable::{
+    ArcRef, Carried, DataKey, Env, Error, HandleNumber, Kind, NodeNumber, PagableDeserialize,
+    PagableDeserializer, PagableDeserializerImpl, PagableSerialize, PagableSerializer,
+    PagableSerializerImpl, References, WeighHash,
+};
+use std::alloc::Global;
+use std::test::Fail;
+
+#[derive(Drop)]
+struct NoNode;
+
+#[derive(Drop)]
+struct TestEnv;
+
+impl Env for TestEnv {
+    type Node = NoNode;
+
+    type Hash = WeighHash;
+
+    ghost use Rattle.pagable_model.specs.Shape.{nothing};
+
+    ghost parts = { λ e number. nothing };
+}
+
+/// A reference of kind 5.
+#[derive(Clone, Copy, Debug, PartialEq)]
+struct Held {
+    arc: ArcRef,
+    ghost of_kind: { arc.kind.0 ≡ 5 },
+}
+
+impl Carried<TestEnv> for Held {
+    ghost shape = { λ e. reference 5 };
+
+    ghost means = { Is (λ h. reference_meaning h.arc) };
+
+    ghost has_meaning = { λ h. (reference_meaning h.arc, refl) };
+}
+
+impl PagableSerialize<TestEnv> for Held {
+    ghost write_causes = { memory };
+
+    ghost write_causes_are_own = { memory_is_own_writing };
+
+    #[tactic(auto, using(pagable_traits::proofs::Writing::parts, pagable_traits::proofs::Writing::references))]
+    fn pagable_serialize<S: PagableSerializer<TestEnv>>(
+        &self,
+        serializer: &mut S,
+    ) -> Result<(), Error> {
+        serializer.serialize_arc(self.arc)
+    }
+}
+
+impl<'de> PagableDeserialize<'de, TestEnv> for Held {
+    ghost read_causes = { never };
+
+    ghost read_causes_are_own = { never_is_own_reading };
+
+    #[tactic(auto, unfolding(pagable_model::specs::Reading::read, pagable_model::specs::Reading::read_with), using(pagable_traits::proofs::Reading::parts))]
+    fn pagable_deserialize<D: PagableDeserializer<TestEnv>>(
+        _alloc: Global,
+        deserializer: &mut D,
+    ) -> Result<Self, Error> {
+        let arc = deserializer.deserialize_arc(Kind(5))?;
+        Ok(Held { arc })
+    }
+}
+
+/// Answers each key with a handle of its own, whose number is the place after the reference.
+#[derive(Drop)]
+struct Places {
+    env: TestEnv,
+}
+
+impl References<TestEnv> for Places {
+    ghost use Rattle.std.specs.Prelude.{Ok, ◌+◌};
+
+    ghost environment = { λ s. s.env };
+
+    ghost answer = { λ s place key kind. Ok (record { kind = record { 0 = kind }; node = record { 0 = 7 }; handle = record { 0 = 9 } }) };
+
+    fn env(&self) -> &TestEnv {
+        &self.env
+    }
+
+    fn reference(&mut self, _place: usize, _key: DataKey, kind: Kind) -> Result<ArcRef, Error> {
+        Ok(ArcRef {
+            kind,
+            node: NodeNumber(7),
+            handle: HandleNumber(9),
+        })
+    }
+}
+
+fn key(number: u128) -> Result<DataKey, &'static str> {
+    DataKey::new(number).ok_or("0 is no key")
+}
+
+#[test]
+fn a_reference_takes_one_key(rt: HostRuntime) -> Result<(), Fail> {
+    let alloc = rt.alloc();
+    let arcs = vec![in alloc; key(5)?]?;
+    let mut source = PagableDeserializerImpl::new(b"", arcs.as_slice(), Places { env: TestEnv });
+    let front = PagableDeserializer::<TestEnv>::position(&source);
+    let first = Held::pagable_deserialize(alloc, &mut source)
+        .ok()
+        .ok_or("refused")?;
+    assert_eq!(rt; first.arc.handle, HandleNumber(9));
+    assert_eq!(rt;
+        Held::pagable_deserialize(alloc, &mut source),
+        Err(Error::NoMoreKeys)
+    );
+    PagableDeserializer::<TestEnv>::seek(&mut source, front);
+    assert_eq!(rt; Held::pagable_deserialize(alloc, &mut source), Ok(first));
+    Ok(())
+}
+
+#[test]
+fn a_reference_is_written_as_no_byte(rt: HostRuntime) -> Result<(), Fail> {
+    let alloc = rt.alloc();
+    let env = TestEnv;
+    let mut out = PagableSerializerImpl::testing_new(alloc, &env);
+    let held = Held {
+        arc: ArcRef {
+            kind: Kind(5),
+            node: NodeNumber(7),
+            handle: HandleNumber(9),
+        },
+    };
+    assert_eq!(rt; held.pagable_serialize(&mut out), Ok(()));
+    let data = out.finish().ok().ok_or("refused")?;
+    assert_eq!(rt; data.bytes.len(), 0);
+    assert_eq!(rt; data.arcs.as_slice(), [held.arc].as_slice());
+    Ok(())
+}

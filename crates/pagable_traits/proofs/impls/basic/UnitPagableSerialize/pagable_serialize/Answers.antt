@@ -1,0 +1,5 @@
+use Rattle.pagable_traits.proofs.Writing.{writes_nothing}
+use Rattle.pagable_traits.proofs.impls.basic.UnitPagableSerialize.pagable_serialize.Goals as goal
+
+pub returns-clause-ok : goal.returns-clause-ok
+returns-clause-ok g c = writes_nothing _ _

@@ -1,0 +1,15 @@
+use Rattle.std.proofs.Common.{◌≡◌, take}
+use Rattle.pagable_model.specs.Writing.{WritesSomeAll, nesting}
+use Rattle.pagable_model.specs.Lifted.{MeanAll}
+use Rattle.pagable_traits.proofs.impls.lists.write_items.Given as goal
+
+abbrev pub invariant-loop-value : goal.invariant-loop-value
+invariant-loop-value g l =
+    let env = g.S.PagableSerializer.environment l.fn.serializer in
+    record {
+      ok :
+          WritesSomeAll (MeanAll g.T.Carried.means (take l.value-index l.values)) (nesting (g.S.PagableSerializer.levels l.fn.serializer) (g.E.Env.parts env)) (g.T.Carried.shape env)
+          (g.S.PagableSerializer.out l.fn.serializer) (g.S.PagableSerializer.out l.serializer);
+      same_env : g.S.PagableSerializer.environment l.serializer ≡ env;
+      same_levels : g.S.PagableSerializer.levels l.serializer ≡ g.S.PagableSerializer.levels l.fn.serializer;
+    }

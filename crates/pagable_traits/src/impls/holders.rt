@@ -1,0 +1,156 @@
+//! Values that hold one or two others: `Option`, `Box` and pairs.
+
+ghost use Rattle.pagable_model.specs.Carried.{of_option};
+ghost use Rattle.pagable_model.specs.Gives.{memory_or, either};
+ghost use Rattle.pagable_model.specs.Meaning.{pair};
+ghost use Rattle.pagable_model.specs.Shape.{optional, both};
+ghost use Rattle.pagable_traits.specs.Causes.{memory_or_is_own_reading, memory_or_is_own_writing, either_is_own_reading, either_is_own_writing};
+ghost use Rattle.pagable_model.specs.Lifted.{MeansOption, option_has_meaning, option_is_meaning, option_single, MeansPair, pair_has_meaning, pair_is_meaning, pair_single};
+
+use crate::deserializer::PagableDeserializer;
+use crate::env::Env;
+use crate::impls::parts::{read_flag, write_flag};
+use crate::serializer::PagableSerializer;
+use crate::traits::{Carried, OneMeaning, PagableDeserialize, PagableSerialize};
+use pagable_flavors::Error;
+use std::alloc::Global;
+
+impl<E: Env, T: Carried<E>> Carried<E> for Option<T> {
+    ghost shape = { λ e. optional (T.shape e) };
+
+    ghost means = { MeansOption T.means };
+
+    ghost has_meaning = { option_has_meaning T.means T.has_meaning };
+}
+
+impl<E: Env, T: OneMeaning<E>> OneMeaning<E> for Option<T> {
+    ghost meaning = { of_option T.meaning };
+
+    ghost is_meaning = { option_is_meaning T.Carried.means T.meaning T.is_meaning };
+
+    ghost single = { option_single T.Carried.means T.meaning T.single };
+}
+
+impl<E: Env, T: PagableSerialize<E>> PagableSerialize<E> for Option<T> {
+    ghost write_causes = { memory_or T.write_causes };
+
+    ghost write_causes_are_own = { memory_or_is_own_writing T.write_causes T.write_causes_are_own };
+
+    #[tactic(auto, using(crate::proofs::Writing::parts, crate::proofs::Parts::options, crate::proofs::Parts::causes, crate::proofs::Parts::steps))]
+    fn pagable_serialize<S: PagableSerializer<E>>(&self, serializer: &mut S) -> Result<(), Error> {
+        match self {
+            None => write_flag(false, serializer),
+            Some(value) => {
+                write_flag(true, serializer)?;
+                value.pagable_serialize(serializer)
+            }
+        }
+    }
+}
+
+impl<'de, E: Env, T: PagableDeserialize<'de, E>> PagableDeserialize<'de, E> for Option<T> {
+    ghost read_causes = { T.read_causes };
+
+    ghost read_causes_are_own = { T.read_causes_are_own };
+
+    #[tactic(auto, unfolding(pagable_model::specs::Reading::read, pagable_model::specs::Reading::read_with), using(crate::proofs::Reading::parts, crate::proofs::Parts::options))]
+    fn pagable_deserialize<D: PagableDeserializer<E>>(
+        alloc: Global,
+        deserializer: &mut D,
+    ) -> Result<Self, Error> {
+        if !read_flag(deserializer)? {
+            return Ok(None);
+        }
+        let value = T::pagable_deserialize(alloc, deserializer)?;
+        Ok(Some(value))
+    }
+}
+
+impl<E: Env, T: Carried<E>> Carried<E> for Box<T> {
+    ghost shape = { λ e. T.shape e };
+
+    ghost means = { λ b. T.means b.value };
+
+    ghost has_meaning = { λ b. T.has_meaning b.value };
+}
+
+impl<E: Env, T: OneMeaning<E>> OneMeaning<E> for Box<T> {
+    ghost meaning = { λ b. T.meaning b.value };
+
+    ghost is_meaning = { λ b. T.is_meaning b.value };
+
+    ghost single = { λ b m is. T.single b.value m is };
+}
+
+impl<E: Env, T: PagableSerialize<E>> PagableSerialize<E> for Box<T> {
+    ghost write_causes = { T.write_causes };
+
+    ghost write_causes_are_own = { T.write_causes_are_own };
+
+    fn pagable_serialize<S: PagableSerializer<E>>(&self, serializer: &mut S) -> Result<(), Error> {
+        (**self).pagable_serialize(serializer)
+    }
+}
+
+impl<'de, E: Env, T: PagableDeserialize<'de, E> + Drop> PagableDeserialize<'de, E> for Box<T> {
+    ghost read_causes = { memory_or T.read_causes };
+
+    ghost read_causes_are_own = { memory_or_is_own_reading T.read_causes T.read_causes_are_own };
+
+    fn pagable_deserialize<D: PagableDeserializer<E>>(
+        alloc: Global,
+        deserializer: &mut D,
+    ) -> Result<Self, Error> {
+        let value = T::pagable_deserialize(alloc, deserializer)?;
+        Ok(Box::new(alloc, value)?)
+    }
+}
+
+impl<E: Env, A: Carried<E>, B: Carried<E>> Carried<E> for (A, B) {
+    ghost shape = { λ e. both (A.shape e) (B.shape e) };
+
+    ghost means = { MeansPair A.means B.means };
+
+    ghost has_meaning = { pair_has_meaning A.means B.means A.has_meaning B.has_meaning };
+}
+
+impl<E: Env, A: OneMeaning<E>, B: OneMeaning<E>> OneMeaning<E> for (A, B) {
+    ghost meaning = { λ p. pair (A.meaning p.0) (B.meaning p.1) };
+
+    ghost is_meaning = { pair_is_meaning A.Carried.means B.Carried.means A.meaning B.meaning A.is_meaning B.is_meaning };
+
+    ghost single = { pair_single A.Carried.means B.Carried.means A.meaning B.meaning A.single B.single };
+}
+
+impl<E: Env, A: PagableSerialize<E>, B: PagableSerialize<E>> PagableSerialize<E> for (A, B) {
+    ghost write_causes = { either A.write_causes B.write_causes };
+
+    ghost write_causes_are_own = { either_is_own_writing A.write_causes B.write_causes A.write_causes_are_own B.write_causes_are_own };
+
+    #[tactic(auto, using(crate::proofs::Writing::parts, crate::proofs::Parts::pairs, crate::proofs::Parts::causes))]
+    fn pagable_serialize<S: PagableSerializer<E>>(&self, serializer: &mut S) -> Result<(), Error> {
+        self.0.pagable_serialize(serializer)?;
+        self.1.pagable_serialize(serializer)
+    }
+}
+
+impl<
+    'de,
+    E: Env,
+    A: PagableDeserialize<'de, E> + Drop,
+    B: PagableDeserialize<'de, E>,
+> PagableDeserialize<'de, E> for (A, B) {
+    ghost read_causes = { either A.read_causes B.read_causes };
+
+    ghost read_causes_are_own = { either_is_own_reading A.read_causes B.read_causes A.read_causes_are_own B.read_causes_are_own };
+
+    #[tactic(auto, unfolding(pagable_model::specs::Reading::read, pagable_model::specs::Reading::read_with), using(crate::proofs::Reading::parts, crate::proofs::Parts::pairs))]
+    fn pagable_deserialize<D: PagableDeserializer<E>>(
+        alloc: Global,
+        deserializer: &mut D,
+    ) -> Result<Self, Error> {
+        let first = A::pagable_deserialize(alloc, deserializer)?;
+        let second = B::pagable_deserialize(alloc, deserializer)?;
+        Ok((first, second))
+    }
+}

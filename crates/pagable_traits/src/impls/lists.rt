@@ -1,0 +1,133 @@
+//! Lists, and the items of a list in turn.
+
+ghost use Rattle.std.specs.Prelude.{◌≡◌, ◌≤◌, length, map, min, OnOk, IfOk, IfErr, vec_len};
+ghost use Rattle.pagable_model.specs.Gives.{memory_or};
+ghost use Rattle.pagable_model.specs.Meaning.{sequence};
+ghost use Rattle.pagable_model.specs.Shape.{list};
+ghost use Rattle.pagable_model.specs.Reading.{items, read};
+ghost use Rattle.pagable_model.specs.Standing.{handles_at, MovesOn, GivesSome};
+ghost use Rattle.pagable_model.specs.Writing.{nesting, WritesSome, WritesSomeAll, Refused, RefusedAll, IsRefusal, Grows};
+ghost use Rattle.pagable_traits.specs.Causes.{memory_or_is_own_reading, memory_or_is_own_writing};
+ghost use Rattle.pagable_model.specs.Lifted.{MeanAll, MeansList, list_has_meaning, list_is_meaning, list_single};
+
+use crate::deserializer::PagableDeserializer;
+use crate::env::Env;
+use crate::impls::parts::{read_count, write_count};
+use crate::reader::Reader;
+use crate::serializer::PagableSerializer;
+use crate::traits::{Carried, OneMeaning, PagableDeserialize, PagableSerialize};
+use pagable_flavors::Error;
+use std::alloc::Global;
+
+/// Writes the items one after another, without their count. A refusal is that of the first item that is refused.
+#[tactic(auto, using(crate::proofs::Items::writing))]
+pub fn write_items<E: Env, T: PagableSerialize<E>, S: PagableSerializer<E>>(
+    values: &[T],
+    serializer: &mut S,
+) -> Result<(), Error>
+    ensures ok { OnOk result (WritesSomeAll (MeanAll T.means values.now) (nesting (S.levels serializer.old) (E.parts (S.environment serializer.old))) (T.shape (S.environment serializer.old)) (S.out serializer.old) (S.out serializer.new)) }
+    ensures refused { IfErr result (RefusedAll (MeanAll T.means values.now) (nesting (S.levels serializer.old) (E.parts (S.environment serializer.old))) (T.shape (S.environment serializer.old))) }
+    ensures only { IfErr result (IsRefusal T.write_causes) }
+    ensures err { Grows (S.out serializer.old) (S.out serializer.new) }
+    ensures same_env { S.environment serializer.new ≡ S.environment serializer.old }
+    ensures same_levels { S.levels serializer.new ≡ S.levels serializer.old }
+{
+    for value in values {
+        value.pagable_serialize(serializer)?;
+    }
+    Ok(())
+}
+
+/// Writes the count of the items, and then the items. TooLong above 4,294,967,295 items, before any item.
+#[tactic(auto, using(crate::proofs::Writing::parts, crate::proofs::Items::lists, crate::proofs::Parts::causes))]
+pub fn write_list<E: Env, T: PagableSerialize<E>, S: PagableSerializer<E>>(
+    values: &[T],
+    serializer: &mut S,
+) -> Result<(), Error>
+    ensures ok { OnOk result (WritesSome (MeansList T.means values.now) (nesting (S.levels serializer.old) (E.parts (S.environment serializer.old))) (list (T.shape (S.environment serializer.old))) (S.out serializer.old) (S.out serializer.new)) }
+    ensures refused { IfErr result (Refused (MeansList T.means values.now) (nesting (S.levels serializer.old) (E.parts (S.environment serializer.old))) (list (T.shape (S.environment serializer.old)))) }
+    ensures only { IfErr result (IsRefusal (memory_or T.write_causes)) }
+    ensures err { Grows (S.out serializer.old) (S.out serializer.new) }
+    ensures same_env { S.environment serializer.new ≡ S.environment serializer.old }
+    ensures same_levels { S.levels serializer.new ≡ S.levels serializer.old }
+{
+    write_count(values.len(), serializer)?;
+    write_items(values, serializer)
+}
+
+/// How many places to reserve for so many items: no more than bytes are left, so that a count alone takes no memory.
+#[tactic(auto, using(crate::proofs::Reading::parts))]
+pub fn places_for<E: Env, D: PagableDeserializer<E>>(count: usize, deserializer: &mut D) -> usize
+    ensures few { result ≡ min count (length (D.rest deserializer.old).bytes) }
+    ensures same_rest { D.rest deserializer.new ≡ D.rest deserializer.old }
+    ensures moves { MovesOn (D.standing deserializer.old) (D.standing deserializer.new) }
+    ensures same_env { D.environment deserializer.new ≡ D.environment deserializer.old }
+    ensures same_levels { D.levels deserializer.new ≡ D.levels deserializer.old }
+{
+    count.min(deserializer.serde().size_hint())
+}
+
+/// Reads this many items. A refusal is the first item's that is refused, or want of memory. As many places as bytes are
+/// left are reserved at most; items that take no byte grow the list one by one.
+pub fn read_items<'de, E: Env, T: PagableDeserialize<'de, E> + Drop, D: PagableDeserializer<E>>(
+    alloc: Global,
+    count: usize,
+    deserializer: &mut D,
+) -> Result<Vec<T>, Error>
+    ensures gives { GivesSome (memory_or T.read_causes) (λ v. MeanAll T.means v.items) (D.rest deserializer.new) result
+        (items (read (handles_at (D.levels deserializer.old) (E.parts (D.environment deserializer.old))) (T.shape (D.environment deserializer.old))) count (D.rest deserializer.old)) }
+    ensures count { IfOk result (λ v. vec_len v ≡ count) }
+    ensures moves { MovesOn (D.standing deserializer.old) (D.standing deserializer.new) }
+    ensures same_env { D.environment deserializer.new ≡ D.environment deserializer.old }
+    ensures same_levels { D.levels deserializer.new ≡ D.levels deserializer.old }
+{
+    let places = places_for(count, deserializer);
+    let mut values = Vec::with_capacity(alloc, places)?;
+    for index in 0..count {
+        let value = T::pagable_deserialize(alloc, deserializer)?;
+        values.push(value)?;
+    }
+    Ok(values)
+}
+
+impl<E: Env, T: Carried<E>> Carried<E> for Vec<T> {
+    ghost shape = { λ e. list (T.shape e) };
+
+    ghost means = { λ v. MeansList T.means v.items };
+
+    ghost has_meaning = { λ v. list_has_meaning T.means T.has_meaning v.items };
+}
+
+impl<E: Env, T: OneMeaning<E>> OneMeaning<E> for Vec<T> {
+    ghost meaning = { λ v. sequence (map T.meaning v.items) };
+
+    ghost is_meaning = { λ v. list_is_meaning T.Carried.means T.meaning T.is_meaning v.items };
+
+    ghost single = { λ v. list_single T.Carried.means T.meaning T.single v.items };
+}
+
+impl<E: Env, T: PagableSerialize<E>> PagableSerialize<E> for Vec<T> {
+    ghost write_causes = { memory_or T.write_causes };
+
+    ghost write_causes_are_own = { memory_or_is_own_writing T.write_causes T.write_causes_are_own };
+
+    fn pagable_serialize<S: PagableSerializer<E>>(&self, serializer: &mut S) -> Result<(), Error> {
+        write_list(self.as_slice(), serializer)
+    }
+}
+
+impl<'de, E: Env, T: PagableDeserialize<'de, E> + Drop> PagableDeserialize<'de, E> for Vec<T> {
+    ghost read_causes = { memory_or T.read_causes };
+
+    ghost read_causes_are_own = { memory_or_is_own_reading T.read_causes T.read_causes_are_own };
+
+    #[tactic(auto, unfolding(pagable_model::specs::Reading::read, pagable_model::specs::Reading::read_with), using(crate::proofs::Reading::parts, crate::proofs::Items::lists))]
+    fn pagable_deserialize<D: PagableDeserializer<E>>(
+        alloc: Global,
+        deserializer: &mut D,
+    ) -> Result<Self, Error> {
+        let count = read_count(deserializer)?;
+        let values = read_items(alloc, count, deserializer)?;
+        Ok(values)
+    }
+}

@@ -1,0 +1,222 @@
+//! Whole numbers with a sign.
+
+ghost use Rattle.std.specs.Prelude.{refl};
+ghost use Rattle.std.specs.Int.{w8, w16, w32, w64, w128};
+ghost use Rattle.pagable_model.specs.Gives.{never, memory};
+ghost use Rattle.pagable_model.specs.Meaning.{integer};
+ghost use Rattle.pagable_model.specs.Shape.{signed};
+ghost use Rattle.pagable_model.specs.Standing.{Is};
+ghost use Rattle.pagable_traits.specs.Causes.{never_is_own_reading, memory_is_own_writing};
+
+use crate::deserializer::PagableDeserializer;
+use crate::env::Env;
+use crate::reader::Reader;
+use crate::serializer::PagableSerializer;
+use crate::traits::{Carried, OneMeaning, PagableDeserialize, PagableSerialize};
+use pagable_flavors::Error;
+use std::alloc::Global;
+
+impl<E: Env> Carried<E> for i8 {
+    ghost shape = { λ e. signed w8 };
+
+    ghost means = { Is integer };
+
+    ghost has_meaning = { λ x. (integer x, refl) };
+}
+
+impl<E: Env> OneMeaning<E> for i8 {
+    ghost meaning = { integer };
+
+    ghost is_meaning = { λ x. refl };
+
+    ghost single = { λ x m is. is };
+}
+
+impl<E: Env> PagableSerialize<E> for i8 {
+    ghost write_causes = { memory };
+
+    ghost write_causes_are_own = { memory_is_own_writing };
+
+    #[tactic(auto, using(crate::proofs::Writing::parts))]
+    fn pagable_serialize<S: PagableSerializer<E>>(&self, serializer: &mut S) -> Result<(), Error> {
+        serializer.serde().write_i8(*self)
+    }
+}
+
+impl<'de, E: Env> PagableDeserialize<'de, E> for i8 {
+    ghost read_causes = { never };
+
+    ghost read_causes_are_own = { never_is_own_reading };
+
+    #[tactic(auto, unfolding(pagable_model::specs::Reading::read, pagable_model::specs::Reading::read_with), using(crate::proofs::Reading::parts))]
+    fn pagable_deserialize<D: PagableDeserializer<E>>(
+        _alloc: Global,
+        deserializer: &mut D,
+    ) -> Result<Self, Error> {
+        deserializer.serde().read_i8()
+    }
+}
+
+impl<E: Env> Carried<E> for i16 {
+    ghost shape = { λ e. signed w16 };
+
+    ghost means = { Is integer };
+
+    ghost has_meaning = { λ x. (integer x, refl) };
+}
+
+impl<E: Env> OneMeaning<E> for i16 {
+    ghost meaning = { integer };
+
+    ghost is_meaning = { λ x. refl };
+
+    ghost single = { λ x m is. is };
+}
+
+impl<E: Env> PagableSerialize<E> for i16 {
+    ghost write_causes = { memory };
+
+    ghost write_causes_are_own = { memory_is_own_writing };
+
+    #[tactic(auto, using(crate::proofs::Writing::parts))]
+    fn pagable_serialize<S: PagableSerializer<E>>(&self, serializer: &mut S) -> Result<(), Error> {
+        serializer.serde().write_i16(*self)
+    }
+}
+
+impl<'de, E: Env> PagableDeserialize<'de, E> for i16 {
+    ghost read_causes = { never };
+
+    ghost read_causes_are_own = { never_is_own_reading };
+
+    #[tactic(auto, unfolding(pagable_model::specs::Reading::read, pagable_model::specs::Reading::read_with), using(crate::proofs::Reading::parts))]
+    fn pagable_deserialize<D: PagableDeserializer<E>>(
+        _alloc: Global,
+        deserializer: &mut D,
+    ) -> Result<Self, Error> {
+        deserializer.serde().read_i16()
+    }
+}
+
+impl<E: Env> Carried<E> for i32 {
+    ghost shape = { λ e. signed w32 };
+
+    ghost means = { Is integer };
+
+    ghost has_meaning = { λ x. (integer x, refl) };
+}
+
+impl<E: Env> OneMeaning<E> for i32 {
+    ghost meaning = { integer };
+
+    ghost is_meaning = { λ x. refl };
+
+    ghost single = { λ x m is. is };
+}
+
+impl<E: Env> PagableSerialize<E> for i32 {
+    ghost write_causes = { memory };
+
+    ghost write_causes_are_own = { memory_is_own_writing };
+
+    #[tactic(auto, using(crate::proofs::Writing::parts))]
+    fn pagable_serialize<S: PagableSerializer<E>>(&self, serializer: &mut S) -> Result<(), Error> {
+        serializer.serde().write_i32(*self)
+    }
+}
+
+impl<'de, E: Env> PagableDeserialize<'de, E> for i32 {
+    ghost read_causes = { never };
+
+    ghost read_causes_are_own = { never_is_own_reading };
+
+    #[tactic(auto, unfolding(pagable_model::specs::Reading::read, pagable_model::specs::Reading::read_with), using(crate::proofs::Reading::parts))]
+    fn pagable_deserialize<D: PagableDeserializer<E>>(
+        _alloc: Global,
+        deserializer: &mut D,
+    ) -> Result<Self, Error> {
+        deserializer.serde().read_i32()
+    }
+}
+
+impl<E: Env> Carried<E> for i64 {
+    ghost shape = { λ e. signed w64 };
+
+    ghost means = { Is integer };
+
+    ghost has_meaning = { λ x. (integer x, refl) };
+}
+
+impl<E: Env> OneMeaning<E> for i64 {
+    ghost meaning = { integer };
+
+    ghost is_meaning = { λ x. refl };
+
+    ghost single = { λ x m is. is };
+}
+
+impl<E: Env> PagableSerialize<E> for i64 {
+    ghost write_causes = { memory };
+
+    ghost write_causes_are_own = { memory_is_own_writing };
+
+    #[tactic(auto, using(crate::proofs::Writing::parts))]
+    fn pagable_serialize<S: PagableSerializer<E>>(&self, serializer: &mut S) -> Result<(), Error> {
+        serializer.serde().write_i64(*self)
+    }
+}
+
+impl<'de, E: Env> PagableDeserialize<'de, E> for i64 {
+    ghost read_causes = { never };
+
+    ghost read_causes_are_own = { never_is_own_reading };
+
+    #[tactic(auto, unfolding(pagable_model::specs::Reading::read, pagable_model::specs::Reading::read_with), using(crate::proofs::Reading::parts))]
+    fn pagable_deserialize<D: PagableDeserializer<E>>(
+        _alloc: Global,
+        deserializer: &mut D,
+    ) -> Result<Self, Error> {
+        deserializer.serde().read_i64()
+    }
+}
+
+impl<E: Env> Carried<E> for i128 {
+    ghost shape = { λ e. signed w128 };
+
+    ghost means = { Is integer };
+
+    ghost has_meaning = { λ x. (integer x, refl) };
+}
+
+impl<E: Env> OneMeaning<E> for i128 {
+    ghost meaning = { integer };
+
+    ghost is_meaning = { λ x. refl };
+
+    ghost single = { λ x m is. is };
+}
+
+impl<E: Env> PagableSerialize<E> for i128 {
+    ghost write_causes = { memory };
+
+    ghost write_causes_are_own = { memory_is_own_writing };
+
+    #[tactic(auto, using(crate::proofs::Writing::parts))]
+    fn pagable_serialize<S: PagableSerializer<E>>(&self, serializer: &mut S) -> Result<(), Error> {
+        serializer.serde().write_i128(*self)
+    }
+}
+
+impl<'de, E: Env> PagableDeserialize<'de, E> for i128 {
+    ghost read_causes = { never };
+
+    ghost read_causes_are_own = { never_is_own_reading };
+
+    #[tactic(auto, unfolding(pagable_model::specs::Reading::read, pagable_model::specs::Reading::read_with), using(crate::proofs::Reading::parts))]
+    fn pagable_deserialize<D: PagableDeserializer<E>>(
+        _alloc: Global,
+        deserializer: &mut D,
+    ) -> Result<Self, Error> {
+        deserializer.serde().read_i128()
+    }
+}

@@ -1,0 +1,100 @@
+//! Values of carried types, through the traits.
+
+use crate::answers::Answer;
+use anyhow::ensure;
+use pagable::{
+    NoReferences, PagableDeserialize, PagableDeserializer, PagableDeserializerImpl,
+    PagableSerialize, PagableSerializerImpl, WeighHash,
+};
+use pagable_samples::TextEnv;
+use std::alloc::Global;
+use std::fmt::Debug;
+
+/// The values hold no references, so any environment will do.
+type AnyEnv = TextEnv<WeighHash>;
+
+/// What comes of an input of the type `T`. A refused input is read once more from its front, and must be refused alike.
+fn replay_as<'de, T>(alloc: Global, input: &'de [u8]) -> anyhow::Result<Answer>
+where
+    T: PagableSerialize<AnyEnv> + PagableDeserialize<'de, AnyEnv> + Debug + Drop,
+{
+    let env = AnyEnv::new();
+    let mut source = PagableDeserializerImpl::new(input, &[], NoReferences::new(&env));
+    let front = PagableDeserializer::<AnyEnv>::position(&source);
+    let value = match T::pagable_deserialize(alloc, &mut source) {
+        Ok(value) => value,
+        Err(refusal) => {
+            PagableDeserializer::<AnyEnv>::seek(&mut source, front);
+            let again = T::pagable_deserialize(alloc, &mut source).err();
+            ensure!(
+                again.as_ref() == Some(&refusal),
+                "and {again:?} when read again"
+            );
+            return Ok(Answer::Refused(refusal));
+        }
+    };
+    let used = PagableDeserializer::<AnyEnv>::position(&source).byte_pos;
+    let mut out = PagableSerializerImpl::testing_new(alloc, &env);
+    value.pagable_serialize(&mut out)?;
+    Ok(Answer::Value {
+        shown: format!(in alloc; "{value:?}")?,
+        used,
+        written: out.finish()?.bytes,
+    })
+}
+
+/// What comes of an input of a basic type; None for another type.
+fn basic(alloc: Global, name: &str, input: &[u8]) -> anyhow::Result<Option<Answer>> {
+    let answer = match name {
+        "()" => replay_as::<()>(alloc, input)?,
+        "bool" => replay_as::<bool>(alloc, input)?,
+        "char" => replay_as::<char>(alloc, input)?,
+        "u8" => replay_as::<u8>(alloc, input)?,
+        "u16" => replay_as::<u16>(alloc, input)?,
+        "u32" => replay_as::<u32>(alloc, input)?,
+        "u64" => replay_as::<u64>(alloc, input)?,
+        "u128" => replay_as::<u128>(alloc, input)?,
+        "usize" => replay_as::<usize>(alloc, input)?,
+        "i8" => replay_as::<i8>(alloc, input)?,
+        "i16" => replay_as::<i16>(alloc, input)?,
+        "i32" => replay_as::<i32>(alloc, input)?,
+        "i64" => replay_as::<i64>(alloc, input)?,
+        "i128" => replay_as::<i128>(alloc, input)?,
+        "String" => replay_as::<String>(alloc, input)?,
+        _ => return Ok(None),
+    };
+    Ok(Some(answer))
+}
+
+/// What comes of an input of a type that holds values of others; None for another type.
+fn holder(alloc: Global, name: &str, input: &[u8]) -> anyhow::Result<Option<Answer>> {
+    let answer = match name {
+        "Box<u16>" => replay_as::<Box<u16>>(alloc, input)?,
+        "Option<()>" => replay_as::<Option<()>>(alloc, input)?,
+        "Option<bool>" => replay_as::<Option<bool>>(alloc, input)?,
+        "Option<u8>" => replay_as::<Option<u8>>(alloc, input)?,
+        "Option<String>" => replay_as::<Option<String>>(alloc, input)?,
+        "Option<Option<i32>>" => replay_as::<Option<Option<i32>>>(alloc, input)?,
+        "(u8,u8)" => replay_as::<(u8, u8)>(alloc, input)?,
+        "(bool,String)" => replay_as::<(bool, String)>(alloc, input)?,
+        "Vec<()>" => replay_as::<Vec<()>>(alloc, input)?,
+        "Vec<bool>" => replay_as::<Vec<bool>>(alloc, input)?,
+        "Vec<u8>" => replay_as::<Vec<u8>>(alloc, input)?,
+        "Vec<i32>" => replay_as::<Vec<i32>>(alloc, input)?,
+        "Vec<u64>" => replay_as::<Vec<u64>>(alloc, input)?,
+        "Vec<String>" => replay_as::<Vec<String>>(alloc, input)?,
+        "Vec<Option<u8>>" => replay_as::<Vec<Option<u8>>>(alloc, input)?,
+        "Vec<Vec<u16>>" => replay_as::<Vec<Vec<u16>>>(alloc, input)?,
+        "Vec<(String,i64)>" => replay_as::<Vec<(String, i64)>>(alloc, input)?,
+        _ => return Ok(None),
+    };
+    Ok(Some(answer))
+}
+
+/// What comes of an input of a carried type; None for another type.
+pub fn answer(alloc: Global, name: &str, input: &[u8]) -> anyhow::Result<Option<Answer>> {
+    match basic(alloc, name, input)? {
+        Some(answer) => Ok(Some(answer)),
+        None => holder(alloc, name, input),
+    }
+}
