@@ -117,10 +117,12 @@ module _ (rows : List HandleRow) (cells : List Cell) (entries : List HandleRow) 
               let at : owned_outside t n x ≤ sum_by (owned_outside t n) rows = at-most-sum (owned_outside t n) rows x among in
               let it : t x.number.0 ≡ true = grind (arith, nat_tests) in
               sym (ap t number) ∙ it
+
           of-row : (h : HandleRow) → (x : HandleRow) × Among rows x × (0 < follows (lost s) h.number.0 x) → t h.number.0 ≡ true
           of-row h (x, among, some) =
               let both : (x.number.0 == h.number.0 && owner_goes (lost s) x.owner) ≡ true = one-true _ some in
               of-value h x among (same-number _ _ (left-true _ _ both)) (owner-of (lost s) x.owner (right-true _ _ both))
+
       part : (h : HandleRow) → Among rows h → (a : Bool) → s h.number.0 ≡ a → (b : Bool) → nat_lt 0 (sum_by (follows (lost s) h.number.0) rows) ≡ b → only_in (more s) t h ≡ 0
       part h among true e b f = let c = inside s t h within among e in grind (arith, nat_tests)
       part h among false e true f = let c = owned h among (grind (arith, nat_tests)) in grind (arith, nat_tests)

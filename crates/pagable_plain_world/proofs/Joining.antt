@@ -24,6 +24,7 @@ new-whole m stored =
       whole = record {
         handles = record {
           ordered = λ i j lt d e. absurd (omega arith);
+          once = λ q. omega arith;
           fresh = λ q out. refl;
           cells_ordered = λ i j lt d e. absurd (omega arith);
           node_fresh = λ q out. refl;

@@ -4,3 +4,4 @@ mod Alone
 mod Two
 mod Joining
 mod Missing
+mod Places

@@ -24,9 +24,9 @@ not-push [] x e = absurd (cc)
 not-push (y ∷ ys) x e = absurd (cc)
 
 pub at-one : ItemIsAtOne
-at-one w worker written r place task none (inl (found, is, open, among, at)) = at
-at-one w worker written r place task none (inr (inl (h, i, is, open, same, at))) = absurd (cc)
-at-one w worker written r place task none (inr (inr (slot, own, (above, deepest), rest))) = absurd (not-push above slot (sym none ∙ deepest))
+at-one w worker written r place task none (inl (found, is, empty, among, at)) = at
+at-one w worker written r place task none (inr (inl (h, i, is, empty, same, at))) = absurd (cc)
+at-one w worker written r place task none (inr (inr (slot, own, (above, deepest), is, among, rest))) = absurd (not-push above slot (sym none ∙ deepest))
 
 pub first-root : {N B W : Type 0} (m : Seen N B W) → FirstIsTheRoot m
 first-root m w w' me load none (inl root) = root
@@ -35,7 +35,7 @@ first-root m w w' me load none (inr (inr (inl blob))) = let f = blob.asks.frames
 first-root m w w' me load none (inr (inr (inr made))) = let f = made.reads.frames in absurd (cc)
 
 pub no-wait : NoWaitForFree
-no-wait w w' worker r place free (named, short, (slot, other, not_own, ((among, (table, (kind, node))), rest)), same) =
+no-wait w w' worker r place free (named, short, (slot, other, not_own, ((among, table, kind, node), rest, result)), same) =
     let a = at-most-sum (λ s. one (is_slot worker.table.0 (identity_of r) s)) w.slots slot among in
     let t : slot.table.0 ≡ worker.table.0 = ap (λ x. x.0) table in
     let k : slot.reference.kind.0 ≡ r.kind.0 = ap (λ x. x.0) kind in

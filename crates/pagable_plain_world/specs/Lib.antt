@@ -2,3 +2,4 @@ pub mod Samples
 pub mod FallLaws
 pub mod RunLaws
 pub mod NearMisses
+pub mod Bridges

@@ -34,6 +34,7 @@ IsCellBefore a b = a.number < b.number
 pub record HandlesAreWhole (w : Whole) : Type 0 where
   -- they stand in the order of their numbers, which are used once, begin at 1 and are not above the last one given
   pub ordered : AllPairs IsHandleBefore w.rows
+  pub once : (q : ℕ) → sum_by (is_number q) w.rows ≤ 1
   pub fresh : (q : ℕ) → (w.last.handle < q) ⊎ (q ≡ 0) → sum_by (is_number q) w.rows ≡ 0
   pub cells_ordered : AllPairs IsCellBefore w.cells
   pub node_fresh : (q : ℕ) → (w.last.node < q) ⊎ (q ≡ 0) → times (is_cell q) w.cells ≡ 0
