@@ -4,3 +4,4 @@ pub mod Parts
 pub mod Items
 pub mod Slices
 pub mod Collecting
+pub mod Statics
