@@ -5,3 +5,4 @@ pub mod Items
 pub mod Slices
 pub mod Collecting
 pub mod Statics
+pub mod Tagged

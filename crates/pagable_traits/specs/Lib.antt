@@ -1,3 +1,6 @@
 pub mod Causes
 pub mod Collected
 pub mod Statics
+pub mod Session
+pub mod Statics
+pub mod Tagged

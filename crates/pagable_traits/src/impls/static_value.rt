@@ -1,6 +1,6 @@
 //! Static values: they stand in a registry that the environment holds, and are written as their index there.
 
-ghost use Rattle.std.specs.Prelude.{◌≡◌, ◌<◌, ◌≤◌, ◌↔◌, refl, List, length, map, Option, Some, Err, OnOk, IfOk, IfErr, IfSome, IfNone, IsTrue, vec_len};
+ghost use Rattle.std.specs.Prelude.{◌≡◌, ◌<◌, ◌≤◌, ◌↔◌, ⊤, refl, List, length, map, Option, Some, Err, OnOk, IfOk, IfErr, IfSome, IfNone, IsTrue, vec_len};
 ghost use Rattle.std.specs.Borrow.{Bor};
 ghost use Rattle.std.specs.List.{slice_get};
 ghost use Rattle.std.specs.List.Sorted.{IsPermutation, IsSortedByKey, IsStableByKey};
@@ -39,6 +39,10 @@ pub struct StaticValueEntry<'a, T> {
 }
 
 impl<'a, T> Clone for StaticValueEntry<'a, T> {
+    ghost is_clone = { λ x y. y ≡ x };
+
+    ghost is_infallible = { λ _. ⊤ };
+
     fn clone(&self) -> Result<Self, AllocError> {
         Ok(*self)
     }
@@ -83,6 +87,10 @@ impl<'a, T> StaticValue<'a, T> {
 }
 
 impl<'a, T> Clone for StaticValue<'a, T> {
+    ghost is_clone = { λ x y. y ≡ x };
+
+    ghost is_infallible = { λ _. ⊤ };
+
     fn clone(&self) -> Result<Self, AllocError> {
         Ok(*self)
     }
@@ -126,7 +134,13 @@ impl<'a, T> Deref for StaticValue<'a, T> {
 
 impl<'a, T: fmt::Display> fmt::Display for StaticValue<'a, T> {
     fn fmt<W: fmt::Write>(&self, f: &mut fmt::Formatter<W>) -> fmt::Result {
-        self.0.value.fmt(f)
+        fmt::Display::fmt(self.0.value, f)
+    }
+}
+
+impl<'a, T: fmt::Debug> fmt::Debug for StaticValue<'a, T> {
+    fn fmt<W: fmt::Write>(&self, f: &mut fmt::Formatter<W>) -> fmt::Result {
+        fmt::Debug::fmt(self.0.value, f)
     }
 }
 
