@@ -1,6 +1,5 @@
 pub mod Causes
 pub mod Collected
-pub mod Statics
 pub mod Session
 pub mod Statics
 pub mod Tagged
