@@ -5,3 +5,4 @@ pub mod InStep
 pub mod Lending
 pub mod Loads
 pub mod Trees
+pub mod Births

@@ -4,7 +4,7 @@ ghost use Rattle.std.specs.Prelude.{◌≡◌, ◌≢◌, ℕ, ◌+◌, [], All,
 ghost use Rattle.pagable_world.specs.State.{State, WellFormed, value_at, is_node};
 ghost use Rattle.pagable_world.specs.Cells.{Cell};
 ghost use Rattle.pagable_world.specs.World.{plain, greatest, HasCell};
-ghost use Rattle.pagable_world.specs.Calls.{Born, PinnedBy, Unpinned, Released, Counts, KeyIs, AwayIs, NodeIs, PinningIs, PinsNode, Took, KeySet, Begun, HasLoad, LooksLoad, Ended, Dropped};
+ghost use Rattle.pagable_world.specs.Calls.{Born, PinnedBy, Unpinned, Released, Counts, KeyIs, AwayIs, NodeIs, PinsNode, Took, KeySet, Begun, HasLoad, LooksLoad, Ended, Dropped};
 ghost use Rattle.pagable_world.specs.Values.{values_of, value_of_node, here, SameValues, NoValueComes, OnlyItsValueGoes, ValueComes, ValueIsThere};
 ghost use Rattle.pagable_world.specs.declared.rows.LoadRow.{LoadRow};
 ghost use Rattle.pagable_book.specs.Shape.{state_of};
@@ -142,14 +142,6 @@ impl Book {
         Ok(looked.handle.row.node)
     }
 
-    /// Whether the handle pins its node.
-    pub fn is_pinning(&self, handle: HandleNumber) -> Result<bool, Error>
-        ensures { PinningIs (plain self.now) handle result }
-    {
-        let looked = steps::look(&self.tables, handle)?;
-        Ok(tables::pins(looked.handle.row.mode))
-    }
-
     /// The handle's node, if the handle pins it: then its value is in memory.
     pub fn pinned_node(&self, handle: HandleNumber) -> Result<Option<NodeNumber>, Error>
         ensures step { PinsNode (plain self.now) handle result }
@@ -223,14 +215,6 @@ impl Book {
     {
         let at = loads::find(&self.tables, load)?;
         Ok(at.row.key)
-    }
-
-    /// The node whose value an open load reads. NoSuchHandle for a load that isn't open.
-    pub fn load_node(&self, load: LoadNumber) -> Result<NodeNumber, Error>
-        ensures { LooksLoad (plain self.now) load (λ node row. node ≡ row.node) result }
-    {
-        let at = loads::find(&self.tables, load)?;
-        Ok(at.row.node)
     }
 
     /// The node whose value an open load reads, and the type of that value. NoSuchHandle for a load that isn't open.

@@ -79,10 +79,6 @@ AwayIs w h r = Looks w h (λ b row cell. b ≡ (nat_eq (pins row.node.0 w.rows) 
 abbrev pub NodeIs : World → HandleNumber → Result NodeNumber Error → Type 0
 NodeIs w h r = Looks w h (λ node row cell. node ≡ row.node) r
 
--- whether the handle pins its node
-abbrev pub PinningIs : World → HandleNumber → Result Bool Error → Type 0
-PinningIs w h r = Looks w h (λ b row cell. b ≡ is_pinning row.mode) r
-
 -- the handle's node, if the handle pins it
 abbrev pub PinsNode : World → HandleNumber → Result (Option NodeNumber) Error → Type 0
 PinsNode w h (Ok (Some node)) = (i : ℕ) × (row : HandleRow) × HasRow w h i row × (is_pinning row.mode ≡ true) × (node ≡ row.node)

@@ -11,6 +11,7 @@ ghost use Rattle.pagable_world.specs.World.{plain, born, HasCell};
 ghost use Rattle.pagable_world.specs.Refusals.{IsUnknown};
 ghost use Rattle.pagable_world.specs.Calls.{PinnedBy, Unpinned, Released, Counts, KeyIs, AwayIs, NodeIs, Took, KeySet, Begun, Ended, Dropped};
 ghost use Rattle.pagable_world.specs.Values.{value_of_node};
+ghost use Rattle.pagable.specs.Births.{RefusesNew};
 ghost use Rattle.pagable.specs.InStep.{InStep, kept};
 ghost use Rattle.pagable.specs.Lending.{IsLent, PinsNothing};
 ghost use Rattle.pagable.specs.Loads.{ClosedBy, FitsLoad, Installs, LoadFetched, StaysOpen};
@@ -113,6 +114,7 @@ where
         ensures trees { OnOk result (BirthOf (record { type_of = E.Node.type_of; means = E.Node.means; shape_of = E.Node.shape_of; parts = E.parts; stored = S.stored }) node self.old self.new) }
         ensures same { SameStore self.old self.new }
         ensures err { OnErr result (Unchanged self.old self.new) }
+        ensures why { IfErr result (λ e. RefusesNew E.Node.refs_of node self.old.book e.0) }
         ensures back { IfErr result (λ e. e.1 ≡ node) }
     {
         match node.refs(alloc) {
@@ -448,6 +450,7 @@ where
         ensures trees { OnOk result (BirthOf (record { type_of = E.Node.type_of; means = E.Node.means; shape_of = E.Node.shape_of; parts = E.parts; stored = S.stored }) node self.old self.new) }
         ensures same { SameStore self.old self.new }
         ensures err { OnErr result (Unchanged self.old self.new) }
+        ensures why { IfErr result (λ e. RefusesNew E.Node.refs_of node self.old.book e.0) }
         ensures back { IfErr result (λ e. e.1 ≡ node) }
     {
         let node_type = node.node_type();
