@@ -1,3 +1,6 @@
 pub mod Blobs
 pub mod Found
 pub mod Shown
+pub mod InStep
+pub mod Lending
+pub mod Loads

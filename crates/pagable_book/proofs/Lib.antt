@@ -6,3 +6,5 @@ pub mod Known
 pub mod Settling
 pub mod Preparing
 pub mod Outcomes
+pub mod Here
+pub mod Comes

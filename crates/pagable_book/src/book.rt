@@ -1,15 +1,17 @@
 //! The book: tables that are whole, and the calls on them.
 
-ghost use Rattle.std.specs.Prelude.{◌≡◌, ℕ, ◌+◌, ◌<◌, ◌∷◌, [], IfOk, IfNone, IfSome, OnErr, length, nat_lt, sum_by, slice_get, Some, true, false};
-ghost use Rattle.pagable_world.specs.State.{State, WellFormed, value_at, is_node, is_same, is_aside, is_loose, is_pinning};
+ghost use Rattle.std.specs.Prelude.{◌≡◌, ℕ, ◌+◌, [], Bool, IfOk, IfErr, IfNone, IfSome, OnOk, OnErr, length, nat_lt, sum_by, false};
+ghost use Rattle.pagable_world.specs.State.{State, WellFormed, value_at, is_node};
 ghost use Rattle.pagable_world.specs.Cells.{Cell};
 ghost use Rattle.pagable_world.specs.World.{plain, greatest, HasCell};
-ghost use Rattle.pagable_world.specs.Calls.{Born, PinnedBy, Unpinned, Released, Counts, KeyIs, AwayIs, NodeIs, PinningIs, Took, KeySet, Begun, LooksLoad, Ended, Dropped, UnpinnedAt, ReleasedAt};
+ghost use Rattle.pagable_world.specs.Calls.{Born, PinnedBy, Unpinned, Released, Counts, KeyIs, AwayIs, NodeIs, PinningIs, PinsNode, Took, KeySet, Begun, HasLoad, LooksLoad, Ended, Dropped};
+ghost use Rattle.pagable_world.specs.Values.{values_of, value_of_node, here, SameValues, NoValueComes, OnlyItsValueGoes, ValueComes, ValueIsThere};
+ghost use Rattle.pagable_world.specs.declared.rows.LoadRow.{LoadRow};
 ghost use Rattle.pagable_book.specs.Shape.{state_of};
 
 use crate::places::{HandleAt, LoadAt, NodeAt};
 use crate::tables::Tables;
-use crate::{births, listing, loads, steps, tables};
+use crate::{births, calls, listing, loads, steps, tables};
 use pagable_model::{DataKey, Error, HandleNumber, LoadNumber, NodeNumber, OptionalDataKey};
 use pagable_world::{Beginning, EndRefusal, Mode, Pinning};
 use std::alloc::Global;
@@ -53,7 +55,8 @@ impl Book {
 
     /// What is true of every book.
     pub fn is_whole(&self)
-        ensures { WellFormed self.now }
+        ensures whole { WellFormed self.now }
+        ensures values { (fits : ℕ → Bool) (q : ℕ) → values_of fits q self.now ≡ here fits q (plain self.now) }
     {
         let _tables = &self.tables;
     }
@@ -61,7 +64,9 @@ impl Book {
     /// A new node of this type without a key, with one handle of the caller's: for a cell its mode is LoosePinned or
     /// Pinned. The node has the number that `next_node` told. NumbersSpent and OutOfMemory change nothing.
     pub fn add_cell(&mut self, node_type: u32, mode: Mode) -> Result<HandleNumber, Error>
-        ensures { Born (plain self.old) node_type mode result (plain self.new) }
+        ensures step { Born (plain self.old) node_type mode result (plain self.new) }
+        ensures comes { OnOk result (ValueComes (self.old.last_node + 1) node_type self.old self.new) }
+        ensures values { OnErr result (SameValues self.old self.new) }
     {
         births::bear(&mut self.tables, node_type, mode)
     }
@@ -69,15 +74,10 @@ impl Book {
     /// Pins a loose handle of the caller's and makes one more that pins, or tells under which key the value has to be
     /// read first; then nothing changes. No refusal changes anything.
     pub fn pin(&mut self, handle: HandleNumber) -> Result<Pinning, Error>
-        ensures { PinnedBy (plain self.old) handle result (plain self.new) }
+        ensures step { PinnedBy (plain self.old) handle result (plain self.new) }
+        ensures values { SameValues self.old self.new }
     {
-        let at = steps::own_loose(&self.tables, handle)?;
-        let node = steps::node_of(&self.tables, at.row.node);
-        if let OptionalDataKey::Some(key) = tables::away_key(node.row) {
-            return Ok(Pinning::NeedsLoad(key));
-        }
-        let number = steps::pin_through(&mut self.tables, at)?;
-        Ok(Pinning::Pinned(number))
+        calls::pin(&mut self.tables, handle)
     }
 
     /// Gives up the pin of a loose handle of the caller's. The handle stays, unpinned, and one that is unpinned already
@@ -85,37 +85,29 @@ impl Book {
     /// memory, the pin is given up all the same, and the answer is NumbersSpent or OutOfMemory. Other refusals change
     /// nothing.
     pub fn unpin(&mut self, handle: HandleNumber) -> Result<(), Error>
-        ensures { Unpinned (plain self.old) handle result (plain self.new) }
+        ensures step { Unpinned (plain self.old) handle result (plain self.new) }
+        ensures values { OnlyItsValueGoes handle self.old self.new }
     {
-        let at = steps::own_loose(&self.tables, handle)?;
-        if !tables::pins(at.row.mode) {
-            return Ok(());
-        }
-        listing::unpin(&mut self.tables, at)
+        calls::unpin(&mut self.tables, handle)
     }
 
     /// Gives up a handle of the caller's, a pinning one as `unpin` does. A node without handles is gone. NumbersSpent and
     /// OutOfMemory say that the cell couldn't be listed: the handle is given up all the same. Other refusals change
     /// nothing.
     pub fn release(&mut self, handle: HandleNumber) -> Result<(), Error>
-        ensures { Released (plain self.old) handle result (plain self.new) }
+        ensures step { Released (plain self.old) handle result (plain self.new) }
+        ensures values { OnlyItsValueGoes handle self.old self.new }
     {
-        let at = steps::own(&self.tables, handle)?;
-        listing::release(&mut self.tables, at)
+        calls::release(&mut self.tables, handle)
     }
 
     /// Sets or replaces the key of the cell, through a loose handle of the caller's: a cell that nothing pins loses its
     /// value by that. Through a Pinned or Shared handle nothing happens. A refusal changes nothing.
     pub fn set_data_key(&mut self, handle: HandleNumber, key: DataKey) -> Result<(), Error>
-        ensures { KeySet (plain self.old) handle key result (plain self.new) }
+        ensures step { KeySet (plain self.old) handle key result (plain self.new) }
+        ensures values { OnlyItsValueGoes handle self.old self.new }
     {
-        let at = steps::own(&self.tables, handle)?;
-        if !tables::is_loose_mode(at.row.mode) {
-            return Ok(());
-        }
-        let node = steps::node_of(&self.tables, at.row.node);
-        steps::set_key(&mut self.tables, node, key);
-        Ok(())
+        calls::set_data_key(&mut self.tables, handle, key)
     }
 
     /// How many handles pin the handle's node.
@@ -158,6 +150,18 @@ impl Book {
         Ok(tables::pins(looked.handle.row.mode))
     }
 
+    /// The handle's node, if the handle pins it: then its value is in memory.
+    pub fn pinned_node(&self, handle: HandleNumber) -> Result<Option<NodeNumber>, Error>
+        ensures step { PinsNode (plain self.now) handle result }
+        ensures there { IfOk result (λ found. IfSome found (λ node. value_of_node node.0 self.now ≡ 1)) }
+    {
+        let looked = steps::look(&self.tables, handle)?;
+        if !tables::pins(looked.handle.row.mode) {
+            return Ok(None);
+        }
+        Ok(Some(looked.handle.row.node))
+    }
+
     /// The number that the next node will have, or None where all were given.
     pub fn next_node(&self) -> Option<NodeNumber>
         ensures next { IfSome result (λ node. node.0 ≡ self.now.last_node + 1) }
@@ -197,7 +201,8 @@ impl Book {
 
     /// Moves the entry at this place of the list, counted from 0, to the caller. None past the end.
     pub fn take_pending(&mut self, i: usize) -> Option<HandleNumber>
-        ensures { Took (plain self.old) i result (plain self.new) }
+        ensures step { Took (plain self.old) i result (plain self.new) }
+        ensures values { SameValues self.old self.new }
     {
         listing::take(&mut self.tables, i)
     }
@@ -205,15 +210,10 @@ impl Book {
     /// Opens a load of a loose handle's cell, or tells that the value is in memory; then nothing changes. No refusal
     /// changes anything.
     pub fn load_begin(&mut self, handle: HandleNumber) -> Result<Beginning, Error>
-        ensures { Begun (plain self.old) handle result (plain self.new) }
+        ensures step { Begun (plain self.old) handle result (plain self.new) }
+        ensures values { SameValues self.old self.new }
     {
-        let at = steps::own_loose(&self.tables, handle)?;
-        let node = steps::node_of(&self.tables, at.row.node);
-        let OptionalDataKey::Some(key) = tables::away_key(node.row) else {
-            return Ok(Beginning::InMemory);
-        };
-        let load = loads::open(&mut self.tables, at, key)?;
-        Ok(Beginning::Load(load, key))
+        calls::load_begin(&mut self.tables, handle)
     }
 
     /// The key under which an open load reads its value. NoSuchHandle for a load that isn't open.
@@ -232,21 +232,35 @@ impl Book {
         Ok(at.row.node)
     }
 
+    /// The node whose value an open load reads, and the type of that value. NoSuchHandle for a load that isn't open.
+    pub fn load_cell(&self, load: LoadNumber) -> Result<(NodeNumber, u32), Error>
+        ensures { LooksLoad (plain self.now) load (λ found row. (found.0 ≡ row.node) × ((cell : Cell) × HasCell (plain self.now) row.node cell × (cell.node_type ≡ found.1))) result }
+    {
+        let at = loads::find(&self.tables, load)?;
+        let number = at.row.node;
+        let own = loads::own_of(&self.tables, at);
+        let node = steps::node_of(&self.tables, own.row.node);
+        let node_type = node.row.node_type;
+        Ok((number, node_type))
+    }
+
     /// Ends a load whose value is installed: the handle by which it was begun is pinned from now on, the answer is one
     /// more handle that pins, and the load is closed. Where that handle is gone (NoSuchHandle) or another's (NotYours),
     /// the load is closed and no more. An unknown load (NoSuchHandle), NumbersSpent and OutOfMemory change nothing.
     pub fn load_end(&mut self, load: LoadNumber) -> Result<HandleNumber, EndRefusal>
-        ensures { Ended (plain self.old) load result (plain self.new) }
+        ensures step { Ended (plain self.old) load result (plain self.new) }
+        ensures comes { IfOk result (λ _. (p : ℕ) (row : LoadRow) (cell : Cell) → HasLoad (plain self.old) load p row → HasCell (plain self.old) row.node cell → ValueIsThere row.node.0 cell.node_type self.old self.new) }
+        ensures goes { OnErr result (NoValueComes self.old self.new) }
+        ensures stays { IfErr result (λ refusal. (refusal.closed ≡ false) → SameValues self.old self.new) }
     {
         loads::end(&mut self.tables, load)
     }
 
     /// Gives up a load, with the handle that it owns. NoSuchHandle for a load that isn't open, and then nothing changes.
     pub fn load_drop(&mut self, load: LoadNumber) -> Result<(), Error>
-        ensures { Dropped (plain self.old) load result (plain self.new) }
+        ensures step { Dropped (plain self.old) load result (plain self.new) }
+        ensures values { NoValueComes self.old self.new }
     {
-        let at = loads::find(&self.tables, load)?;
-        loads::close(&mut self.tables, at);
-        Ok(())
+        calls::load_drop(&mut self.tables, load)
     }
 }

@@ -4,6 +4,7 @@
 
 pub mod births;
 pub mod book;
+pub mod calls;
 pub mod listing;
 pub mod loads;
 pub mod places;

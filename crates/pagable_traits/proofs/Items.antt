@@ -26,7 +26,7 @@ mean-last x m (mean-more y n xs ms g t) h = mean-more y n _ _ g (mean-last x m t
 pub mean_last : {T : Type 0} (M : T → Meaning ArcRef → Type 0) (xs : List T) (ms : List (Meaning ArcRef)) (x : T) (m : Meaning ArcRef) → MeanAll M xs ms → M x m → MeanAll M (xs ++ x ∷ []) (ms ++ m ∷ [])
 mean_last M xs ms x m all is = mean-last x m all is
 
-mean-length : {T : Type 0} {M : T → Meaning ArcRef → Type 0} {xs : List T} {ms : List (Meaning ArcRef)} → MeanAll M xs ms → length ms ≡ length xs
+pub mean-length : {T : Type 0} {M : T → Meaning ArcRef → Type 0} {xs : List T} {ms : List (Meaning ArcRef)} → MeanAll M xs ms → length ms ≡ length xs
 mean-length mean-none = refl
 mean-length (mean-more x m xs ms h t) = ap (λ (n : ℕ). suc n) (mean-length t)
 
@@ -99,7 +99,7 @@ writes_list M xs n s old mid new e le v =
       };
     }
 
-sequence-same : (xs ys : List (Meaning ArcRef)) → sequence xs ≡ sequence ys → xs ≡ ys
+pub sequence-same : (xs ys : List (Meaning ArcRef)) → sequence xs ≡ sequence ys → xs ≡ ys
 sequence-same [] [] e = refl
 sequence-same [] (y ∷ ys) e = cc
 sequence-same (x ∷ xs) [] e = cc

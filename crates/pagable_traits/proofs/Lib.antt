@@ -2,3 +2,6 @@ pub mod Writing
 pub mod Reading
 pub mod Parts
 pub mod Items
+pub mod Slices
+pub mod Collecting
+pub mod Statics

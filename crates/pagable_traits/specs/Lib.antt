@@ -1,2 +1,4 @@
 pub mod Causes
+pub mod Collected
 pub mod Lifted
+pub mod Statics

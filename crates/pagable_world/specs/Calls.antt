@@ -83,6 +83,12 @@ NodeIs w h r = Looks w h (λ node row cell. node ≡ row.node) r
 abbrev pub PinningIs : World → HandleNumber → Result Bool Error → Type 0
 PinningIs w h r = Looks w h (λ b row cell. b ≡ is_pinning row.mode) r
 
+-- the handle's node, if the handle pins it
+abbrev pub PinsNode : World → HandleNumber → Result (Option NodeNumber) Error → Type 0
+PinsNode w h (Ok (Some node)) = (i : ℕ) × (row : HandleRow) × HasRow w h i row × (is_pinning row.mode ≡ true) × (node ≡ row.node)
+PinsNode w h (Ok None) = (i : ℕ) × (row : HandleRow) × HasRow w h i row × (is_pinning row.mode ≡ false)
+PinsNode w h (Err e) = IsUnknown w h × (e ≡ errors.NoSuchHandle)
+
 -- The entry at this place of the list moves to the caller, or there is none.
 abbrev pub Took : World → ℕ → Option HandleNumber → World → Type 0
 Took w i (Some h) w' =

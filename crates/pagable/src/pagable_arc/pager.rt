@@ -1,13 +1,19 @@
 //! The pager: handles of values that may be in memory or in the storage.
 
-ghost use Rattle.std.specs.Prelude.{◌≡◌, ◌+◌, ◌++◌, ◌∷◌, [], OnErr, IfErr, IfOk, IfSome, OnOk, Some, length};
+ghost use Rattle.std.specs.Prelude.{◌≡◌, ◌+◌, ◌++◌, ◌∷◌, [], OnErr, IfErr, IfOk, IfNone, IfSome, OnOk, Ok, Some, ◌<◌, length, sum_by};
 ghost use Rattle.std.specs.Arc.{arc_value};
 ghost use Rattle.pagable_model.specs.Blob.{key_of};
 ghost use Rattle.pagable_core.specs.Data.{blob_of};
 ghost use Rattle.pagable_core.specs.Stored.{Adds, RefusesFetch, RefusesStore};
-ghost use Rattle.pagable_world.specs.State.{WellFormed};
-ghost use Rattle.pagable_world.specs.World.{plain, born};
-ghost use Rattle.pagable_world.specs.Calls.{PinnedBy, Unpinned, Released, Counts, KeyIs, AwayIs, NodeIs, Took, KeySet, Begun, Dropped};
+ghost use Rattle.pagable_world.specs.State.{WellFormed, is_node};
+ghost use Rattle.pagable_world.specs.Cells.{Cell};
+ghost use Rattle.pagable_world.specs.World.{plain, born, HasCell};
+ghost use Rattle.pagable_world.specs.Refusals.{IsUnknown};
+ghost use Rattle.pagable_world.specs.Calls.{PinnedBy, Unpinned, Released, Counts, KeyIs, AwayIs, NodeIs, Took, KeySet, Begun, Ended, Dropped};
+ghost use Rattle.pagable_world.specs.Values.{value_of_node};
+ghost use Rattle.pagable.specs.InStep.{InStep, kept};
+ghost use Rattle.pagable.specs.Lending.{IsLent, PinsNothing};
+ghost use Rattle.pagable.specs.Loads.{ClosedBy, FitsLoad, Installs, LoadFetched, StaysOpen};
 ghost use Rattle.pagable.specs.Shown.{OnlyBook, SameStore, OnlyStore, Unchanged};
 
 use crate::pagable_arc::values;
@@ -48,11 +54,14 @@ where
     E::Node: NodeSet<E>,
 {
     ghost use Rattle.pagable.specs.Shown.{Shown, value_of};
+    ghost use Rattle.pagable.specs.InStep.{InStep};
     ghost use Rattle.std.specs.Prelude.{map};
 
     ghost Value = { Shown E.Node S E };
 
     ghost view = { λ p. record { book = p.book; values = map value_of p.values.items; storage = p.storage; env = p.env } };
+
+    ghost invariant = { λ p. InStep E.Node.type_of p.book (map value_of p.values.items) };
 }
 
 impl<E: Env, S: PagableStorage<E>> Pager<E, S>
@@ -81,9 +90,11 @@ where
         &self.env
     }
 
-    /// What is true of the tables of every pager: each kept count is the number of pinning handles, and more.
+    /// What is true of every pager: each kept count is the number of pinning handles, and more of the tables; a value is
+    /// in memory exactly while its node is pinned or has no key, once, and it is of its node's type.
     pub fn is_whole(&self)
-        ensures { WellFormed self.now.book }
+        ensures whole { WellFormed self.now.book }
+        ensures in_step { InStep E.Node.type_of self.now.book self.now.values }
     {
         self.book.is_whole()
     }
@@ -127,6 +138,7 @@ where
     /// NumbersSpent and OutOfMemory say that the cell couldn't be listed: the pin is given up all the same.
     pub fn unpin(&mut self, handle: HandleNumber) -> Result<(), Error>
         ensures step { Unpinned (plain self.old.book) handle result (plain self.new.book) }
+        ensures values { self.new.values ≡ kept self.new.book self.old.values }
         ensures same { SameStore self.old self.new }
     {
         let outcome = self.book.unpin(handle);
@@ -138,6 +150,7 @@ where
     /// gone. Refused with NoSuchHandle and NotYours, and nothing changes; NumbersSpent and OutOfMemory as of `unpin`.
     pub fn release(&mut self, handle: HandleNumber) -> Result<(), Error>
         ensures step { Released (plain self.old.book) handle result (plain self.new.book) }
+        ensures values { self.new.values ≡ kept self.new.book self.old.values }
         ensures same { SameStore self.old self.new }
     {
         let outcome = self.book.release(handle);
@@ -174,20 +187,27 @@ where
     }
 
     /// The number of the node's value type, or None where the node is gone.
-    pub fn node_live(&self, node: NodeNumber) -> Option<u32> {
+    pub fn node_live(&self, node: NodeNumber) -> Option<u32>
+        ensures live { IfSome result (λ node_type. (cell : Cell) × HasCell (plain self.now.book) node cell × (cell.node_type ≡ node_type)) }
+        ensures gone { IfNone result (sum_by (is_node node.0) self.now.book.nodes ≡ 0) }
+    {
         self.book.node_type(node)
     }
 
     /// The node's value, where the handle pins the node, and else None. Refused with NoSuchHandle.
-    pub fn value(&self, handle: HandleNumber) -> Result<Option<&E::Node>, Error> {
-        if !self.book.is_pinning(handle)? {
+    pub fn value(&self, handle: HandleNumber) -> Result<Option<&E::Node>, Error>
+        ensures lent { IfOk result (λ found. IfSome found (λ x. IsLent self.now handle x.now)) }
+        ensures none { IfOk result (λ found. IfNone found (PinsNothing self.now handle)) }
+        ensures unknown { IfErr result (λ e. IsUnknown (plain self.now.book) handle × (e ≡ Error.NoSuchHandle)) }
+    {
+        let pinned = self.book.pinned_node(handle)?;
+        let Some(node) = pinned else {
             return Ok(None);
-        }
-        let node = self.book.node_of(handle)?;
-        match values::place_of(&self.values, node) {
-            None => Ok(None),
-            Some(place) => Ok(Some(&self.values[place].value)),
-        }
+        };
+        let Some(place) = values::place_of(&self.values, node) else {
+            unreachable!();
+        };
+        Ok(Some(&self.values[place].value))
     }
 
     /// The cell of a loose handle gets the key, which replaces an older one; where nothing pins the cell, its value
@@ -195,6 +215,7 @@ where
     /// and NotYours.
     pub fn set_data_key(&mut self, handle: HandleNumber, key: DataKey) -> Result<(), Error>
         ensures step { KeySet (plain self.old.book) handle key result (plain self.new.book) }
+        ensures values { self.new.values ≡ kept self.new.book self.old.values }
         ensures same { SameStore self.old self.new }
     {
         let outcome = self.book.set_data_key(handle, key);
@@ -255,6 +276,7 @@ where
         load: LoadNumber,
         want: Want,
     ) -> Result<Either<ArcRef, Arc<PagableData>>, Error>
+        ensures fetched { LoadFetched load self.old.book (S.stored self.old.storage) (S.failed self.old.storage) (S.failed self.new.storage) result }
         ensures same { OnlyStore self.old self.new }
         ensures stored { S.stored self.new.storage ≡ S.stored self.old.storage }
     {
@@ -278,18 +300,22 @@ where
         load: LoadNumber,
         node: E::Node,
     ) -> Result<HandleNumber, (Error, Option<E::Node>)>
-        ensures back { IfErr result (λ e. IfSome e.1 (λ x. (x ≡ node) × Unchanged self.old self.new)) }
+        ensures step { IfOk result (λ k. Ended (plain self.old.book) load (Ok k) (plain self.new.book)) }
+        ensures installs { OnOk result (Installs E.Node.type_of load node self.old self.new) }
+        ensures closed { IfErr result (λ e. IfNone e.1 (ClosedBy load e.0 self.old self.new)) }
+        ensures back { IfErr result (λ e. IfSome e.1 (λ x. (x ≡ node) × Unchanged self.old self.new × StaysOpen E.Node.type_of E.Node.refs_of load node self.old e.0)) }
         ensures same { SameStore self.old self.new }
     {
         match self.fits(alloc, load, &node) {
             Err(e) => Err((e, Some(node))),
-            Ok(()) => self.install(load, node),
+            Ok(cell) => self.finish(load, cell, node),
         }
     }
 
     /// Gives a load up. Refused with NoSuchHandle where no such load is open.
     pub fn load_drop(&mut self, load: LoadNumber) -> Result<(), Error>
         ensures step { Dropped (plain self.old.book) load result (plain self.new.book) }
+        ensures values { self.new.values ≡ kept self.new.book self.old.values }
         ensures same { SameStore self.old self.new }
     {
         let outcome = self.book.load_drop(load);
@@ -297,31 +323,85 @@ where
         outcome
     }
 
-    // Whether the value may end the load: it holds no references, and is of the cell's type.
-    fn fits(&self, alloc: Global, load: LoadNumber, node: &E::Node) -> Result<(), Error> {
-        let cell = self.book.load_node(load)?;
+    // The load's node, if the value may end the load: it holds no references, and is of the node's type.
+    fn fits(&self, alloc: Global, load: LoadNumber, node: &E::Node) -> Result<NodeNumber, Error>
+        ensures ok { IfOk result (FitsLoad E.Node.type_of load node.now self.now.book) }
+        ensures refused { IfErr result (StaysOpen E.Node.type_of E.Node.refs_of load node.now self.now) }
+    {
+        let (cell, node_type) = self.book.load_cell(load)?;
         let refs = node.refs(alloc)?;
         if !refs.is_empty() {
             return Err(Error::NoSuchHandle);
         }
-        if self.book.node_type(cell) != Some(node.node_type()) {
+        if node_type != node.node_type() {
             return Err(Error::WrongKind);
         }
-        Ok(())
+        Ok(cell)
     }
 
-    // Puts the value in the place of the cell's, if it has none, and ends the load.
+    // Ends the load of a node with a value of its type.
+    fn finish(
+        &mut self,
+        load: LoadNumber,
+        cell: NodeNumber,
+        node: E::Node,
+    ) -> Result<HandleNumber, (Error, Option<E::Node>)>
+        requires { FitsLoad E.Node.type_of load node self.old.book cell }
+        ensures step { IfOk result (λ k. Ended (plain self.old.book) load (Ok k) (plain self.new.book)) }
+        ensures installs { OnOk result (Installs E.Node.type_of load node self.old self.new) }
+        ensures closed { IfErr result (λ e. IfNone e.1 (ClosedBy load e.0 self.old self.new)) }
+        ensures back { IfErr result (λ e. IfSome e.1 (λ x. (x ≡ node) × Unchanged self.old self.new × StaysOpen E.Node.type_of E.Node.refs_of load node self.old e.0)) }
+        ensures same { SameStore self.old self.new }
+    {
+        if self.book.has_value(cell) {
+            self.end_beside(load, cell, node)
+        } else {
+            self.install(load, cell, node)
+        }
+    }
+
+    // Ends the load of a node that has its value in memory again. That stays, and the other is dropped.
+    fn end_beside(
+        &mut self,
+        load: LoadNumber,
+        cell: NodeNumber,
+        node: E::Node,
+    ) -> Result<HandleNumber, (Error, Option<E::Node>)>
+        requires fits { FitsLoad E.Node.type_of load node self.old.book cell }
+        requires there { 0 < value_of_node cell.0 self.old.book }
+        ensures step { IfOk result (λ k. Ended (plain self.old.book) load (Ok k) (plain self.new.book)) }
+        ensures installs { OnOk result (Installs E.Node.type_of load node self.old self.new) }
+        ensures closed { IfErr result (λ e. IfNone e.1 (ClosedBy load e.0 self.old self.new)) }
+        ensures back { IfErr result (λ e. IfSome e.1 (λ x. (x ≡ node) × Unchanged self.old self.new × StaysOpen E.Node.type_of E.Node.refs_of load node self.old e.0)) }
+        ensures same { SameStore self.old self.new }
+    {
+        match self.book.load_end(load) {
+            Ok(pinned) => Ok(pinned),
+            Err(refusal) => {
+                if !refusal.closed {
+                    return Err((refusal.error, Some(node)));
+                }
+                values::sweep(&self.book, &mut self.values);
+                Err((refusal.error, None))
+            }
+        }
+    }
+
+    // Ends the load of a node whose value isn't in memory, with the value as the node's.
     fn install(
         &mut self,
         load: LoadNumber,
+        cell: NodeNumber,
         node: E::Node,
     ) -> Result<HandleNumber, (Error, Option<E::Node>)>
-        ensures back { IfErr result (λ e. IfSome e.1 (λ x. (x ≡ node) × Unchanged self.old self.new)) }
+        requires fits { FitsLoad E.Node.type_of load node self.old.book cell }
+        requires away { value_of_node cell.0 self.old.book ≡ 0 }
+        ensures step { IfOk result (λ k. Ended (plain self.old.book) load (Ok k) (plain self.new.book)) }
+        ensures installs { OnOk result (Installs E.Node.type_of load node self.old self.new) }
+        ensures closed { IfErr result (λ e. IfNone e.1 (ClosedBy load e.0 self.old self.new)) }
+        ensures back { IfErr result (λ e. IfSome e.1 (λ x. (x ≡ node) × Unchanged self.old self.new × StaysOpen E.Node.type_of E.Node.refs_of load node self.old e.0)) }
         ensures same { SameStore self.old self.new }
     {
-        let Ok(cell) = self.book.load_node(load) else {
-            return Err((Error::NoSuchHandle, Some(node)));
-        };
         let row = ValueRow {
             node: cell,
             value: node,
@@ -330,14 +410,8 @@ where
             let ValueRow { node: _, value } = failed.value;
             return Err((Error::OutOfMemory, Some(value)));
         }
-        let had_value = self.book.has_value(cell);
         match self.book.load_end(load) {
-            Ok(pinned) => {
-                if had_value {
-                    let _ = self.values.pop();
-                }
-                Ok(pinned)
-            }
+            Ok(pinned) => Ok(pinned),
             Err(refusal) => {
                 let Some(row) = self.values.pop() else {
                     unreachable!();

@@ -1,38 +1,6 @@
-use Rattle.std.proofs.Common.{inr, refl, sym, ◌∙◌, ap}
-use Rattle.std.proofs.lemmas.Result.{err_from_is_err_and}
 use Rattle.pagable_book.specs.Shape.{state_of}
-use Rattle.pagable_world.specs.World.{plain, IsHere, IsAway}
-use Rattle.pagable_book.proofs.Known.{row-held}
-use Rattle.pagable_book.proofs.Outcomes.{is-here, is-away}
+use Rattle.pagable_book.proofs.Comes.{begin-values}
 use Rattle.pagable_book.proofs.book.Book.load_begin.Goals as goal
 
-pub node_of-node-requires-clause-live : goal.node_of-node-requires-clause-live
-node_of-node-requires-clause-live c = row-held (state_of c.self.inside.tables) c.in_ok-at.at.place c.in_ok-at.at.row c.in_ok-at.ensures.own.there
-
-pub returns-in_default : goal.returns-in_default
-returns-in_default c =
-    let s = state_of c.self.inside.tables in
-    let at = c.in_ok-at.at in
-    let node = c.node_of-node.result in
-    let known = c.node_of-node.ensures in
-    let here : IsHere (plain s) at.row.node = is-here s node.place node.row at.row known.place known.number known.count (λ key e. c.in_default.not-Some key (c.away_key.ensures ∙ e)) in
-    rw (← c.self.view_is) (at.place, at.row, c.in_ok-at.ensures.own, c.in_ok-at.ensures.mode, here, refl)
-
-pub returns-in_err-load : goal.returns-in_err-load
-returns-in_err-load c =
-    let p = err_from_is_err_and c.from_residual-in_err-load.result c.from_residual-in_err-load.ensures.1 in
-    let s = state_of c.self.inside.tables in
-    let at = c.in_ok-at.at in
-    let node = c.node_of-node.result in
-    let known = c.node_of-node.ensures in
-    let away : IsAway (plain s) at.row.node c.in-Some.key = is-away s node.place c.in-Some.key node.row at.row known.place known.number known.count (sym c.away_key.ensures ∙ c.in-Some.is) in
-    rw (p.1, p.2, ← c.self.view_is) (inr (at.place, at.row, c.in-Some.key, c.in_ok-at.ensures.own, c.in_ok-at.ensures.mode, away, c.in_err-load.ensures.why), ap plain c.in_err-load.ensures.err)
-
-pub returns : goal.returns
-returns c =
-    let s = state_of c.self.inside.tables in
-    let at = c.in_ok-at.at in
-    let node = c.node_of-node.result in
-    let known = c.node_of-node.ensures in
-    let away : IsAway (plain s) at.row.node c.in-Some.key = is-away s node.place c.in-Some.key node.row at.row known.place known.number known.count (sym c.away_key.ensures ∙ c.in-Some.is) in
-    rw (← c.self.view_is) (at.place, at.row, c.in_ok-at.ensures.own, c.in_ok-at.ensures.mode, away, c.in_ok-load.ensures.number, c.in_ok-load.ensures.world)
+pub returns-clause-values : goal.returns-clause-values
+returns-clause-values c = rw (← c.self.view_is) (begin-values (state_of c.self.inside.tables) (state_of c.load_begin.new.t) c.args.handle c.load_begin.result c.self.invariant c.load_begin.ensures.whole c.load_begin.ensures.world)

@@ -1,0 +1,5 @@
+mod Sums
+mod Existing
+mod Alone
+mod Two
+mod Joining

@@ -1,0 +1,52 @@
+use Rattle.std.proofs.Common.{◌++◌, ◌∷◌, []}
+use Rattle.std.proofs.lemmas.Result.{err_from_is_err_and}
+use Rattle.pagable_model.specs.Reading.{read}
+use Rattle.pagable_model.specs.Standing.{handles_at}
+use Rattle.pagable_traits.proofs.Items.{starts, goes_on, ends, is_done}
+use Rattle.pagable_traits.proofs.Collecting.{collected_none, collected_more}
+use Rattle.pagable_traits.proofs.Reading.{moves_trans}
+use Rattle.pagable_traits.proofs.impls.collecting.collect_items.Goals as goal
+
+pub loop-index-init : goal.loop-index-init
+loop-index-init g c =
+    let env = g.D.PagableDeserializer.environment c.args.deserializer.now in
+    let get = read (handles_at (g.D.PagableDeserializer.levels c.args.deserializer.now) (g.E.Env.parts env)) (g.T.Carried.shape env) in
+    record {
+      gives = ([], collected_none g.T.Carried.means g.C.Collects.put _ c.in_ok-collected.ensures.empty, rw c.places_for-places.ensures.same_rest (starts get c.args.count (g.D.PagableDeserializer.rest c.args.deserializer.now)));
+      moves = c.places_for-places.ensures.moves;
+      same_env = cc;
+      same_levels = cc;
+    }
+
+pub loop-index-preserved : goal.loop-index-preserved
+loop-index-preserved g c =
+    let env = g.D.PagableDeserializer.environment c.args.deserializer.now in
+    let get = read (handles_at (g.D.PagableDeserializer.levels c.args.deserializer.now) (g.E.Env.parts env)) (g.T.Carried.shape env) in
+    let i = c.loop-index.invariant in
+    let gave = rw (i.same_levels, i.same_env) at c.in_ok-value.ensures.gives in
+    record {
+      gives = (
+        i.gives.0 ++ gave.m ∷ [],
+        collected_more g.T.Carried.means g.C.Collects.put _ _ i.gives.0 c.in_ok-value.value gave.m i.gives.1 gave.is c.in_ok-put_in.ensures.ok,
+        goes_on get i.gives.0 c.args.count c.loop-index.index (g.D.PagableDeserializer.rest c.loop-index.deserializer) gave.m _ _ c.loop-index-test.true gave.gave i.gives.2,
+      );
+      moves = moves_trans _ _ _ i.moves c.in_ok-value.ensures.moves;
+      same_env = cc;
+      same_levels = cc;
+    }
+
+pub returns-in_err-value-clause-gives : goal.returns-in_err-value-clause-gives
+returns-in_err-value-clause-gives g c =
+    let p = err_from_is_err_and c.from_residual-in_err-value.result c.from_residual-in_err-value.ensures.1 in
+    let env = g.D.PagableDeserializer.environment c.args.deserializer.now in
+    let get = read (handles_at (g.D.PagableDeserializer.levels c.args.deserializer.now) (g.E.Env.parts env)) (g.T.Carried.shape env) in
+    let i = c.loop-index.invariant in
+    rw (p.1, p.2) (ends g.T.PagableDeserialize.read_causes get _ i.gives.0 c.args.count c.loop-index.index (g.D.PagableDeserializer.rest c.loop-index.deserializer) _ c.loop-index-test.true
+    (rw (i.same_levels, i.same_env) at c.in_err-value.ensures.gives) i.gives.2)
+
+pub returns-clause-gives : goal.returns-clause-gives
+returns-clause-gives g c =
+    let env = g.D.PagableDeserializer.environment c.args.deserializer.now in
+    let get = read (handles_at (g.D.PagableDeserializer.levels c.args.deserializer.now) (g.E.Env.parts env)) (g.T.Carried.shape env) in
+    let i = c.loop-index.invariant in
+    record { m = i.gives.0; is = i.gives.1; gave = is_done get i.gives.0 c.args.count c.loop-index.index (g.D.PagableDeserializer.rest c.loop-index.deserializer) _ c.loop-index-test.false i.gives.2 }

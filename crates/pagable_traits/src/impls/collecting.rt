@@ -1,0 +1,61 @@
+//! What items are put into one after another as they are read: lists, maps and sets.
+
+ghost use Rattle.std.specs.Prelude.{◌≡◌, List, [], OnOk, IfOk, IfErr};
+ghost use Rattle.pagable_model.specs.Gives.{memory, memory_or};
+ghost use Rattle.pagable_model.specs.Reading.{items, read};
+ghost use Rattle.pagable_model.specs.Standing.{handles_at, MovesOn, GivesSome};
+ghost use Rattle.pagable_traits.specs.Collected.{Collected};
+
+use crate::deserializer::PagableDeserializer;
+use crate::env::Env;
+use crate::impls::lists::places_for;
+use crate::traits::PagableDeserialize;
+use pagable_flavors::Error;
+use std::alloc::Global;
+
+/// What items are put into one after another.
+pub trait Collects<T>: Sized {
+    // The items that it holds, in their order.
+    ghost held: { Self → List T };
+
+    // What it holds once one more item was put in.
+    ghost put: { List T → T → List T };
+
+    /// Nothing, with room for so many items where it keeps room. Refused by want of memory alone.
+    fn with_places(alloc: Global, places: usize) -> Result<Self, Error>
+        ensures empty { IfOk result (λ c. held c ≡ []) }
+        ensures only { IfErr result memory };
+
+    /// Puts one more item in. Refused by want of memory alone.
+    fn put_in(&mut self, item: T) -> Result<(), Error>
+        ensures ok { OnOk result (held self.new ≡ put (held self.old) item) }
+        ensures only { IfErr result memory };
+}
+
+/// Reads this many items and puts each in. A refusal is the first item's that is refused, or want of memory. As many
+/// places as bytes are left are reserved at most; items that take no byte need room one by one.
+pub fn collect_items<
+    'de,
+    E: Env,
+    T: PagableDeserialize<'de, E>,
+    C: Collects<T> + Drop,
+    D: PagableDeserializer<E>,
+>(
+    alloc: Global,
+    count: usize,
+    deserializer: &mut D,
+) -> Result<C, Error>
+    ensures gives { GivesSome (memory_or T.read_causes) (λ c. Collected T.means C.put (C.held c)) (D.rest deserializer.new) result
+        (items (read (handles_at (D.levels deserializer.old) (E.parts (D.environment deserializer.old))) (T.shape (D.environment deserializer.old))) count (D.rest deserializer.old)) }
+    ensures moves { MovesOn (D.standing deserializer.old) (D.standing deserializer.new) }
+    ensures same_env { D.environment deserializer.new ≡ D.environment deserializer.old }
+    ensures same_levels { D.levels deserializer.new ≡ D.levels deserializer.old }
+{
+    let places = places_for(count, deserializer);
+    let mut collected = C::with_places(alloc, places)?;
+    for index in 0..count {
+        let value = T::pagable_deserialize(alloc, deserializer)?;
+        collected.put_in(value)?;
+    }
+    Ok(collected)
+}

@@ -1,0 +1,112 @@
+//! Slices, and lists that are kept in another way than in a `Vec`.
+
+ghost use Rattle.std.specs.Prelude.{◌≡◌, map, OnOk, IfErr};
+ghost use Rattle.std.specs.Box.{boxed_slice_items};
+ghost use Rattle.pagable_model.specs.Gives.{memory_or};
+ghost use Rattle.pagable_model.specs.Meaning.{sequence};
+ghost use Rattle.pagable_model.specs.Shape.{list, run};
+ghost use Rattle.pagable_model.specs.Writing.{nesting, WritesSome, Refused, IsRefusal, Grows};
+ghost use Rattle.pagable_traits.specs.Causes.{memory_or_is_own_reading, memory_or_is_own_writing};
+ghost use Rattle.pagable_traits.specs.Lifted.{MeansList, list_has_meaning, list_is_meaning, list_single};
+
+use crate::deserializer::PagableDeserializer;
+use crate::env::Env;
+use crate::impls::lists::{write_items, write_list};
+use crate::serializer::PagableSerializer;
+use crate::traits::{Carried, OneMeaning, PagableDeserialize, PagableSerialize};
+use pagable_flavors::Error;
+use std::alloc::Global;
+use std::boxed::BoxedSlice;
+
+// The most items that are written one after another without their count.
+const LONGEST: usize = 4_294_967_295;
+
+/// Writes a slice as a list: the count of its items, and then the items. TooLong above 4,294,967,295 items, before
+/// any item is looked at; else the first item's refusal, or want of memory.
+pub fn serialize_slice<E: Env, T: PagableSerialize<E>, S: PagableSerializer<E>>(
+    values: &[T],
+    serializer: &mut S,
+) -> Result<(), Error>
+    ensures ok { OnOk result (WritesSome (MeansList T.means values.now) (nesting (S.levels serializer.old) (E.parts (S.environment serializer.old))) (list (T.shape (S.environment serializer.old))) (S.out serializer.old) (S.out serializer.new)) }
+    ensures refused { IfErr result (Refused (MeansList T.means values.now) (nesting (S.levels serializer.old) (E.parts (S.environment serializer.old))) (list (T.shape (S.environment serializer.old)))) }
+    ensures only { IfErr result (IsRefusal (memory_or T.write_causes)) }
+    ensures err { Grows (S.out serializer.old) (S.out serializer.new) }
+    ensures same_env { S.environment serializer.new ≡ S.environment serializer.old }
+    ensures same_levels { S.levels serializer.new ≡ S.levels serializer.old }
+{
+    write_list(values, serializer)
+}
+
+/// A slice behind a reference is written as its items without their count, as in the Rust crate, so nothing can read it
+/// by itself.
+impl<'a, E: Env, T: Carried<E>> Carried<E> for &'a [T] {
+    ghost shape = { λ e. run (T.shape e) };
+
+    ghost means = { λ v. MeansList T.means v.now };
+
+    ghost has_meaning = { λ v. list_has_meaning T.means T.has_meaning v.now };
+}
+
+impl<'a, E: Env, T: OneMeaning<E>> OneMeaning<E> for &'a [T] {
+    ghost meaning = { λ v. sequence (map T.meaning v.now) };
+
+    ghost is_meaning = { λ v. list_is_meaning T.Carried.means T.meaning T.is_meaning v.now };
+
+    ghost single = { λ v. list_single T.Carried.means T.meaning T.single v.now };
+}
+
+impl<'a, E: Env, T: PagableSerialize<E>> PagableSerialize<E> for &'a [T] {
+    ghost write_causes = { T.write_causes };
+
+    ghost write_causes_are_own = { T.write_causes_are_own };
+
+    #[tactic(auto, using(crate::proofs::Writing::parts, crate::proofs::Slices::runs))]
+    fn pagable_serialize<S: PagableSerializer<E>>(&self, serializer: &mut S) -> Result<(), Error> {
+        if self.len() > LONGEST {
+            return Err(Error::TooLong);
+        }
+        write_items(*self, serializer)
+    }
+}
+
+impl<E: Env, T: Carried<E>> Carried<E> for BoxedSlice<T> {
+    ghost shape = { λ e. list (T.shape e) };
+
+    ghost means = { λ v. MeansList T.means (boxed_slice_items v) };
+
+    ghost has_meaning = { λ v. list_has_meaning T.means T.has_meaning (boxed_slice_items v) };
+}
+
+impl<E: Env, T: OneMeaning<E>> OneMeaning<E> for BoxedSlice<T> {
+    ghost meaning = { λ v. sequence (map T.meaning (boxed_slice_items v)) };
+
+    ghost is_meaning = { λ v. list_is_meaning T.Carried.means T.meaning T.is_meaning (boxed_slice_items v) };
+
+    ghost single = { λ v. list_single T.Carried.means T.meaning T.single (boxed_slice_items v) };
+}
+
+impl<E: Env, T: PagableSerialize<E>> PagableSerialize<E> for BoxedSlice<T> {
+    ghost write_causes = { memory_or T.write_causes };
+
+    ghost write_causes_are_own = { memory_or_is_own_writing T.write_causes T.write_causes_are_own };
+
+    fn pagable_serialize<S: PagableSerializer<E>>(&self, serializer: &mut S) -> Result<(), Error> {
+        write_list(self.as_slice(), serializer)
+    }
+}
+
+impl<'de, E: Env, T: PagableDeserialize<'de, E> + Drop> PagableDeserialize<'de, E>
+    for BoxedSlice<T>
+{
+    ghost read_causes = { memory_or T.read_causes };
+
+    ghost read_causes_are_own = { memory_or_is_own_reading T.read_causes T.read_causes_are_own };
+
+    fn pagable_deserialize<D: PagableDeserializer<E>>(
+        alloc: Global,
+        deserializer: &mut D,
+    ) -> Result<Self, Error> {
+        let values: Vec<T> = PagableDeserialize::pagable_deserialize(alloc, deserializer)?;
+        Ok(values.into_boxed_slice())
+    }
+}

@@ -1,0 +1,79 @@
+//! Lists whose first items are kept in the value.
+
+ghost use Rattle.std.specs.Prelude.{◌++◌, ◌∷◌, [], map};
+ghost use Rattle.pagable_model.specs.Gives.{memory_or};
+ghost use Rattle.pagable_model.specs.Meaning.{sequence};
+ghost use Rattle.pagable_model.specs.Shape.{list};
+ghost use Rattle.pagable_traits.specs.Causes.{memory_or_is_own_reading, memory_or_is_own_writing};
+ghost use Rattle.pagable_traits.specs.Lifted.{MeansList, list_has_meaning, list_is_meaning, list_single};
+
+use crate::deserializer::PagableDeserializer;
+use crate::env::Env;
+use crate::impls::collecting::{Collects, collect_items};
+use crate::impls::lists::write_list;
+use crate::impls::parts::read_count;
+use crate::serializer::PagableSerializer;
+use crate::traits::{Carried, OneMeaning, PagableDeserialize, PagableSerialize};
+use pagable_flavors::Error;
+use smallvec::SmallVec;
+use std::alloc::Global;
+use std::default::MadeWith;
+
+impl<T: MadeWith<Global> + Drop, const N: usize> Collects<T> for SmallVec<T, N> {
+    ghost held = { λ v. v.items };
+
+    ghost put = { λ xs x. xs ++ x ∷ [] };
+
+    fn with_places(alloc: Global, places: usize) -> Result<Self, Error> {
+        Ok(SmallVec::with_capacity(alloc, places)?)
+    }
+
+    fn put_in(&mut self, item: T) -> Result<(), Error> {
+        self.push(item)?;
+        Ok(())
+    }
+}
+
+impl<E: Env, T: Carried<E>, const N: usize> Carried<E> for SmallVec<T, N> {
+    ghost shape = { λ e. list (T.shape e) };
+
+    ghost means = { λ v. MeansList T.means v.items };
+
+    ghost has_meaning = { λ v. list_has_meaning T.means T.has_meaning v.items };
+}
+
+impl<E: Env, T: OneMeaning<E>, const N: usize> OneMeaning<E> for SmallVec<T, N> {
+    ghost meaning = { λ v. sequence (map T.meaning v.items) };
+
+    ghost is_meaning = { λ v. list_is_meaning T.Carried.means T.meaning T.is_meaning v.items };
+
+    ghost single = { λ v. list_single T.Carried.means T.meaning T.single v.items };
+}
+
+impl<E: Env, T: PagableSerialize<E>, const N: usize> PagableSerialize<E> for SmallVec<T, N> {
+    ghost write_causes = { memory_or T.write_causes };
+
+    ghost write_causes_are_own = { memory_or_is_own_writing T.write_causes T.write_causes_are_own };
+
+    fn pagable_serialize<S: PagableSerializer<E>>(&self, serializer: &mut S) -> Result<(), Error> {
+        write_list(self.as_slice(), serializer)
+    }
+}
+
+impl<'de, E: Env, T: PagableDeserialize<'de, E> + MadeWith<Global> + Drop, const N: usize>
+    PagableDeserialize<'de, E> for SmallVec<T, N>
+{
+    ghost read_causes = { memory_or T.read_causes };
+
+    ghost read_causes_are_own = { memory_or_is_own_reading T.read_causes T.read_causes_are_own };
+
+    #[tactic(auto, unfolding(pagable_model::specs::Reading::read, pagable_model::specs::Reading::read_with), using(crate::proofs::Reading::parts))]
+    fn pagable_deserialize<D: PagableDeserializer<E>>(
+        alloc: Global,
+        deserializer: &mut D,
+    ) -> Result<Self, Error> {
+        let count = read_count(deserializer)?;
+        let values: SmallVec<T, N> = collect_items(alloc, count, deserializer)?;
+        Ok(values)
+    }
+}
