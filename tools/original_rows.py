@@ -17,7 +17,7 @@ CARRIED = [
     "()", "bool", "char", "u8", "u16", "u32", "u64", "u128", "usize", "i8", "i16", "i32", "i64", "i128", "String",
     "Box<u16>", "Option<()>", "Option<bool>", "Option<u8>", "Option<String>", "Option<Option<i32>>", "(u8,u8)",
     "(bool,String)", "Vec<()>", "Vec<bool>", "Vec<u8>", "Vec<i32>", "Vec<u64>", "Vec<String>", "Vec<Option<u8>>",
-    "Vec<Vec<u16>>", "Vec<(String,i64)>", "Duration", "Result<String,String>",
+    "Vec<Vec<u16>>", "Vec<(String,i64)>", "Box<[u32]>", "Box<[String]>", "SmallVec<[u8;4]>", "SmallVec<[String;4]>", "Duration", "Result<String,String>",
 ]
 
 # The greatest length of a text or a list; the original has no such limit below 64 bits.
@@ -58,6 +58,14 @@ def text_form(text):
     return varint(len(data)) + data
 
 
+def item_of(name):
+    """The type of a list's items, or None where the name is no list's."""
+    for outer in ("Vec<", "Box<[", "SmallVec<["):
+        if name.startswith(outer):
+            return name[len(outer):].rstrip(">").rstrip("]").split(";")[0] if "[" in outer else name[len(outer):-1]
+    return None
+
+
 def list_form(items, part):
     return varint(len(items)) + b"".join(form(part, item) for item in items)
 
@@ -83,10 +91,10 @@ def form(name, value):
         return b"\x00" if value is None else b"\x01" + form(part[0], value["some"])
     if parts := inside(name, "Result"):
         return b"\x01" + form(parts[0], value["ok"]) if "ok" in value else b"\x00" + form(parts[1], value["err"])
+    if item_of(name):
+        return list_form(value, item_of(name))
     if part := inside(name, "Box"):
         return form(part[0], value)
-    if part := inside(name, "Vec"):
-        return list_form(value, part[0])
     if name.startswith("("):
         return b"".join(form(part, item) for part, item in zip(split(name[1:-1]), value))
     raise SystemExit(f"no form is known of {name}")
@@ -113,15 +121,14 @@ def shown(name, value):
         case, part = ("Ok", parts[0]) if "ok" in value else ("Err", parts[1])
         of = shown(part, value[case.lower()])
         return None if of is None else f"{case}({of})"
-    if part := inside(name, "Box"):
-        return shown(part[0], value)
-    if name.startswith("(") or inside(name, "Vec"):
-        is_list = name.startswith("Vec")
-        parts = inside(name, "Vec") * len(value) if is_list else split(name[1:-1])
+    if name.startswith("(") or item_of(name):
+        parts = [item_of(name)] * len(value) if item_of(name) else split(name[1:-1])
         items = [shown(part, item) for part, item in zip(parts, value)]
         if None in items:
             return None
-        return ("[%s]" if is_list else "(%s)") % ", ".join(items)
+        return ("[%s]" if item_of(name) else "(%s)") % ", ".join(items)
+    if part := inside(name, "Box"):
+        return shown(part[0], value)
     return None
 
 

@@ -8,6 +8,8 @@ mod cursors;
 #[cfg(test)]
 mod laws;
 #[cfg(test)]
+mod levels;
+#[cfg(test)]
 mod pager;
 #[cfg(test)]
 mod references;

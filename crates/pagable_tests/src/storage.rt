@@ -1,37 +1,67 @@
-//! Blobs in memory.
+//! Blobs in memory, and the storages over another one.
 
 use pagable::{DataKey, Error, InMemoryBlobs, PagableData, PagableStorage, WeighHash};
-use pagable_samples::TextEnv;
+use pagable_samples::{CountingStorage, FailingStorage, TextEnv};
+use std::alloc::{AllocError, Global};
 use std::test::Fail;
+
+type AnyEnv = TextEnv<WeighHash>;
+
+/// A blob of these bytes, without child keys.
+fn blob(alloc: Global, bytes: &[u8]) -> Result<PagableData, AllocError> {
+    Ok(PagableData {
+        bytes: bytes.to_vec(alloc)?,
+        arcs: Vec::new(alloc),
+    })
+}
+
+/// Stores a blob, and gives the number of its key.
+fn store<S: PagableStorage<AnyEnv>>(
+    alloc: Global,
+    storage: &mut S,
+    bytes: &[u8],
+) -> Result<u128, Error> {
+    Ok(storage.store_data(alloc, blob(alloc, bytes)?)?.get())
+}
+
+/// Fetches the blob of a key, and gives the count of its bytes.
+fn fetch<S: PagableStorage<AnyEnv>>(
+    alloc: Global,
+    storage: &mut S,
+    key: DataKey,
+) -> Result<usize, Error> {
+    Ok(storage.fetch_data_blocking(alloc, key)?.bytes.len())
+}
 
 #[test]
 fn blobs_in_memory(rt: HostRuntime) -> Result<(), Fail> {
     let alloc = rt.alloc();
-    let mut storage: InMemoryBlobs<TextEnv<WeighHash>> = InMemoryBlobs::new(alloc);
-    for _ in 0..2 {
-        let blob = PagableData {
-            bytes: vec![in alloc; 0u8, 9]?,
-            arcs: Vec::new(alloc),
-        };
-        // Ten places on, 9 stands: 9 · 10.
-        assert_eq!(rt;
-            storage.store_data(alloc, blob).map(|key| key.get()),
-            Ok(90)
-        );
-        assert_eq!(rt; storage.len(), 1);
-    }
+    let mut storage: InMemoryBlobs<AnyEnv> = InMemoryBlobs::new(alloc);
+    // Ten places on, 9 stands: 9 · 10. And again it is the same blob; 10 at the ninth place has the same key.
+    let key = DataKey::new(90).ok_or("0 is no key")?;
+    assert_eq!(rt; store(alloc, &mut storage, &[0, 9]), Ok(90));
+    assert_eq!(rt; store(alloc, &mut storage, &[0, 9]), Ok(90));
+    assert_eq!(rt; store(alloc, &mut storage, &[10, 0]), Err(Error::KeyTaken));
+    assert_eq!(rt; storage.len(), 1);
+    assert_eq!(rt; fetch(alloc, &mut storage, key), Ok(2));
     assert_eq!(rt; storage.flush(), Ok(()));
     assert_eq!(rt; storage.failures(), 0);
     storage.close();
+    assert_eq!(rt; fetch(alloc, &mut storage, key), Err(Error::NoData(key)));
+    assert_eq!(rt; store(alloc, &mut storage, &[]), Err(Error::Closed));
+    Ok(())
+}
+
+#[test]
+fn storages_over_another(rt: HostRuntime) -> Result<(), Fail> {
+    let alloc = rt.alloc();
     let key = DataKey::new(90).ok_or("0 is no key")?;
-    assert_eq!(rt;
-        storage.fetch_data_blocking(alloc, key).err(),
-        Some(Error::NoData(key))
-    );
-    let blob = PagableData {
-        bytes: Vec::new(alloc),
-        arcs: Vec::new(alloc),
-    };
-    assert_eq!(rt; storage.store_data(alloc, blob), Err(Error::Closed));
+    let blobs: InMemoryBlobs<AnyEnv> = InMemoryBlobs::new(alloc);
+    let mut storage = CountingStorage::new(FailingStorage::new(blobs, 1));
+    assert_eq!(rt; store(alloc, &mut storage, &[0, 9]), Ok(90));
+    assert_eq!(rt; fetch(alloc, &mut storage, key), Err(Error::Storage(7)));
+    assert_eq!(rt; PagableStorage::<AnyEnv>::failures(&storage), 1);
+    assert_eq!(rt; fetch(alloc, &mut storage, key), Ok(2));
+    assert_eq!(rt; (storage.stores(), storage.fetches()), (1, 2));
     Ok(())
 }

@@ -3,28 +3,30 @@
 use crate::answers::Answer;
 use anyhow::ensure;
 use pagable::{
-    NoReferences, PagableDeserialize, PagableDeserializer, PagableDeserializerImpl,
+    Env, NoReferences, PagableDeserialize, PagableDeserializer, PagableDeserializerImpl,
     PagableSerialize, PagableSerializerImpl, WeighHash,
 };
-use pagable_samples::TextEnv;
+use pagable_samples::{Nested, NestedEnv, TextEnv};
+use smallvec::SmallVec;
 use std::alloc::Global;
+use std::boxed::BoxedSlice;
 use std::fmt::Debug;
 
 /// The values hold no references, so any environment will do.
 type AnyEnv = TextEnv<WeighHash>;
 
-/// What comes of an input of the type `T`. A refused input is read once more from its front, and must be refused alike.
-fn replay_as<'de, T>(alloc: Global, input: &'de [u8]) -> anyhow::Result<Answer>
+/// What comes of an input of the type `T` of an environment. A refused input is read once more from its front, and must be
+/// refused alike, which also shows that its levels were given back.
+fn replay_in<'de, E: Env, T>(alloc: Global, env: &E, input: &'de [u8]) -> anyhow::Result<Answer>
 where
-    T: PagableSerialize<AnyEnv> + PagableDeserialize<'de, AnyEnv> + Debug + Drop,
+    T: PagableSerialize<E> + PagableDeserialize<'de, E> + Debug + Drop,
 {
-    let env = AnyEnv::new();
-    let mut source = PagableDeserializerImpl::new(input, &[], NoReferences::new(&env));
-    let front = PagableDeserializer::<AnyEnv>::position(&source);
+    let mut source = PagableDeserializerImpl::new(input, &[], NoReferences::new(env));
+    let front = PagableDeserializer::<E>::position(&source);
     let value = match T::pagable_deserialize(alloc, &mut source) {
         Ok(value) => value,
         Err(refusal) => {
-            PagableDeserializer::<AnyEnv>::seek(&mut source, front);
+            PagableDeserializer::<E>::seek(&mut source, front);
             let again = T::pagable_deserialize(alloc, &mut source).err();
             ensure!(
                 again.as_ref() == Some(&refusal),
@@ -33,14 +35,22 @@ where
             return Ok(Answer::Refused(refusal));
         }
     };
-    let used = PagableDeserializer::<AnyEnv>::position(&source).byte_pos;
-    let mut out = PagableSerializerImpl::testing_new(alloc, &env);
+    let used = PagableDeserializer::<E>::position(&source).byte_pos;
+    let mut out = PagableSerializerImpl::testing_new(alloc, env);
     value.pagable_serialize(&mut out)?;
     Ok(Answer::Value {
         shown: format!(in alloc; "{value:?}")?,
         used,
         written: out.finish()?.bytes,
     })
+}
+
+/// What comes of an input of the type `T`, which no environment bears on.
+fn replay_as<'de, T>(alloc: Global, input: &'de [u8]) -> anyhow::Result<Answer>
+where
+    T: PagableSerialize<AnyEnv> + PagableDeserialize<'de, AnyEnv> + Debug + Drop,
+{
+    replay_in::<AnyEnv, T>(alloc, &AnyEnv::new(), input)
 }
 
 /// What comes of an input of a basic type; None for another type.
@@ -77,6 +87,11 @@ fn holder(alloc: Global, name: &str, input: &[u8]) -> anyhow::Result<Option<Answ
         "Option<Option<i32>>" => replay_as::<Option<Option<i32>>>(alloc, input)?,
         "(u8,u8)" => replay_as::<(u8, u8)>(alloc, input)?,
         "(bool,String)" => replay_as::<(bool, String)>(alloc, input)?,
+        "Nested" => replay_in::<NestedEnv, Nested>(alloc, &NestedEnv, input)?,
+        "Box<[u32]>" => replay_as::<BoxedSlice<u32>>(alloc, input)?,
+        "Box<[String]>" => replay_as::<BoxedSlice<String>>(alloc, input)?,
+        "SmallVec<[u8;4]>" => replay_as::<SmallVec<u8, 4>>(alloc, input)?,
+        "SmallVec<[String;4]>" => replay_as::<SmallVec<String, 4>>(alloc, input)?,
         "Vec<()>" => replay_as::<Vec<()>>(alloc, input)?,
         "Vec<bool>" => replay_as::<Vec<bool>>(alloc, input)?,
         "Vec<u8>" => replay_as::<Vec<u8>>(alloc, input)?,
