@@ -8,8 +8,14 @@ mod cursors;
 #[cfg(test)]
 mod laws;
 #[cfg(test)]
+mod levels;
+#[cfg(test)]
+mod lists;
+#[cfg(test)]
 mod pager;
 #[cfg(test)]
 mod references;
 #[cfg(test)]
 mod storage;
+#[cfg(test)]
+mod wrapped;
