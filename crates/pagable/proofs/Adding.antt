@@ -1,7 +1,7 @@
 -- Adding a blob to what is stored.
-use Rattle.std.proofs.Common.{◌≡◌, ℕ, Bool, true, false, cond, Option, Some, None, refl, sym, ap, ◌∙◌, subst, inl, inr}
+use Rattle.std.proofs.Common.{◌≡◌, ℕ, Bool, true, false, cond, Option, Some, None, refl, sym, ap, ◌∙◌, inl, inr}
 use Rattle.std.specs.Prelude.{◌==◌, nat_eq, option_map, if◌then◌else◌}
-use Rattle.std.specs.HashMap.{HashMap, get, Updates}
+use Rattle.std.specs.HashMap.{HashMap, get}
 use Rattle.std.specs.Arc.{arc_value}
 use Rattle.std.specs.declared.sync.Arc.{Arc}
 use Rattle.std.specs.Global.{Global}
@@ -11,7 +11,7 @@ use Rattle.std.proofs.lemmas.Bool.{eqb-true, eq-eqb}
 use Rattle.std.proofs.lemmas.Bool.Decides.{eqb_tells}
 use Rattle.pagable_model.specs.Blob.{Blob}
 use Rattle.pagable_core.specs.Data.{blob_of}
-use Rattle.pagable_core.specs.Stored.{Adds}
+use Rattle.pagable_model.specs.Stored.{Adds}
 use Rattle.pagable_core.specs.declared.storage.data.PagableData.{PagableData}
 use Rattle.pagable.specs.Blobs.{stored_in}
 

@@ -1,6 +1,6 @@
 -- Values that are kept, and values in step with the tables.
-use Rattle.std.proofs.Common.{◌≡◌, ℕ, ◌+◌, ◌<◌, ◌≤◌, cond, ◌==◌, ◌&&◌, Bool, true, false, List, [], ◌∷◌, ◌++◌, map, sum_by, refl, ap, sym, ◌∙◌, subst, arith, Some, slice_get, inl, inr}
-use Rattle.std.specs.Prelude.{nat_lt, filter, ◌⊎◌, ◌≢◌}
+use Rattle.std.proofs.Common.{◌≡◌, ℕ, ◌+◌, ◌≤◌, cond, Bool, true, false, List, [], ◌∷◌, ◌++◌, map, sum_by, refl, ap, sym, ◌∙◌, subst, arith, inl, inr}
+use Rattle.std.specs.Prelude.{nat_lt, filter, ◌⊎◌}
 use Rattle.std.proofs.lemmas.Bool.Decides.{nat_tests}
 use Rattle.std.proofs.lemmas.Bool.{cases_eq}
 use Rattle.std.proofs.lemmas.List.{map-append}
@@ -24,7 +24,6 @@ map-filter g p (x ∷ xs) = one-more g (p (g x)) x (filter (λ y. p (g y)) xs) (
 -- what is kept of the rows is kept of the values
 pub kept-rows : {N : Type 0} (book : State) (rows : List (ValueRow N)) → map value_of (filter (λ r. nat_lt 0 (sum_by (value_at r.node.0) book.nodes)) rows) ≡ kept book (map value_of rows)
 kept-rows book rows = map-filter value_of (λ v. nat_lt 0 (sum_by (value_at v.0) book.nodes)) rows
-
 
 -- values that nothing did anything to stay in step
 pub in-same : {N : Type 0} (type_of : N → ℕ) (old new : State) (values : List (ℕ × N)) → InStep type_of old values → SameValues old new → InStep type_of new values

@@ -1,3 +1,4 @@
 pub mod Adding
 pub mod Keeping
 pub mod Ending
+pub mod Kept

@@ -1,5 +1,5 @@
 -- The blobs of a map in memory.
-use Rattle.std.specs.Prelude.{ℕ, Option, Some, None, option_map, nat_eq}
+use Rattle.std.specs.Prelude.{ℕ, Option, option_map, nat_eq}
 use Rattle.std.specs.HashMap.{HashMap, get}
 use Rattle.std.specs.Arc.{arc_value}
 use Rattle.std.specs.declared.sync.Arc.{Arc}

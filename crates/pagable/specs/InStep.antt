@@ -1,5 +1,5 @@
 -- Values in step with the tables.
-use Rattle.std.specs.Prelude.{◌≡◌, ◌==◌, ◌&&◌, ◌++◌, ◌∷◌, [], ℕ, Bool, List, filter, sum_by, nat_lt}
+use Rattle.std.specs.Prelude.{◌≡◌, ◌==◌, ◌&&◌, ℕ, Bool, List, filter, sum_by, nat_lt}
 use Rattle.pagable_world.specs.State.{State, one, value_at}
 use Rattle.pagable_world.specs.Values.{values_of}
 

@@ -4,3 +4,4 @@ pub mod Shown
 pub mod InStep
 pub mod Lending
 pub mod Loads
+pub mod Trees

@@ -1,5 +1,5 @@
 -- How a load ends and what it fetches.
-use Rattle.std.specs.Prelude.{◌≡◌, ◌≢◌, ◌++◌, ◌∷◌, ◌⊎◌, [], ℕ, Bool, List, Option, Some, Result, Ok, Err, true}
+use Rattle.std.specs.Prelude.{◌≡◌, ◌≢◌, ◌++◌, ◌∷◌, ◌⊎◌, [], ℕ, List, Option, Some, Result, Ok, Err, true}
 use Rattle.std.specs.Arc.{arc_value}
 use Rattle.std.specs.Global.{Global}
 use Rattle.std.specs.declared.sync.Arc.{Arc}
@@ -9,11 +9,10 @@ use Rattle.pagable_model.specs.Blob.{Blob}
 use Rattle.pagable_model.specs.declared.error.Error.{Error}
 use Rattle.pagable_model.specs.declared.error.Error.TheVariants as errors
 use Rattle.pagable_model.specs.declared.numbers.ArcRef.{ArcRef}
-use Rattle.pagable_model.specs.declared.numbers.HandleNumber.{HandleNumber}
 use Rattle.pagable_model.specs.declared.numbers.LoadNumber.{LoadNumber}
 use Rattle.pagable_model.specs.declared.numbers.NodeNumber.{NodeNumber}
 use Rattle.pagable_core.specs.Data.{blob_of}
-use Rattle.pagable_core.specs.Stored.{RefusesFetch}
+use Rattle.pagable_model.specs.Stored.{RefusesFetch}
 use Rattle.pagable_core.specs.declared.storage.data.PagableData.{PagableData}
 use Rattle.pagable_world.specs.State.{State}
 use Rattle.pagable_world.specs.Values.{value_of_node}
@@ -22,7 +21,7 @@ use Rattle.pagable_world.specs.World.{plain, greatest, HasCell}
 use Rattle.pagable_world.specs.Calls.{HasLoad, IsNoLoad, Ended}
 use Rattle.pagable_world.specs.declared.rows.LoadRow.{LoadRow}
 use Rattle.pagable.specs.InStep.{kept}
-use Rattle.pagable.specs.Shown.{Shown, Unchanged}
+use Rattle.pagable.specs.Shown.{Shown}
 
 -- the load is open, for this node, whose value is of the handed value's type
 abbrev pub FitsLoad : {N : Type 0} → (N → ℕ) → LoadNumber → N → State → NodeNumber → Type 0

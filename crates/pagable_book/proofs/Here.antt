@@ -1,9 +1,9 @@
 -- Whose value is in memory, by the rows and the cells of a plain world.
-use Rattle.std.proofs.Common.{◌≡◌, ℕ, ◌+◌, ◌<◌, ◌≤◌, ◌==◌, ◌&&◌, Bool, true, false, List, [], ◌∷◌, ◌++◌, set, sum_by, refl, ap, sym, ◌∙◌, subst, arith, Some, slice_get, inl, inr}
+use Rattle.std.proofs.Common.{◌≡◌, ℕ, ◌+◌, ◌<◌, ◌≤◌, ◌==◌, ◌&&◌, Bool, true, false, List, [], ◌∷◌, ◌++◌, set, sum_by, refl, ap, sym, ◌∙◌, subst, arith, All, get_or, Some, slice_get, inl, inr}
 use Rattle.std.specs.Prelude.{nat_lt, not, ◌||◌, ◌⊎◌, ◌≢◌}
 use Rattle.std.specs.List.{remove}
 use Rattle.std.proofs.lemmas.Bool.Decides.{nat_tests}
-use Rattle.std.proofs.lemmas.List.Sums.{sum_by-cons, sum_by_push, sum_by-le-sum_by}
+use Rattle.std.proofs.lemmas.List.Sums.{sum_by-cons, sum_by_push, sum_by-le-sum_by, get_or-le-sum_by}
 use Rattle.pagable_model.specs.declared.data_key.OptionalDataKey.{OptionalDataKey}
 use Rattle.pagable_model.specs.declared.data_key.OptionalDataKey.TheVariants as optional
 use Rattle.pagable_model.specs.declared.numbers.NodeNumber.{NodeNumber}
@@ -189,3 +189,14 @@ pinned-value s i x cell w at has pinning =
     let le = row-le-sum (pin_of x.node.0) s.handles i x at in
     let some : 0 < pins x.node.0 s.handles = grind (arith, nat_tests) in
     values-here (λ _. true) x.node.0 s w ∙ here-pinned (λ _. true) x.node.0 has.0 (plain s) cell (once-whole s w) has.1 has.2 some
+
+apart-from : (n q m : ℕ) → one (n == q) ≤ m → m ≡ 0 → n ≢ q
+apart-from n q m le none = λ same. let bad : one (n == q) ≡ 1 = grind (arith, nat_tests) in absurd (omega arith)
+
+-- what weighs nothing stands nowhere
+pub all-apart : {X : Type 0} (f : X → ℕ) (q : ℕ) (xs : List X) → sum_by (λ x. one (f x == q)) xs ≡ 0 → All (λ x. f x ≢ q) xs
+all-apart f q xs none = λ k d lt. apart-from (f (get_or xs k d)) q (sum_by (λ x. one (f x == q)) xs) (get_or-le-sum_by (λ x. one (f x == q)) xs k d lt) none
+
+-- no node has the next number
+pub next-unused : (s : State) → WellFormed s → All (λ cell. cell.number ≢ s.last_node + 1) (plain s).cells
+next-unused s w = all-apart (λ (cell : Cell). cell.number) (s.last_node + 1) (plain s).cells (cells-nodes (s.last_node + 1) s.nodes ∙ w.nodes.fresh (s.last_node + 1) (omega arith))

@@ -1,6 +1,6 @@
 //! The book: tables that are whole, and the calls on them.
 
-ghost use Rattle.std.specs.Prelude.{◌≡◌, ℕ, ◌+◌, [], Bool, IfOk, IfErr, IfNone, IfSome, OnOk, OnErr, length, nat_lt, sum_by, false};
+ghost use Rattle.std.specs.Prelude.{◌≡◌, ◌≢◌, ℕ, ◌+◌, [], All, Bool, IfOk, IfErr, IfNone, IfSome, OnOk, OnErr, length, nat_lt, sum_by, false};
 ghost use Rattle.pagable_world.specs.State.{State, WellFormed, value_at, is_node};
 ghost use Rattle.pagable_world.specs.Cells.{Cell};
 ghost use Rattle.pagable_world.specs.World.{plain, greatest, HasCell};
@@ -162,8 +162,9 @@ impl Book {
         Ok(Some(looked.handle.row.node))
     }
 
-    /// The number that the next node will have, or None where all were given.
+    /// The number that the next node will have, which no node has, or None where all were given.
     pub fn next_node(&self) -> Option<NodeNumber>
+        ensures unused { IfSome result (λ node. All (λ cell. cell.number ≢ node.0) (plain self.now).cells) }
         ensures next { IfSome result (λ node. node.0 ≡ self.now.last_node + 1) }
         ensures spent { IfNone result (self.now.last_node ≡ greatest) }
     {

@@ -1,3 +1,2 @@
 pub mod Data
 pub mod Context
-pub mod Stored

@@ -8,7 +8,7 @@ use Rattle.pagable_model.specs.declared.error.Error.TheVariants as errors
 use Rattle.pagable_model.specs.Gives.{Extends}
 use Rattle.pagable_model.specs.Numbers.{Read, byte_at, varint, varint_at, varint_limit}
 use Rattle.pagable_model.specs.Steps.{◌>>=◌}
-use Rattle.pagable_flavors.specs.Varints.{AppendsVarint}
+use Rattle.pagable_model.specs.Varints.{AppendsVarint}
 
 -- what such numbers stay below
 pub limit-step : (more last : ℕ) → 0 < more → varint_limit more last ≡ 128 * varint_limit (more - 1) last

@@ -2,8 +2,10 @@ pub mod Refusals
 pub mod Optional
 pub mod Steps
 pub mod Numbers
+pub mod Varints
 pub mod Basic
 pub mod Gives
+pub mod Lengths
 pub mod Track
 pub mod Meaning
 pub mod Keys
@@ -13,7 +15,9 @@ pub mod Reading
 pub mod Form
 pub mod Writing
 pub mod Standing
+pub mod Lifted
 pub mod Blob
+pub mod Stored
 pub mod Trees
 pub mod Canonical
 pub mod Deep

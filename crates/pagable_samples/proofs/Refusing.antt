@@ -5,7 +5,7 @@ use Rattle.std.proofs.lemmas.Bool.{cases_lt}
 use Rattle.pagable_model.specs.declared.error.Error.{Error}
 use Rattle.pagable_model.specs.declared.error.Error.TheVariants as errors
 use Rattle.pagable_model.specs.Blob.{Blob}
-use Rattle.pagable_core.specs.Stored.{HasFailed, RefusesFetch, RefusesStore, RefusesFlush}
+use Rattle.pagable_model.specs.Stored.{HasFailed, RefusesFetch, RefusesStore, RefusesFlush}
 use Rattle.pagable_samples.specs.Failing.{own_failures, failures_of}
 
 -- counts that are cut off at the greatest

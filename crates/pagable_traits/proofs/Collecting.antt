@@ -8,7 +8,7 @@ use Rattle.pagable_model.specs.Keys.{put_all}
 use Rattle.pagable_model.specs.Shape.{Shape, list}
 use Rattle.pagable_model.specs.Reading.{Rest, Context, items, bytes_of, read, read_with}
 use Rattle.pagable_model.specs.Standing.{Gave}
-use Rattle.pagable_traits.specs.Lifted.{MeanAll, mean-none, MeansList}
+use Rattle.pagable_model.specs.Lifted.{MeanAll, mean-none, MeansList}
 use Rattle.pagable_traits.specs.Collected.{Collected}
 use Rattle.pagable_traits.proofs.Items.{mean_last}
 

@@ -7,14 +7,14 @@ use Rattle.pagable_model.specs.declared.numbers.ArcRef.{ArcRef}
 use Rattle.pagable_model.specs.Steps.{◌>>=◌}
 use Rattle.pagable_model.specs.Basic.{longest, length_form, length_at}
 use Rattle.pagable_model.specs.Gives.{memory_or}
-use Rattle.pagable_flavors.specs.Lengths.{long_or_memory}
+use Rattle.pagable_model.specs.Lengths.{long_or_memory}
 use Rattle.pagable_model.specs.Meaning.{Meaning, sequence}
 use Rattle.pagable_model.specs.Shape.{Shape, list}
 use Rattle.pagable_model.specs.Form.{Form, Forms, list-form, no-forms, more-forms}
 use Rattle.pagable_model.specs.Reading.{Rest, Gets, Context, items, bytes_of, read, read_with}
 use Rattle.pagable_model.specs.Writing.{Out, Nesting, FormAt, FormsAt, WritesSome, WritesSomeAll, Grows, added, kind_of_arc, NoForm, NoForms, NoFormOfSome, NoFormsOfSome, Refused, RefusedAll}
 use Rattle.pagable_model.specs.Standing.{Gave, SomeMeaning}
-use Rattle.pagable_traits.specs.Lifted.{MeanAll, mean-none, mean-more, MeansList, items_have_meanings}
+use Rattle.pagable_model.specs.Lifted.{MeanAll, mean-none, mean-more, MeansList, items_have_meanings}
 use Rattle.pagable_traits.proofs.Writing.{out_is, grows_refl, grows_trans, grows_some, then, memory_refuses}
 
 -- ---- what items mean

@@ -4,3 +4,5 @@ pub mod Parts
 pub mod Items
 pub mod Slices
 pub mod Collecting
+pub mod Statics
+pub mod Tagged

@@ -8,13 +8,13 @@ use Rattle.pagable_model.specs.Refusals.{is_writing_fault}
 use Rattle.pagable_model.specs.Steps.{◌>>=◌}
 use Rattle.pagable_model.specs.Basic.{bool_form}
 use Rattle.pagable_model.specs.Gives.{memory, memory_or, either}
-use Rattle.pagable_flavors.specs.Lengths.{long_or_memory}
+use Rattle.pagable_model.specs.Lengths.{long_or_memory}
 use Rattle.pagable_model.specs.Meaning.{Meaning, pair, absent, present}
 use Rattle.pagable_model.specs.Shape.{Shape, optional, both}
 use Rattle.pagable_model.specs.Form.{none-form, some-form, both-form}
 use Rattle.pagable_model.specs.Writing.{Out, Nesting, WritesSome, Grows, added, NoForm, Refused, IsRefusal}
 use Rattle.pagable_model.specs.Standing.{Gave, SomeMeaning}
-use Rattle.pagable_traits.specs.Lifted.{MeansOption, means-none, means-some, MeansPair}
+use Rattle.pagable_model.specs.Lifted.{MeansOption, means-none, means-some, MeansPair}
 use Rattle.pagable_traits.proofs.Writing.{out_is, then}
 
 -- ---- bytes, added

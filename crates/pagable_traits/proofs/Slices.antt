@@ -10,7 +10,7 @@ use Rattle.pagable_model.specs.Shape.{Shape, run}
 use Rattle.pagable_model.specs.Form.{run-form}
 use Rattle.pagable_model.specs.Writing.{Out, Nesting, FormAt, FormsAt, WritesSome, WritesSomeAll, NoForm, NoForms, NoFormOfSome, Refused, RefusedAll, IsRefusal}
 use Rattle.pagable_model.specs.Standing.{SomeMeaning}
-use Rattle.pagable_traits.specs.Lifted.{MeanAll, MeansList, items_have_meanings}
+use Rattle.pagable_model.specs.Lifted.{MeanAll, MeansList, items_have_meanings}
 use Rattle.pagable_traits.proofs.Items.{mean-length, sequence-same}
 
 pub writes_run : {T : Type 0} (M : T → Meaning ArcRef → Type 0) (xs : List T) (n : Nesting) (s : Shape) (old new : Out) → length xs ≤ longest → WritesSomeAll (MeanAll M xs) n s old new → WritesSome (MeansList M xs) n (run s) old new

@@ -11,7 +11,7 @@ use Rattle.pagable_model.specs.Refusals.{is_writing_fault}
 use Rattle.pagable_model.specs.Numbers.{bound, IsSigned, unsigned_form, signed_form}
 use Rattle.pagable_model.specs.Basic.{longest, bool_form, char_form, text_form}
 use Rattle.pagable_model.specs.Gives.{Extends, memory}
-use Rattle.pagable_flavors.specs.Lengths.{long_or_memory}
+use Rattle.pagable_model.specs.Lengths.{long_or_memory}
 use Rattle.pagable_model.specs.Meaning.{Meaning, number, integer}
 use Rattle.pagable_model.specs.Meaning as meanings
 use Rattle.pagable_model.specs.Shape.{Shape, unsigned, signed}

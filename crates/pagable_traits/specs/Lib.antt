@@ -1,3 +1,5 @@
 pub mod Causes
 pub mod Collected
-pub mod Lifted
+pub mod Session
+pub mod Statics
+pub mod Tagged

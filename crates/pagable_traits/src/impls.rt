@@ -9,4 +9,5 @@ pub mod parts;
 pub mod signed;
 pub mod slices;
 pub mod small;
+pub mod static_value;
 pub mod texts;

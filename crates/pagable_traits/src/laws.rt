@@ -10,11 +10,16 @@ ghost use Rattle.pagable_model.specs.Gives.{never, memory, memory_or, either};
 ghost use Rattle.pagable_model.specs.Shape.{nothing, unsigned, signed, flag, text, letter, optional, list, both};
 ghost use Rattle.pagable_model.specs.Meaning.{Meaning, number, integer, none};
 ghost use Rattle.pagable_model.specs.Meaning as meanings;
-ghost use Rattle.pagable_traits.specs.Lifted.{MeansOption, MeansList, MeansPair};
+ghost use Rattle.pagable_model.specs.Lifted.{MeansOption, MeansList, MeansPair};
 ghost use Rattle.pagable_model.specs.declared.error.Error.{Error as Refusal};
 ghost use Rattle.pagable_model.specs.declared.numbers.ArcRef.{ArcRef as Reference};
+ghost use Rattle.pagable_model.specs.Meaning.{lifted};
+ghost use Rattle.pagable_model.specs.Shape.{static_value};
+ghost use Rattle.pagable_traits.specs.Statics.{meanings_of, unregistered};
+ghost use Rattle.pagable_traits.specs.declared.impls.static_value.StaticValue.{StaticValue as Static};
 
 use crate::env::Env;
+use crate::impls::static_value::{HasStaticValueRegistry, StaticValue};
 use crate::traits::{Carried, PagableDeserialize, PagableSerialize};
 
 /// A `bool` is spelled as a flag and means itself. Writing wants memory at most;
@@ -186,4 +191,13 @@ pub fn list_is_carried<E: Env, T: PagableSerialize<E> + PagableDeserialize<'stat
     ensures means { (v : Items T Heap) (m : Meaning Reference) → ⟦<Vec<T> as Carried<E>>⟧.means v m ↔ MeansList T.Carried.means v.items m }
     ensures writes { (e : Refusal) → ⟦<Vec<T> as PagableSerialize<E>>⟧.write_causes e ↔ memory_or T.write_causes e }
     ensures reads { (e : Refusal) → ⟦<Vec<T> as PagableDeserialize<'static, E>>⟧.read_causes e ↔ memory_or T.read_causes e }
+{}
+
+/// A static value is spelled as an index into the environment's registry, means its value whatever its index, and is
+/// refused by want of memory or where it isn't registered; reading it is never refused for a cause of its own.
+pub fn static_value_is_carried<E: Env, T: HasStaticValueRegistry<'static, E> + 'static>()
+    ensures shape { (e : E) → ⟦<StaticValue<'static, T> as Carried<E>>⟧.shape e ≡ static_value (meanings_of T.plain (T.known e)) }
+    ensures means { (v : Static T) (m : Meaning Reference) → ⟦<StaticValue<'static, T> as Carried<E>>⟧.means v m ↔ (m ≡ lifted (T.plain v.0.value.now)) }
+    ensures writes { (e : Refusal) → ⟦<StaticValue<'static, T> as PagableSerialize<E>>⟧.write_causes e ↔ memory_or unregistered e }
+    ensures reads { (e : Refusal) → ⟦<StaticValue<'static, T> as PagableDeserialize<'static, E>>⟧.read_causes e ↔ never e }
 {}

@@ -3,6 +3,7 @@
 #![tactic(auto)]
 
 pub mod deserializer;
+pub mod eager;
 pub mod env;
 pub mod hash;
 pub mod impls;
@@ -10,15 +11,28 @@ pub mod laws;
 pub mod nodes;
 pub mod reader;
 pub mod serializer;
+pub mod session;
 pub mod traits;
+pub mod typetag;
 
 pub use deserializer::PagableDeserializer;
+pub use eager::{EagerlyCarried, PagableEagerDeserialize, PagableEagerSerialize};
 pub use env::Env;
 pub use hash::KeyHash;
+pub use impls::slices::serialize_slice;
+pub use impls::static_value::{
+    HasStaticValueRegistry, StaticBytes, StaticStr, StaticValue, StaticValueEntry,
+    StaticValueRegistry,
+};
 pub use nodes::{InNode, NodeSet};
 pub use pagable_model::{
     ArcRef, HandleNumber, Identity, Kind, LoadNumber, NodeNumber, PagableCursor, WorkerNumber,
 };
 pub use reader::Reader;
 pub use serializer::PagableSerializer;
+pub use session::{SessionContext, SessionMap};
 pub use traits::{Carried, OneMeaning, PagableDeserialize, PagableSerialize};
+pub use typetag::{
+    ForTag, HasTypetagRegistry, PagableRegisteredFor, PagableTagged, TagReader,
+    TypetagRegistration, TypetagRegistry,
+};

@@ -3,7 +3,16 @@
 #![tactic(auto)]
 
 pub mod answers;
+pub mod cached;
+pub mod calls;
+pub mod events;
 pub mod rows;
 
 pub use answers::{Beginning, EndRefusal, Pinning};
+pub use cached::CacheRow;
+pub use calls::{Call, Found, Reply, Want};
+pub use events::{
+    Claim, Event, EventReply, LoadAnswer, LoadReply, PinStep, TableNumber, Took, WorkerAnswer,
+    WorkerReply,
+};
 pub use rows::{HandleRow, LoadRow, Mode, NodeRow, Owner};

@@ -2,7 +2,7 @@
 
 use crate::answers::Answer;
 use crate::counts::Counts;
-use crate::{basic, blobs, carried, plain};
+use crate::{blobs, carried, lengths, plain};
 use anyhow::{bail, ensure};
 use std::alloc::Global;
 
@@ -41,7 +41,7 @@ fn check_value(alloc: Global, row: Row<'_>) -> anyhow::Result<()> {
     let input = bytes.as_slice();
     let answers = [
         carried::answer(alloc, row.name, input)?,
-        basic::answer(alloc, row.name, input)?,
+        lengths::answer(alloc, row.name, input)?,
         plain::answer(alloc, row.name, input)?,
     ];
     let mut known = false;

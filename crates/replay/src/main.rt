@@ -3,10 +3,10 @@
 #![tactic(auto)]
 
 pub mod answers;
-pub mod basic;
 pub mod blobs;
 pub mod carried;
 pub mod counts;
+pub mod lengths;
 pub mod lines;
 pub mod plain;
 

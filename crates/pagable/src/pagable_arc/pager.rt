@@ -4,7 +4,7 @@ ghost use Rattle.std.specs.Prelude.{◌≡◌, ◌+◌, ◌++◌, ◌∷◌, [],
 ghost use Rattle.std.specs.Arc.{arc_value};
 ghost use Rattle.pagable_model.specs.Blob.{key_of};
 ghost use Rattle.pagable_core.specs.Data.{blob_of};
-ghost use Rattle.pagable_core.specs.Stored.{Adds, RefusesFetch, RefusesStore};
+ghost use Rattle.pagable_model.specs.Stored.{Adds, RefusesFetch, RefusesStore};
 ghost use Rattle.pagable_world.specs.State.{WellFormed, is_node};
 ghost use Rattle.pagable_world.specs.Cells.{Cell};
 ghost use Rattle.pagable_world.specs.World.{plain, born, HasCell};
@@ -14,6 +14,7 @@ ghost use Rattle.pagable_world.specs.Values.{value_of_node};
 ghost use Rattle.pagable.specs.InStep.{InStep, kept};
 ghost use Rattle.pagable.specs.Lending.{IsLent, PinsNothing};
 ghost use Rattle.pagable.specs.Loads.{ClosedBy, FitsLoad, Installs, LoadFetched, StaysOpen};
+ghost use Rattle.pagable.specs.Trees.{Always, BirthOf, EachWorld, EndedAs, KeyFits, LendsTree, ReadFits, Sight, StandsEmpty};
 ghost use Rattle.pagable.specs.Shown.{OnlyBook, SameStore, OnlyStore, Unchanged};
 
 use crate::pagable_arc::values;
@@ -74,6 +75,7 @@ where
         ensures values { result.values ≡ [] }
         ensures storage { result.storage ≡ storage }
         ensures env { result.env ≡ env }
+        ensures trees { StandsEmpty (record { type_of = E.Node.type_of; means = E.Node.means; shape_of = E.Node.shape_of; parts = E.parts; stored = S.stored }) result }
     {
         Pager {
             book: Book::new(alloc),
@@ -108,6 +110,7 @@ where
     ) -> Result<HandleNumber, (Error, E::Node)>
         ensures made { IfOk result (λ k. (k.0 ≡ self.old.book.last_handle + 1) × (plain self.new.book ≡ born (plain self.old.book) (E.Node.type_of node) Mode.LoosePinned)) }
         ensures values { OnOk result (self.new.values ≡ self.old.values ++ (self.old.book.last_node + 1, node) ∷ []) }
+        ensures trees { OnOk result (BirthOf (record { type_of = E.Node.type_of; means = E.Node.means; shape_of = E.Node.shape_of; parts = E.parts; stored = S.stored }) node self.old self.new) }
         ensures same { SameStore self.old self.new }
         ensures err { OnErr result (Unchanged self.old self.new) }
         ensures back { IfErr result (λ e. e.1 ≡ node) }
@@ -128,6 +131,7 @@ where
     /// WrongMode where the handle isn't loose, NumbersSpent and OutOfMemory.
     pub fn pin(&mut self, handle: HandleNumber) -> Result<Pinning, Error>
         ensures step { PinnedBy (plain self.old.book) handle result (plain self.new.book) }
+        ensures trees { EachWorld (record { type_of = E.Node.type_of; means = E.Node.means; shape_of = E.Node.shape_of; parts = E.parts; stored = S.stored }) self.old self.new Always (λ w w'. PinnedBy w.plain handle result w'.plain) }
         ensures same { OnlyBook self.old self.new }
     {
         self.book.pin(handle)
@@ -138,6 +142,7 @@ where
     /// NumbersSpent and OutOfMemory say that the cell couldn't be listed: the pin is given up all the same.
     pub fn unpin(&mut self, handle: HandleNumber) -> Result<(), Error>
         ensures step { Unpinned (plain self.old.book) handle result (plain self.new.book) }
+        ensures trees { EachWorld (record { type_of = E.Node.type_of; means = E.Node.means; shape_of = E.Node.shape_of; parts = E.parts; stored = S.stored }) self.old self.new Always (λ w w'. Unpinned w.plain handle result w'.plain) }
         ensures values { self.new.values ≡ kept self.new.book self.old.values }
         ensures same { SameStore self.old self.new }
     {
@@ -150,6 +155,7 @@ where
     /// gone. Refused with NoSuchHandle and NotYours, and nothing changes; NumbersSpent and OutOfMemory as of `unpin`.
     pub fn release(&mut self, handle: HandleNumber) -> Result<(), Error>
         ensures step { Released (plain self.old.book) handle result (plain self.new.book) }
+        ensures trees { EachWorld (record { type_of = E.Node.type_of; means = E.Node.means; shape_of = E.Node.shape_of; parts = E.parts; stored = S.stored }) self.old self.new Always (λ w w'. Released w.plain handle result w'.plain) }
         ensures values { self.new.values ≡ kept self.new.book self.old.values }
         ensures same { SameStore self.old self.new }
     {
@@ -197,6 +203,7 @@ where
     /// The node's value, where the handle pins the node, and else None. Refused with NoSuchHandle.
     pub fn value(&self, handle: HandleNumber) -> Result<Option<&E::Node>, Error>
         ensures lent { IfOk result (λ found. IfSome found (λ x. IsLent self.now handle x.now)) }
+        ensures trees { IfOk result (λ found. IfSome found (λ x. LendsTree (record { type_of = E.Node.type_of; means = E.Node.means; shape_of = E.Node.shape_of; parts = E.parts; stored = S.stored }) self.now handle x.now)) }
         ensures none { IfOk result (λ found. IfNone found (PinsNothing self.now handle)) }
         ensures unknown { IfErr result (λ e. IsUnknown (plain self.now.book) handle × (e ≡ Error.NoSuchHandle)) }
     {
@@ -215,6 +222,7 @@ where
     /// and NotYours.
     pub fn set_data_key(&mut self, handle: HandleNumber, key: DataKey) -> Result<(), Error>
         ensures step { KeySet (plain self.old.book) handle key result (plain self.new.book) }
+        ensures trees { EachWorld (record { type_of = E.Node.type_of; means = E.Node.means; shape_of = E.Node.shape_of; parts = E.parts; stored = S.stored }) self.old self.new (KeyFits (record { type_of = E.Node.type_of; means = E.Node.means; shape_of = E.Node.shape_of; parts = E.parts; stored = S.stored }) self.old handle key) (λ w w'. KeySet w.plain handle key result w'.plain) }
         ensures values { self.new.values ≡ kept self.new.book self.old.values }
         ensures same { SameStore self.old self.new }
     {
@@ -233,6 +241,7 @@ where
     /// The entry at this place of the list, counted from 0, moves to the caller; None past the end.
     pub fn take_pending(&mut self, place: usize) -> Option<HandleNumber>
         ensures step { Took (plain self.old.book) place result (plain self.new.book) }
+        ensures trees { EachWorld (record { type_of = E.Node.type_of; means = E.Node.means; shape_of = E.Node.shape_of; parts = E.parts; stored = S.stored }) self.old self.new Always (λ w w'. Took w.plain place result w'.plain) }
         ensures same { OnlyBook self.old self.new }
     {
         self.book.take_pending(place)
@@ -245,6 +254,7 @@ where
         ensures adds { OnOk result (Adds (key_of E.Hash.digest (blob_of blob)) (blob_of blob) (S.stored self.old.storage) (S.stored self.new.storage)) }
         ensures only { IfErr result (RefusesStore (blob_of blob) (S.stored self.old.storage (key_of E.Hash.digest (blob_of blob))) (S.is_closed self.old.storage) (S.failed self.old.storage) (S.failed self.new.storage)) }
         ensures err { OnErr result (S.stored self.new.storage ≡ S.stored self.old.storage) }
+        ensures trees { EachWorld (record { type_of = E.Node.type_of; means = E.Node.means; shape_of = E.Node.shape_of; parts = E.parts; stored = S.stored }) self.old self.new Always (λ w w'. w'.plain ≡ w.plain) }
         ensures same { OnlyStore self.old self.new }
     {
         self.storage.store_data(alloc, blob)
@@ -254,6 +264,7 @@ where
     pub fn fetch(&mut self, alloc: Global, key: DataKey) -> Result<Arc<PagableData>, Error>
         ensures ok { IfOk result (λ found. S.stored self.old.storage key ≡ Some (blob_of (arc_value found))) }
         ensures only { IfErr result (RefusesFetch key (S.stored self.old.storage key) (S.failed self.old.storage) (S.failed self.new.storage)) }
+        ensures trees { EachWorld (record { type_of = E.Node.type_of; means = E.Node.means; shape_of = E.Node.shape_of; parts = E.parts; stored = S.stored }) self.old self.new Always (λ w w'. w'.plain ≡ w.plain) }
         ensures stored { S.stored self.new.storage ≡ S.stored self.old.storage }
         ensures same { OnlyStore self.old self.new }
     {
@@ -264,6 +275,7 @@ where
     /// key to read. Refused with NoSuchHandle, NotYours, WrongMode, NumbersSpent and OutOfMemory.
     pub fn load_begin(&mut self, handle: HandleNumber) -> Result<Beginning, Error>
         ensures step { Begun (plain self.old.book) handle result (plain self.new.book) }
+        ensures trees { EachWorld (record { type_of = E.Node.type_of; means = E.Node.means; shape_of = E.Node.shape_of; parts = E.parts; stored = S.stored }) self.old self.new Always (λ w w'. Begun w.plain handle result w'.plain) }
         ensures same { OnlyBook self.old self.new }
     {
         self.book.load_begin(handle)
@@ -276,6 +288,7 @@ where
         load: LoadNumber,
         want: Want,
     ) -> Result<Either<ArcRef, Arc<PagableData>>, Error>
+        ensures trees { EachWorld (record { type_of = E.Node.type_of; means = E.Node.means; shape_of = E.Node.shape_of; parts = E.parts; stored = S.stored }) self.old self.new Always (λ w w'. w'.plain ≡ w.plain) }
         ensures fetched { LoadFetched load self.old.book (S.stored self.old.storage) (S.failed self.old.storage) (S.failed self.new.storage) result }
         ensures same { OnlyStore self.old self.new }
         ensures stored { S.stored self.new.storage ≡ S.stored self.old.storage }
@@ -301,6 +314,7 @@ where
         node: E::Node,
     ) -> Result<HandleNumber, (Error, Option<E::Node>)>
         ensures step { IfOk result (λ k. Ended (plain self.old.book) load (Ok k) (plain self.new.book)) }
+        ensures trees { EachWorld (record { type_of = E.Node.type_of; means = E.Node.means; shape_of = E.Node.shape_of; parts = E.parts; stored = S.stored }) self.old self.new (ReadFits (record { type_of = E.Node.type_of; means = E.Node.means; shape_of = E.Node.shape_of; parts = E.parts; stored = S.stored }) load node) (λ w w'. EndedAs load result w.plain w'.plain) }
         ensures installs { OnOk result (Installs E.Node.type_of load node self.old self.new) }
         ensures closed { IfErr result (λ e. IfNone e.1 (ClosedBy load e.0 self.old self.new)) }
         ensures back { IfErr result (λ e. IfSome e.1 (λ x. (x ≡ node) × Unchanged self.old self.new × StaysOpen E.Node.type_of E.Node.refs_of load node self.old e.0)) }
@@ -315,6 +329,7 @@ where
     /// Gives a load up. Refused with NoSuchHandle where no such load is open.
     pub fn load_drop(&mut self, load: LoadNumber) -> Result<(), Error>
         ensures step { Dropped (plain self.old.book) load result (plain self.new.book) }
+        ensures trees { EachWorld (record { type_of = E.Node.type_of; means = E.Node.means; shape_of = E.Node.shape_of; parts = E.parts; stored = S.stored }) self.old self.new Always (λ w w'. Dropped w.plain load result w'.plain) }
         ensures values { self.new.values ≡ kept self.new.book self.old.values }
         ensures same { SameStore self.old self.new }
     {
@@ -430,6 +445,7 @@ where
     fn add_cell(&mut self, node: E::Node) -> Result<HandleNumber, (Error, E::Node)>
         ensures made { IfOk result (λ k. (k.0 ≡ self.old.book.last_handle + 1) × (plain self.new.book ≡ born (plain self.old.book) (E.Node.type_of node) Mode.LoosePinned)) }
         ensures values { OnOk result (self.new.values ≡ self.old.values ++ (self.old.book.last_node + 1, node) ∷ []) }
+        ensures trees { OnOk result (BirthOf (record { type_of = E.Node.type_of; means = E.Node.means; shape_of = E.Node.shape_of; parts = E.parts; stored = S.stored }) node self.old self.new) }
         ensures same { SameStore self.old self.new }
         ensures err { OnErr result (Unchanged self.old self.new) }
         ensures back { IfErr result (λ e. e.1 ≡ node) }

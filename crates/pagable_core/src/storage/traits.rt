@@ -4,7 +4,7 @@ ghost use Rattle.std.specs.Prelude.{◌≡◌, ◌≤◌, ◌↔◌, ℕ, Bool, 
 ghost use Rattle.std.specs.Arc.{arc_value};
 ghost use Rattle.pagable_model.specs.Blob.{Blob, key_of};
 ghost use Rattle.pagable_core.specs.Data.{blob_of};
-ghost use Rattle.pagable_core.specs.Stored.{Adds, RefusesFetch, RefusesStore, RefusesFlush};
+ghost use Rattle.pagable_model.specs.Stored.{Adds, RefusesFetch, RefusesStore, RefusesFlush};
 
 use crate::storage::data::PagableData;
 use pagable_flavors::{DataKey, Error};

@@ -4,7 +4,7 @@ ghost use Rattle.std.specs.Prelude.{◌≡◌, ◌++◌, OnOk, IfErr};
 ghost use Rattle.std.specs.Int.{w8, w16, w32, w64};
 ghost use Rattle.pagable_model.specs.Gives.{memory, Extends};
 ghost use Rattle.pagable_model.specs.Numbers.{unsigned_form};
-ghost use Rattle.pagable_flavors.specs.Varints.{AppendsVarint};
+ghost use Rattle.pagable_model.specs.Varints.{AppendsVarint};
 
 use super::PagableVecFlavor;
 use pagable_model::Error;

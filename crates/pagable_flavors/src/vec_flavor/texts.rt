@@ -3,7 +3,7 @@
 ghost use Rattle.std.specs.Prelude.{◌≡◌, ◌≤◌, ◌<◌, ◌++◌, length, OnOk, IfErr};
 ghost use Rattle.pagable_model.specs.Gives.{memory, Extends};
 ghost use Rattle.pagable_model.specs.Basic.{longest, bool_form, length_form, text_form, char_form};
-ghost use Rattle.pagable_flavors.specs.Lengths.{long_or_memory};
+ghost use Rattle.pagable_model.specs.Lengths.{long_or_memory};
 
 use super::{LONGEST, PagableVecFlavor};
 use pagable_model::Error;

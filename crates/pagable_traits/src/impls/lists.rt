@@ -8,7 +8,7 @@ ghost use Rattle.pagable_model.specs.Reading.{items, read};
 ghost use Rattle.pagable_model.specs.Standing.{handles_at, MovesOn, GivesSome};
 ghost use Rattle.pagable_model.specs.Writing.{nesting, WritesSome, WritesSomeAll, Refused, RefusedAll, IsRefusal, Grows};
 ghost use Rattle.pagable_traits.specs.Causes.{memory_or_is_own_reading, memory_or_is_own_writing};
-ghost use Rattle.pagable_traits.specs.Lifted.{MeanAll, MeansList, list_has_meaning, list_is_meaning, list_single};
+ghost use Rattle.pagable_model.specs.Lifted.{MeanAll, MeansList, list_has_meaning, list_is_meaning, list_single};
 
 use crate::deserializer::PagableDeserializer;
 use crate::env::Env;

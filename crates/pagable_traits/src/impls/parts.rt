@@ -6,7 +6,7 @@ ghost use Rattle.pagable_model.specs.Gives.{Gives, never, memory};
 ghost use Rattle.pagable_model.specs.Reading.{bytes_of};
 ghost use Rattle.pagable_model.specs.Standing.{MovesOn};
 ghost use Rattle.pagable_model.specs.Writing.{added, Grows};
-ghost use Rattle.pagable_flavors.specs.Lengths.{long_or_memory};
+ghost use Rattle.pagable_model.specs.Lengths.{long_or_memory};
 
 use crate::deserializer::PagableDeserializer;
 use crate::env::Env;

@@ -7,7 +7,7 @@ ghost use Rattle.pagable_model.specs.Meaning.{sequence};
 ghost use Rattle.pagable_model.specs.Shape.{list, run};
 ghost use Rattle.pagable_model.specs.Writing.{nesting, WritesSome, Refused, IsRefusal, Grows};
 ghost use Rattle.pagable_traits.specs.Causes.{memory_or_is_own_reading, memory_or_is_own_writing};
-ghost use Rattle.pagable_traits.specs.Lifted.{MeansList, list_has_meaning, list_is_meaning, list_single};
+ghost use Rattle.pagable_model.specs.Lifted.{MeansList, list_has_meaning, list_is_meaning, list_single};
 
 use crate::deserializer::PagableDeserializer;
 use crate::env::Env;
@@ -96,8 +96,7 @@ impl<E: Env, T: PagableSerialize<E>> PagableSerialize<E> for BoxedSlice<T> {
 }
 
 impl<'de, E: Env, T: PagableDeserialize<'de, E> + Drop> PagableDeserialize<'de, E>
-    for BoxedSlice<T>
-{
+    for BoxedSlice<T> {
     ghost read_causes = { memory_or T.read_causes };
 
     ghost read_causes_are_own = { memory_or_is_own_reading T.read_causes T.read_causes_are_own };

@@ -5,7 +5,7 @@ ghost use Rattle.pagable_model.specs.Gives.{memory_or};
 ghost use Rattle.pagable_model.specs.Meaning.{sequence};
 ghost use Rattle.pagable_model.specs.Shape.{list};
 ghost use Rattle.pagable_traits.specs.Causes.{memory_or_is_own_reading, memory_or_is_own_writing};
-ghost use Rattle.pagable_traits.specs.Lifted.{MeansList, list_has_meaning, list_is_meaning, list_single};
+ghost use Rattle.pagable_model.specs.Lifted.{MeansList, list_has_meaning, list_is_meaning, list_single};
 
 use crate::deserializer::PagableDeserializer;
 use crate::env::Env;
@@ -60,9 +60,12 @@ impl<E: Env, T: PagableSerialize<E>, const N: usize> PagableSerialize<E> for Sma
     }
 }
 
-impl<'de, E: Env, T: PagableDeserialize<'de, E> + MadeWith<Global> + Drop, const N: usize>
-    PagableDeserialize<'de, E> for SmallVec<T, N>
-{
+impl<
+    'de,
+    E: Env,
+    T: PagableDeserialize<'de, E> + MadeWith<Global> + Drop,
+    const N: usize,
+> PagableDeserialize<'de, E> for SmallVec<T, N> {
     ghost read_causes = { memory_or T.read_causes };
 
     ghost read_causes_are_own = { memory_or_is_own_reading T.read_causes T.read_causes_are_own };

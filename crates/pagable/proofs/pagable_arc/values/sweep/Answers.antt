@@ -1,4 +1,4 @@
-use Rattle.std.proofs.Common.{◌≡◌, sum_by, map, rules, ap, ◌∙◌}
+use Rattle.std.proofs.Common.{sum_by, map, rules, ap, ◌∙◌}
 use Rattle.std.specs.Prelude.{nat_lt}
 use Rattle.std.proofs.lemmas.Fn.{filter_same}
 use Rattle.pagable_world.specs.State.{value_at}

@@ -2,7 +2,7 @@ use Rattle.std.proofs.Common.{◌++◌, ◌∷◌, [], arith}
 use Rattle.std.proofs.lemmas.Result.{err_from_is_err_and}
 use Rattle.pagable_model.specs.Reading.{read}
 use Rattle.pagable_model.specs.Standing.{handles_at}
-use Rattle.pagable_traits.specs.Lifted.{mean-none}
+use Rattle.pagable_model.specs.Lifted.{mean-none}
 use Rattle.pagable_traits.proofs.Items.{mean_last, starts, goes_on, ends, is_done}
 use Rattle.pagable_traits.proofs.Reading.{moves_trans}
 use Rattle.pagable_traits.proofs.impls.lists.read_items.Goals as goal

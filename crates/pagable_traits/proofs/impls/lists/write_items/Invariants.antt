@@ -1,6 +1,6 @@
 use Rattle.std.proofs.Common.{◌≡◌, take}
 use Rattle.pagable_model.specs.Writing.{WritesSomeAll, nesting}
-use Rattle.pagable_traits.specs.Lifted.{MeanAll}
+use Rattle.pagable_model.specs.Lifted.{MeanAll}
 use Rattle.pagable_traits.proofs.impls.lists.write_items.Given as goal
 
 abbrev pub invariant-loop-value : goal.invariant-loop-value

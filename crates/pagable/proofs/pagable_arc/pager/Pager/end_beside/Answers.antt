@@ -1,4 +1,4 @@
-use Rattle.std.proofs.Common.{map, inr, refl, ◌≡◌}
+use Rattle.std.proofs.Common.{map, inr, refl}
 use Rattle.pagable.specs.Shown.{value_of}
 use Rattle.pagable.proofs.Keeping.{in-kept, in-same}
 use Rattle.pagable.proofs.Ending.{beside, closed-step}

@@ -1,6 +1,8 @@
-use Rattle.std.proofs.Common.{map}
+use Rattle.std.proofs.Common.{map, refl}
 use Rattle.pagable.specs.Shown.{value_of}
 use Rattle.pagable.proofs.Keeping.{in-kept}
+use Rattle.pagable_world.specs.Calls.{Unpinned}
+use Rattle.pagable.proofs.Kept.{keeps-kept, unpin-cells}
 use Rattle.pagable.proofs.pagable_arc.pager.Pager.unpin.Goals as goal
 
 pub invariant_of-self : goal.invariant_of-self
@@ -8,3 +10,8 @@ invariant_of-self g c = rw c.sweep.ensures (in-kept g.E.Node.NodeSet.type_of c.s
 
 pub returns-clause-step : goal.returns-clause-step
 returns-clause-step g c = rw (← c.self.view_is) c.unpin-outcome.ensures.step
+
+pub returns-clause-trees : goal.returns-clause-trees
+returns-clause-trees g c =
+    let s = c.unpin-outcome.ensures.step in
+    rw (← c.self.view_is) (keeps-kept _ _ _ (λ w w'. Unpinned w c.args.handle c.unpin-outcome.result w') s (unpin-cells _ _ c.args.handle c.unpin-outcome.result s) c.sweep.ensures refl refl)

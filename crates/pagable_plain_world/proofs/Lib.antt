@@ -1,0 +1,7 @@
+mod Sums
+mod Existing
+mod Alone
+mod Two
+mod Joining
+mod Missing
+mod Places

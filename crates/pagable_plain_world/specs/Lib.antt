@@ -1,0 +1,5 @@
+pub mod Samples
+pub mod FallLaws
+pub mod RunLaws
+pub mod NearMisses
+pub mod Bridges

@@ -1,0 +1,68 @@
+-- Small worlds, to see that the definitions are met, and what they refuse.
+use Rattle.std.specs.Prelude.{ℕ, ◌==◌, ◌||◌, Bool, false, List, [], ◌∷◌, Option}
+use Rattle.pagable_model.specs.declared.data_key.OptionalDataKey.TheVariants as optional
+use Rattle.pagable_model.specs.Blob.{Blob}
+use Rattle.pagable_world.specs.declared.rows.Mode.TheVariants as modes
+use Rattle.pagable_world.specs.declared.rows.Owner.TheVariants as owners
+use Rattle.pagable_world.specs.declared.rows.HandleRow.{HandleRow}
+use Rattle.pagable_world.specs.Cells.{Cell}
+use Rattle.pagable_world.specs.Whole.{Whole}
+use Rattle.pagable_world.specs.Handles.{row_of}
+use Rattle.pagable_world.specs.Pages.{Pages}
+
+-- nothing but what a storage holds
+abbrev pub empty : (ℕ → Option Blob) → Whole
+empty stored = record {
+  rows = [];
+  cells = [];
+  list = [];
+  cache = [];
+  stored = stored;
+  closed = false;
+  failures = 0;
+  loads = [];
+  workers = [];
+  slots = [];
+  last = record { node = 0; handle = 0; load = 0; table = 0; worker = 0 };
+  refusals = 0;
+}
+
+-- a new pager over a storage
+abbrev pub new_pages : {N : Type 0} → (ℕ → Option Blob) → Pages N
+new_pages stored = record { world = empty stored; counts = []; values = [] }
+
+-- the caller's cell 1 has a value that refers to the cell 2, through a loose pinned handle; both have keys
+abbrev pub two_rows : List HandleRow
+two_rows = row_of 1 (record { 0 = 1 }) modes.LoosePinned owners.Caller ∷ row_of 2 (record { 0 = 2 }) modes.LoosePinned (owners.Value (record { 0 = 1 })) ∷ []
+
+abbrev pub two_cells : ℕ → ℕ → List Cell
+two_cells key inner = record { number = 1; node_type = 0; key = optional.Some key } ∷ record { number = 2; node_type = 0; key = optional.Some inner } ∷ []
+
+abbrev pub two_levels : (ℕ → Option Blob) → ℕ → ℕ → Whole
+two_levels stored key inner = record (empty stored) { rows = two_rows; cells = two_cells key inner; last = record { node = 2; handle = 2; load = 0; table = 0; worker = 0 } }
+
+-- the outer handle, and both
+abbrev pub outer : ℕ → Bool
+outer q = q == 1
+
+abbrev pub both : ℕ → Bool
+both q = (q == 1) || (q == 2)
+
+-- the caller's pinned cell without a key; and the same when its pin was let go, waiting in the list
+abbrev pub lone : (ℕ → Option Blob) → Whole
+lone stored = record (empty stored) {
+  rows = row_of 1 (record { 0 = 1 }) modes.LoosePinned owners.Caller ∷ [];
+  cells = record { number = 1; node_type = 0; key = optional.None } ∷ [];
+  last = record { node = 1; handle = 1; load = 0; table = 0; worker = 0 };
+}
+
+abbrev pub lone_listed : (ℕ → Option Blob) → Whole
+lone_listed stored = record (lone stored) {
+  rows = row_of 1 (record { 0 = 1 }) modes.LooseUnpinned owners.Caller ∷ row_of 2 (record { 0 = 1 }) modes.LooseUnpinned owners.List ∷ [];
+  list = record { 0 = 2 } ∷ [];
+  last = record { node = 1; handle = 2; load = 0; table = 0; worker = 0 };
+}
+
+-- the same without the entry of the list
+abbrev pub lone_unlisted : (ℕ → Option Blob) → Whole
+lone_unlisted stored = record (lone stored) { rows = row_of 1 (record { 0 = 1 }) modes.LooseUnpinned owners.Caller ∷ [] }

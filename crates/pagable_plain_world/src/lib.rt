@@ -1,0 +1,11 @@
+//! The laws of the definitions of the pager's world, and a plain slow pager for tests to compare the real one with. The other
+//! crates don't stand on this one.
+#![tactic(auto)]
+
+mod causes;
+mod falling;
+pub mod laws;
+pub mod plain_pager;
+mod rows;
+
+pub use plain_pager::{PlainPager, PlainValue};

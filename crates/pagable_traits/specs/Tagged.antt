@@ -1,0 +1,42 @@
+-- Values that are written as a tag and a body: what they mean, and which registration of a tag counts.
+use Rattle.std.specs.Prelude.{◌≡◌, refl, ℕ, ◌<◌, List, [], ◌∷◌, map, Bool, true, false, Some, ◌⊎◌}
+use Rattle.std.specs.List.{slice_get}
+use Rattle.std.specs.Str.{bytes_eq}
+use Rattle.pagable_model.specs.declared.numbers.ArcRef.{ArcRef}
+use Rattle.pagable_model.specs.Meaning.{Meaning}
+use Rattle.pagable_model.specs.Carried.{of_tagged}
+use Rattle.pagable_model.specs.Canonical.{HasNoCase, IsReadable}
+use Rattle.pagable_model.specs.Shape.{Shape}
+use Rattle.pagable_model.specs.Standing.{SomeMeaning}
+
+-- the tag with what the body means
+pub record MeansTagged (tag : List ℕ) (M : Meaning ArcRef → Type 0) (m : Meaning ArcRef) : Type 0 where
+  pub body : Meaning ArcRef
+  pub is_body : M body
+  pub is : m ≡ of_tagged tag body
+
+pub tagged_has_meaning : {T : Type 0} (tag : T → List ℕ) (M : T → Meaning ArcRef → Type 0) → ((x : T) → SomeMeaning (M x)) → (x : T) → SomeMeaning (MeansTagged (tag x) (M x))
+tagged_has_meaning tag M has x = (of_tagged (tag x) (has x).0, record { body = (has x).0; is_body = (has x).1; is = refl })
+
+-- the readers' grammars in an environment, by their tags
+abbrev pub grammars : {F V : Type 0} → (F → V → Shape) → V → List (List ℕ × F) → List (List ℕ × Shape)
+grammars grammar e readers = map (λ r. (r.0, grammar r.1 e)) readers
+
+-- the reader that was registered last for this tag
+pub record IsLastFor {F : Type 0} (tag : List ℕ) (readers : List (List ℕ × F)) (f : F) : Type 0 where
+  pub place : ℕ
+  pub stands : slice_get readers place ≡ Some (tag, f)
+  pub last : (j : ℕ) (r : List ℕ × F) → place < j → slice_get readers j ≡ Some r → bytes_eq tag r.0 ≡ false
+
+-- no reader was registered for this tag
+abbrev pub NoneFor : {F : Type 0} → List ℕ → List (List ℕ × F) → Type 0
+NoneFor {F} tag readers = (j : ℕ) (r : List ℕ × F) → slice_get readers j ≡ Some r → bytes_eq tag r.0 ≡ false
+
+-- no tag twice
+abbrev pub HasDistinctTags : List (List ℕ × Shape) → Type 0
+HasDistinctTags registrations = (i j : ℕ) (r s : List ℕ × Shape) → slice_get registrations i ≡ Some r → slice_get registrations j ≡ Some s → bytes_eq r.0 s.0 ≡ true → i ≡ j
+
+-- Each tag under which a body has a form is registered, and each registered reader reads what is written under its tag.
+pub record ReadsWhatIsWritten (written : List ℕ → Shape) (registrations : List (List ℕ × Shape)) : Type 0 where
+  pub each : (i : ℕ) (tag : List ℕ) (s : Shape) → slice_get registrations i ≡ Some (tag, s) → (s ≡ written tag) × IsReadable s
+  pub all : (tag : List ℕ) → HasNoCase (written tag) ⊎ ((i : ℕ) × (slice_get registrations i ≡ Some (tag, written tag)))

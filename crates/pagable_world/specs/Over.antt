@@ -1,0 +1,134 @@
+-- Whole operations over an access that tells its state: each is a run that has alone, up to its end, this pin, this reading or
+-- this page-out, and its answer is what the run's last step answered.
+use Rattle.std.specs.Prelude.{ℕ, ◌≡◌, ◌+◌, ◌⊎◌, ◌↔◌, ◌<◌, Option, Some, None, length, Result, Ok, Err, slice_get}
+use Rattle.pagable_model.specs.declared.error.Error.{Error}
+use Rattle.pagable_model.specs.declared.error.Error.TheVariants as errors
+use Rattle.pagable_model.specs.declared.data_key.OptionalDataKey.{OptionalDataKey}
+use Rattle.pagable_model.specs.declared.data_key.OptionalDataKey.TheVariants as optional
+use Rattle.pagable_model.specs.declared.numbers.ArcRef.{ArcRef}
+use Rattle.pagable_model.specs.declared.numbers.HandleNumber.{HandleNumber}
+use Rattle.pagable_model.specs.declared.numbers.Identity.{Identity}
+use Rattle.pagable_model.specs.declared.numbers.LoadNumber.{LoadNumber}
+use Rattle.pagable_model.specs.declared.numbers.WorkerNumber.{WorkerNumber}
+use Rattle.pagable_model.specs.Meaning.{Meaning}
+use Rattle.pagable_world.specs.declared.rows.Mode.TheVariants as modes
+use Rattle.pagable_world.specs.declared.rows.Owner.TheVariants as owners
+use Rattle.pagable_world.specs.declared.rows.HandleRow.{HandleRow}
+use Rattle.pagable_world.specs.declared.answers.Pinning.TheVariants as pinnings
+use Rattle.pagable_world.specs.declared.answers.Beginning.TheVariants as beginnings
+use Rattle.pagable_world.specs.declared.events.TableNumber.{TableNumber}
+use Rattle.pagable_world.specs.declared.events.LoadAnswer.{LoadAnswer}
+use Rattle.pagable_world.specs.declared.events.LoadAnswer.TheVariants as ends
+use Rattle.pagable_world.specs.declared.events.LoadReply.{LoadReply}
+use Rattle.pagable_world.specs.declared.events.WorkerAnswer.{WorkerAnswer}
+use Rattle.pagable_world.specs.declared.events.WorkerAnswer.TheVariants as finals
+use Rattle.pagable_world.specs.declared.events.WorkerReply.{WorkerReply}
+use Rattle.pagable_world.specs.Whole.{Whole, Written, of_item, of_type, HasRowOf, KeyIs, HasSlot, failed}
+use Rattle.pagable_world.specs.Seen.{Seen}
+use Rattle.pagable_world.specs.Pages.{Pages, HasValue}
+use Rattle.pagable_world.specs.Handles.{PinCall, UnpinCall, ReleaseCall, TakeCall}
+use Rattle.pagable_world.specs.Loads.{BeginCall, BeginKeyCall}
+use Rattle.pagable_world.specs.LoadSteps.{LoadStepped}
+use Rattle.pagable_world.specs.WorkerSteps.{WorkerStepped, IsPublished}
+use Rattle.pagable_world.specs.Events.{Tabled, StartedItem, StartedListed}
+
+-- a load's steps up to its end, which is this
+pub data LoadRun {N B W : Type 0} (m : Seen N B W) (l : LoadNumber) : Whole → LoadAnswer N → Whole → Type 0 where
+  load-ends : (w w' : Whole) (reply : LoadReply N) (answer : LoadAnswer N) → LoadStepped m w l (Ok reply) w' → reply.ended ≡ Some answer → LoadRun m l w answer w'
+  load-goes-on : (w mid w' : Whole) (reply : LoadReply N) (answer : LoadAnswer N) → LoadStepped m w l (Ok reply) mid → reply.ended ≡ None → LoadRun m l mid answer w' → LoadRun m l w answer w'
+
+-- a worker's steps up to its answer
+pub data WorkerRun {N B W : Type 0} (m : Seen N B W) (v : WorkerNumber) : Whole → WorkerAnswer → Whole → Type 0 where
+  worker-ends : (w w' : Whole) (reply : WorkerReply W) (answer : WorkerAnswer) → WorkerStepped m w v (Ok reply) w' → reply.answer ≡ Some answer → WorkerRun m v w answer w'
+  worker-goes-on : (w mid w' : Whole) (reply : WorkerReply W) (answer : WorkerAnswer) → WorkerStepped m w v (Ok reply) mid → reply.answer ≡ None → WorkerRun m v mid answer w' → WorkerRun m v w answer w'
+
+-- a pin: at once, or by a load up to its end
+abbrev pub PinRun : {N B W : Type 0} → Seen N B W → Whole → HandleNumber → Result HandleNumber Error → Whole → Type 0
+PinRun m w h (Ok k) w' =
+    PinCall w owners.Caller h (Ok (pinnings.Pinned k)) w'
+    ⊎ ((mid : Whole) × (l : LoadNumber) × (key : ℕ) × PinCall w owners.Caller h (Ok (pinnings.NeedsLoad key)) w × BeginCall w owners.Caller h (Ok (beginnings.Load l key)) mid × LoadRun m l mid (ends.Pinned k) w')
+PinRun m w h (Err e) w' =
+    PinCall w owners.Caller h (Err e) w'
+    ⊎ ((key : ℕ) × PinCall w owners.Caller h (Ok (pinnings.NeedsLoad key)) w × BeginCall w owners.Caller h (Err e) w')
+    ⊎ ((mid : Whole) × (l : LoadNumber) × (key : ℕ) × PinCall w owners.Caller h (Ok (pinnings.NeedsLoad key)) w × BeginCall w owners.Caller h (Ok (beginnings.Load l key)) mid × LoadRun m l mid (ends.Refused e) w')
+
+-- the handle was unpinned before, and its pin is let go again; or it was pinned, and stays so
+abbrev pub UnpinnedBack : Whole → Whole → HandleNumber → Whole → Type 0
+UnpinnedBack before w h w' =
+    ((row : HandleRow) × HasRowOf before h row × (row.mode ≡ modes.LooseUnpinned) × ((r : Result (Unit {0}) Error) × UnpinCall w owners.Caller h r w'))
+    ⊎ ((row : HandleRow) × HasRowOf before h row × (row.mode ≡ modes.LoosePinned) × (w' ≡ w))
+
+-- a pin whose value couldn't be shared for want of memory is taken back
+abbrev pub PinTakenBack : {N B W : Type 0} → Seen N B W → Whole → HandleNumber → Whole → Type 0
+PinTakenBack m w h w' =
+    (k : HandleNumber) × (mid low : Whole) × PinRun m w h (Ok k) mid × UnpinnedBack w mid h low × ((r : Result (Unit {0}) Error) × ReleaseCall low owners.Caller k r w')
+
+-- slots have the same results, on these two tables
+pub record SameResults (w : Whole) (t : TableNumber) (w' : Whole) (t' : TableNumber) : Type 0 where
+  pub known : (i : Identity) (key height : ℕ) → IsPublished w t i key height ↔ IsPublished w' t' i key height
+
+-- what an operation is said to leave: rows, cells, list, cache and store. Whoever lends a pager has no rows of workers, and
+-- no counts of steps.
+pub record SameParts (w w' : Whole) : Type 0 where
+  pub rows : w.rows ≡ w'.rows
+  pub cells : w.cells ≡ w'.cells
+  pub list : w.list ≡ w'.list
+  pub cache : w.cache ≡ w'.cache
+  pub stored : (key : ℕ) → w.stored key ≡ w'.stored key
+
+-- the value of the handle's node is one that means the same
+abbrev pub IsValueOf : {N B W : Type 0} → Seen N B W → Pages N → HandleNumber → N → Type 0
+IsValueOf {N} m s k x = (row : HandleRow) × (y : N) × HasRowOf s.world k row × HasValue s row.node.0 y × ((a : Meaning ArcRef) → m.means x a ↔ m.means y a)
+
+-- The answer of a pin, and what it leaves: its handle's value, or a refusal.
+-- To be carried by: `pin_over`.
+abbrev pub PinsOver : {N B W : Type 0} → Seen N B W → Pages N → HandleNumber → Result (HandleNumber × N) Error → Pages N → Type 0
+PinsOver m s h (Ok (k, x)) s' = (w' : Whole) × PinRun m s.world h (Ok k) w' × SameParts w' s'.world × IsValueOf m s' k x
+PinsOver m s h (Err e) s' = (w' : Whole) × SameParts w' s'.world × (PinRun m s.world h (Err e) w' ⊎ ((e ≡ errors.OutOfMemory) × PinTakenBack m s.world h w'))
+
+-- The answer of a reading of a key as a value of a type, and what it leaves.
+-- To be carried by: `read_over`.
+abbrev pub ReadsOver : {N B W : Type 0} → Seen N B W → Pages N → ℕ → ℕ → Result N Error → Pages N → Type 0
+ReadsOver m s key t (Ok x) s' =
+    (mid w' : Whole) × (l : LoadNumber) × BeginKeyCall s.world owners.Caller key (of_type t) (Ok (beginnings.Load l key)) mid × LoadRun m l mid (ends.Read x) w' × SameParts w' s'.world
+ReadsOver m s key t (Err e) s' =
+    (w' : Whole)
+    × SameParts w' s'.world
+    × (BeginKeyCall s.world owners.Caller key (of_type t) (Err e) w'
+    ⊎ ((mid : Whole) × (l : LoadNumber) × BeginKeyCall s.world owners.Caller key (of_type t) (Ok (beginnings.Load l key)) mid × LoadRun m l mid (ends.Refused e) w'))
+
+-- The answer of a page-out of an item on the lent table t, and what it leaves. Where the worker can't be made, that is the
+-- failure.
+-- To be carried by: `page_out_item_over`.
+abbrev pub PagesOutItemOver : {N B W : Type 0} → Seen N B W → Pages N → TableNumber → Written → WorkerAnswer → Pages N → TableNumber → Type 0
+PagesOutItemOver m s t written answer s' t' =
+    (w' : Whole)
+    × SameParts w' s'.world
+    × SameResults w' t s'.world t'
+    × (((mid : Whole) × (v : WorkerNumber) × StartedItem s.world t (of_item written) (Ok v) mid × WorkerRun m v mid answer w')
+    ⊎ ((e : Error) × StartedItem s.world t (of_item written) (Err e) w' × (answer ≡ finals.Failed e)))
+
+-- the cell of the entry at this place has this key, or none
+abbrev pub EntryHas : Whole → ℕ → HandleNumber → OptionalDataKey → Type 0
+EntryHas w n h key = (row : HandleRow) × (slice_get w.list n ≡ Some h) × HasRowOf w h row × KeyIs w row.node key
+
+-- an entry is paged out on a table of its own; table or worker may be refused
+abbrev pub EntryRun : {N B W : Type 0} → Seen N B W → Whole → ℕ → WorkerAnswer → Whole → Type 0
+EntryRun m w n answer w' =
+    ((e : Error) × Tabled w (Err e) w' × (answer ≡ finals.Failed e))
+    ⊎ ((t : TableNumber) × (mid : Whole) × (e : Error) × Tabled w (Ok t) mid × StartedListed mid t n (Err e) w' × (answer ≡ finals.Failed e))
+    ⊎ ((t : TableNumber) × (v : WorkerNumber) × (mid low : Whole) × Tabled w (Ok t) mid × StartedListed mid t n (Ok v) low × WorkerRun m v low answer w')
+
+-- A page-out of so many entries, from the last to the first: one whose cell has a key is taken and released, another is paged
+-- out, and the first failure is the end.
+pub data ListRun {N B W : Type 0} (m : Seen N B W) : ℕ → Result (Unit {0}) WorkerAnswer → Whole → Whole → Type 0 where
+  no-more : (w : Whole) → ListRun m 0 (Ok tt) w w
+  skips : (i n : ℕ) (h : HandleNumber) (key : ℕ) (r : Result (Unit {0}) Error) (answer : Result (Unit {0}) WorkerAnswer) (w mid low w' : Whole) → i ≡ n + 1 → EntryHas w n h (optional.Some key)
+      → TakeCall w owners.Caller n (Some h) mid → ReleaseCall mid owners.Caller h r low → ListRun m n answer low w' → ListRun m i answer w w'
+  pages : (i n : ℕ) (h : HandleNumber) (key : ℕ) (answer : Result (Unit {0}) WorkerAnswer) (w mid w' : Whole) → i ≡ n + 1 → EntryHas w n h optional.None → EntryRun m w n (finals.Key key) mid → ListRun m n answer mid w' → ListRun m i answer w w'
+  fails : (i n : ℕ) (h : HandleNumber) (e : Error) (w w' : Whole) → i ≡ n + 1 → EntryHas w n h optional.None → EntryRun m w n (finals.Failed e) w' → ListRun m i (Err (finals.Failed e)) w w'
+
+-- The answer of a page-out of the list as it stands at the call, and what it leaves.
+-- To be carried by: `page_out_pending_over`.
+abbrev pub PagesOutListOver : {N B W : Type 0} → Seen N B W → Pages N → Result (Unit {0}) WorkerAnswer → Pages N → Type 0
+PagesOutListOver m s answer s' = (w' : Whole) × ListRun m (length s.world.list) answer s.world w' × SameParts w' s'.world
