@@ -10,8 +10,12 @@ mod laws;
 #[cfg(test)]
 mod levels;
 #[cfg(test)]
+mod lists;
+#[cfg(test)]
 mod pager;
 #[cfg(test)]
 mod references;
 #[cfg(test)]
 mod storage;
+#[cfg(test)]
+mod wrapped;

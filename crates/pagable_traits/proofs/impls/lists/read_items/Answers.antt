@@ -1,6 +1,6 @@
 use Rattle.std.proofs.Common.{◌++◌, ◌∷◌, [], arith}
 use Rattle.std.proofs.lemmas.Result.{err_from_is_err_and}
-use Rattle.pagable_model.specs.Reading.{read}
+use Rattle.pagable_model.specs.Reading.{items, read}
 use Rattle.pagable_model.specs.Standing.{handles_at}
 use Rattle.pagable_model.specs.Lifted.{mean-none}
 use Rattle.pagable_traits.proofs.Items.{mean_last, starts, goes_on, ends, is_done}
@@ -30,7 +30,7 @@ loop-index-preserved g c =
       gives = (
         i.gives.0 ++ gave.m ∷ [],
         rw c.in_ok-push.ensures.items (mean_last g.T.Carried.means c.loop-index.values.items i.gives.0 c.in_ok-value.value gave.m i.gives.1 gave.is),
-        goes_on get i.gives.0 c.args.count c.loop-index.index (g.D.PagableDeserializer.rest c.loop-index.deserializer) gave.m _ _ c.loop-index-test.true gave.gave i.gives.2,
+        goes_on get i.gives.0 c.args.count c.loop-index.index (g.D.PagableDeserializer.rest c.loop-index.deserializer) gave.m _ (items get c.args.count (g.D.PagableDeserializer.rest c.args.deserializer.now)) c.loop-index-test.true gave.gave i.gives.2,
       );
       moves = moves_trans _ _ _ i.moves c.in_ok-value.ensures.moves;
       same_env = cc;
@@ -43,7 +43,7 @@ returns-in_err-value-clause-gives g c =
     let env = g.D.PagableDeserializer.environment c.args.deserializer.now in
     let get = read (handles_at (g.D.PagableDeserializer.levels c.args.deserializer.now) (g.E.Env.parts env)) (g.T.Carried.shape env) in
     let i = c.loop-index.invariant in
-    rw (p.1, p.2) (ends g.T.PagableDeserialize.read_causes get _ i.gives.0 c.args.count c.loop-index.index (g.D.PagableDeserializer.rest c.loop-index.deserializer) _ c.loop-index-test.true
+    rw (p.1, p.2) (ends g.T.PagableDeserialize.read_causes get _ i.gives.0 c.args.count c.loop-index.index (g.D.PagableDeserializer.rest c.loop-index.deserializer) (items get c.args.count (g.D.PagableDeserializer.rest c.args.deserializer.now)) c.loop-index-test.true
     (rw (i.same_levels, i.same_env) at c.in_err-value.ensures.gives) i.gives.2)
 
 pub returns-clause-gives : goal.returns-clause-gives
@@ -51,4 +51,4 @@ returns-clause-gives g c =
     let env = g.D.PagableDeserializer.environment c.args.deserializer.now in
     let get = read (handles_at (g.D.PagableDeserializer.levels c.args.deserializer.now) (g.E.Env.parts env)) (g.T.Carried.shape env) in
     let i = c.loop-index.invariant in
-    record { m = i.gives.0; is = i.gives.1; gave = is_done get i.gives.0 c.args.count c.loop-index.index (g.D.PagableDeserializer.rest c.loop-index.deserializer) _ c.loop-index-test.false i.gives.2 }
+    record { m = i.gives.0; is = i.gives.1; gave = is_done get i.gives.0 c.args.count c.loop-index.index (g.D.PagableDeserializer.rest c.loop-index.deserializer) (items get c.args.count (g.D.PagableDeserializer.rest c.args.deserializer.now)) c.loop-index-test.false i.gives.2 }
