@@ -5,3 +5,4 @@ mod Two
 mod Joining
 mod Missing
 mod Places
+mod Bridging
