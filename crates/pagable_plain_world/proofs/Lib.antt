@@ -6,3 +6,4 @@ mod Joining
 mod Missing
 mod Places
 mod Bridging
+mod Keeping

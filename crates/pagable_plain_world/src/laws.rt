@@ -4,6 +4,7 @@ ghost use Rattle.pagable_world.specs.Seen.{Seen};
 ghost use Rattle.pagable_plain_world.specs.FallLaws.{IsThere, IsOne, IsGivenAlone, PinsAreAFilter, TwoLevelsFall, TwoLevelsAreReleased, LoneIsListed};
 ghost use Rattle.pagable_plain_world.specs.RunLaws.{RunsJoin, NewIsWhole};
 ghost use Rattle.pagable_plain_world.specs.Bridges.{ReleasesToday};
+ghost use Rattle.pagable_plain_world.specs.KeepLaws.{CloneKeeps};
 ghost use Rattle.pagable_plain_world.specs.NearMisses.{NewNodeHasItsValue, NoLoadInMemory, OnlyLooseIsUnfit, ItemIsAtOne, FirstIsTheRoot, NoWaitForFree};
 
 /// How values of this type are seen, with blobs B and what is written W: any values, so that a law is one of all.
@@ -30,6 +31,11 @@ pub fn given_fall_alone()
 /// A release as today's tables do it is one of the whole world.
 pub fn releases_today()
     ensures { ReleasesToday }
+{}
+
+/// A clone keeps the world whole.
+pub fn clone_keeps_whole()
+    ensures { CloneKeeps }
 {}
 
 /// The number of pins is the length of the list of the node's pinning handles.
