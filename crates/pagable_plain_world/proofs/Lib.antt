@@ -5,3 +5,5 @@ mod Two
 mod Joining
 mod Missing
 mod Places
+mod Bridging
+mod Keeping

@@ -6,7 +6,7 @@ use Rattle.std.proofs.lemmas.List.Sums.{sum_by-cons}
 use Rattle.std.proofs.lemmas.Bool.Decides.{nat_tests}
 use Rattle.pagable_world.specs.State.{one}
 use Rattle.pagable_world.specs.Words.{Among, times, changed}
-use Rattle.pagable_plain_world.proofs.Sums.{at-most-sum}
+use Rattle.pagable_plain_world.proofs.Sums.{at-most-sum, sum-le}
 
 cond-true : {X : Type 0} (b : Bool) (x y : X) → b ≡ true → cond b x y ≡ x
 cond-true true x y e = refl
@@ -97,3 +97,16 @@ sum-remove f (y ∷ ys) zero x is =
 sum-remove f (y ∷ ys) (suc i) x is =
     let b = sum-remove f ys i x is in
     let c = sum_by-cons f y ys in let d = sum_by-cons f y (remove ys i) in omega arith
+
+-- an element of the first list leaves both
+pub remove-append : {X : Type 0} (xs ys : List X) (i : ℕ) (x : X) → slice_get xs i ≡ Some x → remove (xs ++ ys) i ≡ remove xs i ++ ys
+remove-append [] ys i x is = absurd (cc)
+remove-append (z ∷ zs) ys zero x is = refl
+remove-append (z ∷ zs) ys (suc i) x is = ap (λ ls. z ∷ ls) (remove-append zs ys i x is)
+
+-- less at one element and no more at any, so less in sum
+pub sum-less : {X : Type 0} (f g : X → ℕ) (xs : List X) (i : ℕ) (x : X) → slice_get xs i ≡ Some x → ((y : X) → f y ≤ g y) → f x < g x → sum_by f xs < sum_by g xs
+sum-less f g xs i x is each less =
+    let a = sum-remove f xs i x is in
+    let b = sum-remove g xs i x is in
+    let c = sum-le f g (remove xs i) (λ y among. each y) in omega arith

@@ -3,3 +3,4 @@ pub mod FallLaws
 pub mod RunLaws
 pub mod NearMisses
 pub mod Bridges
+pub mod KeepLaws

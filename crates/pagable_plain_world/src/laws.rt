@@ -3,6 +3,8 @@
 ghost use Rattle.pagable_world.specs.Seen.{Seen};
 ghost use Rattle.pagable_plain_world.specs.FallLaws.{IsThere, IsOne, IsGivenAlone, PinsAreAFilter, TwoLevelsFall, TwoLevelsAreReleased, LoneIsListed};
 ghost use Rattle.pagable_plain_world.specs.RunLaws.{RunsJoin, NewIsWhole};
+ghost use Rattle.pagable_plain_world.specs.Bridges.{ReleasesToday};
+ghost use Rattle.pagable_plain_world.specs.KeepLaws.{CloneKeeps};
 ghost use Rattle.pagable_plain_world.specs.NearMisses.{NewNodeHasItsValue, NoLoadInMemory, OnlyLooseIsUnfit, ItemIsAtOne, FirstIsTheRoot, NoWaitForFree};
 
 /// How values of this type are seen, with blobs B and what is written W: any values, so that a law is one of all.
@@ -24,6 +26,16 @@ pub fn least_set_is_one()
 /// Where no value owns a handle, the given handles fall and no more.
 pub fn given_fall_alone()
     ensures { IsGivenAlone }
+{}
+
+/// A release as today's tables do it is one of the whole world.
+pub fn releases_today()
+    ensures { ReleasesToday }
+{}
+
+/// A clone keeps the world whole.
+pub fn clone_keeps_whole()
+    ensures { CloneKeeps }
 {}
 
 /// The number of pins is the length of the list of the node's pinning handles.

@@ -10,12 +10,8 @@ mod laws;
 #[cfg(test)]
 mod levels;
 #[cfg(test)]
-mod lists;
-#[cfg(test)]
 mod pager;
 #[cfg(test)]
 mod references;
 #[cfg(test)]
 mod storage;
-#[cfg(test)]
-mod wrapped;
