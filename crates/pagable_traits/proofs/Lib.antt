@@ -4,3 +4,6 @@ pub mod Parts
 pub mod Items
 pub mod Slices
 pub mod Collecting
+pub mod Maps
+pub mod Placed
+pub mod Sets

@@ -1,3 +1,5 @@
 pub mod Causes
 pub mod Collected
+pub mod Keyed
 pub mod Lifted
+pub mod OneForm

@@ -6,8 +6,10 @@ pub mod deserializer;
 pub mod env;
 pub mod hash;
 pub mod impls;
+pub mod keys;
 pub mod laws;
 pub mod nodes;
+pub mod one_form;
 pub mod reader;
 pub mod serializer;
 pub mod traits;
@@ -15,7 +17,9 @@ pub mod traits;
 pub use deserializer::PagableDeserializer;
 pub use env::Env;
 pub use hash::KeyHash;
+pub use keys::{PagableKey, PagableOrdKey};
 pub use nodes::{InNode, NodeSet};
+pub use one_form::Canonical;
 pub use pagable_model::{
     ArcRef, HandleNumber, Identity, Kind, LoadNumber, NodeNumber, PagableCursor, WorkerNumber,
 };

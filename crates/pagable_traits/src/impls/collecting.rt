@@ -40,11 +40,7 @@ pub fn collect_items<
     T: PagableDeserialize<'de, E>,
     C: Collects<T> + Drop,
     D: PagableDeserializer<E>,
->(
-    alloc: Global,
-    count: usize,
-    deserializer: &mut D,
-) -> Result<C, Error>
+>(alloc: Global, count: usize, deserializer: &mut D) -> Result<C, Error>
     ensures gives { GivesSome (memory_or T.read_causes) (λ c. Collected T.means C.put (C.held c)) (D.rest deserializer.new) result
         (items (read (handles_at (D.levels deserializer.old) (E.parts (D.environment deserializer.old))) (T.shape (D.environment deserializer.old))) count (D.rest deserializer.old)) }
     ensures moves { MovesOn (D.standing deserializer.old) (D.standing deserializer.new) }

@@ -96,8 +96,7 @@ impl<E: Env, T: PagableSerialize<E>> PagableSerialize<E> for BoxedSlice<T> {
 }
 
 impl<'de, E: Env, T: PagableDeserialize<'de, E> + Drop> PagableDeserialize<'de, E>
-    for BoxedSlice<T>
-{
+    for BoxedSlice<T> {
     ghost read_causes = { memory_or T.read_causes };
 
     ghost read_causes_are_own = { memory_or_is_own_reading T.read_causes T.read_causes_are_own };

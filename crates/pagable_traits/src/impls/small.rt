@@ -60,9 +60,12 @@ impl<E: Env, T: PagableSerialize<E>, const N: usize> PagableSerialize<E> for Sma
     }
 }
 
-impl<'de, E: Env, T: PagableDeserialize<'de, E> + MadeWith<Global> + Drop, const N: usize>
-    PagableDeserialize<'de, E> for SmallVec<T, N>
-{
+impl<
+    'de,
+    E: Env,
+    T: PagableDeserialize<'de, E> + MadeWith<Global> + Drop,
+    const N: usize,
+> PagableDeserialize<'de, E> for SmallVec<T, N> {
     ghost read_causes = { memory_or T.read_causes };
 
     ghost read_causes_are_own = { memory_or_is_own_reading T.read_causes T.read_causes_are_own };
