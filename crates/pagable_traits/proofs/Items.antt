@@ -38,7 +38,7 @@ grows_some_all M n s a b w = record { bytes = w.wrote.bytes; refs = w.wrote.refs
 pub writes_no_items : {T : Type 0} (M : T → Meaning ArcRef → Type 0) (n : Nesting) (s : Shape) (old : Out) → WritesSomeAll (MeanAll M []) n s old old
 writes_no_items M n s old = record { ms = []; is = mean-none; wrote = record { bytes = []; refs = []; form = no-forms _ s; grown = out_is _ _ _ _ (sym (append-nil old.bytes)) (sym (append-nil old.refs)) } }
 
-forms-last : {parts : ℕ → Shape} {left : ℕ} {s : Shape} {ms : List (Meaning ArcRef)} {b : List ℕ} {k : List ArcRef} (m : Meaning ArcRef) (c : List ℕ) (l : List ArcRef)
+pub forms-last : {parts : ℕ → Shape} {left : ℕ} {s : Shape} {ms : List (Meaning ArcRef)} {b : List ℕ} {k : List ArcRef} (m : Meaning ArcRef) (c : List ℕ) (l : List ArcRef)
     → Forms ArcRef kind_of_arc parts left s ms b k → Form ArcRef kind_of_arc parts left s m c l → Forms ArcRef kind_of_arc parts left s (ms ++ m ∷ []) (b ++ c) (k ++ l)
 forms-last m c l (no-forms d s) f = rw (← append-nil c, ← append-nil l) (more-forms d s m [] c [] l [] f (no-forms d s))
 forms-last m c l (more-forms d s x xs b e k j h g) f = rw (append_assoc b e c, append_assoc k j l) (more-forms d s x (xs ++ m ∷ []) b (e ++ c) k (j ++ l) h (forms-last m c l g f))
@@ -58,10 +58,10 @@ writes_item M xs i x n s a b c lt e v w =
       };
     })
 
-no-head : (n : Nesting) (s : Shape) (m : Meaning ArcRef) (ms : List (Meaning ArcRef)) → NoForm n s m → NoForms n s (m ∷ ms)
+pub no-head : (n : Nesting) (s : Shape) (m : Meaning ArcRef) (ms : List (Meaning ArcRef)) → NoForm n s m → NoForms n s (m ∷ ms)
 no-head n s m ms h b k (more-forms l s' m' ms' c d j i f g) = h c j f
 
-no-tail : (n : Nesting) (s : Shape) (m : Meaning ArcRef) (ms : List (Meaning ArcRef)) → NoForms n s ms → NoForms n s (m ∷ ms)
+pub no-tail : (n : Nesting) (s : Shape) (m : Meaning ArcRef) (ms : List (Meaning ArcRef)) → NoForms n s ms → NoForms n s (m ∷ ms)
 no-tail n s m ms h b k (more-forms l s' m' ms' c d j i f g) = h d i g
 
 -- an item without a form

@@ -6,3 +6,6 @@ pub mod Slices
 pub mod Collecting
 pub mod Statics
 pub mod Tagged
+pub mod Maps
+pub mod Placed
+pub mod Sets

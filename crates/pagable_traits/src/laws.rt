@@ -7,10 +7,11 @@ ghost use Rattle.std.specs.String.{string_bytes};
 ghost use Rattle.std.specs.Prelude.{String as Text, Option as Maybe, Box as Boxed, Vec as Items};
 ghost use Rattle.std.specs.Global.{Global as Heap};
 ghost use Rattle.pagable_model.specs.Gives.{never, memory, memory_or, either};
-ghost use Rattle.pagable_model.specs.Shape.{nothing, unsigned, signed, flag, text, letter, optional, list, both};
+ghost use Rattle.pagable_model.specs.Shape.{nothing, unsigned, signed, flag, text, letter, optional, list, run, both, sorted_map, placed_map, sorted_set, placed_set};
 ghost use Rattle.pagable_model.specs.Meaning.{Meaning, number, integer, none};
 ghost use Rattle.pagable_model.specs.Meaning as meanings;
 ghost use Rattle.pagable_model.specs.Lifted.{MeansOption, MeansList, MeansPair};
+ghost use Rattle.std.specs.Box.{boxed_slice_items};
 ghost use Rattle.pagable_model.specs.declared.error.Error.{Error as Refusal};
 ghost use Rattle.pagable_model.specs.declared.numbers.ArcRef.{ArcRef as Reference};
 ghost use Rattle.pagable_model.specs.Meaning.{lifted};
@@ -20,7 +21,15 @@ ghost use Rattle.pagable_traits.specs.declared.impls.static_value.StaticValue.{S
 
 use crate::env::Env;
 use crate::impls::static_value::{HasStaticValueRegistry, StaticValue};
+use crate::keys::{PagableKey, PagableOrdKey};
 use crate::traits::{Carried, PagableDeserialize, PagableSerialize};
+use indexmap::{IndexMap, IndexSet};
+use smallvec::SmallVec;
+use std::alloc::Global;
+use std::boxed::BoxedSlice;
+use std::collections::{BTreeMap, BTreeSet};
+use std::default::MadeWith;
+use std::hash::Hash;
 
 /// A `bool` is spelled as a flag and means itself. Writing wants memory at most;
 /// reading has no cause of its own.
@@ -200,4 +209,85 @@ pub fn static_value_is_carried<E: Env, T: HasStaticValueRegistry<'static, E> + '
     ensures means { (v : Static T) (m : Meaning Reference) → ⟦<StaticValue<'static, T> as Carried<E>>⟧.means v m ↔ (m ≡ lifted (T.plain v.0.value.now)) }
     ensures writes { (e : Refusal) → ⟦<StaticValue<'static, T> as PagableSerialize<E>>⟧.write_causes e ↔ memory_or unregistered e }
     ensures reads { (e : Refusal) → ⟦<StaticValue<'static, T> as PagableDeserialize<'static, E>>⟧.read_causes e ↔ never e }
+{}
+
+/// A boxed slice is a list.
+pub fn boxed_slice_is_carried<
+    E: Env,
+    T: PagableSerialize<E> + PagableDeserialize<'static, E> + Drop,
+>()
+    ensures shape { (e : E) → ⟦<BoxedSlice<T> as Carried<E>>⟧.shape e ≡ list (T.Carried.shape e) }
+    ensures means { (x : _) (m : Meaning Reference) → ⟦<BoxedSlice<T> as Carried<E>>⟧.means x m ↔ MeansList T.Carried.means (boxed_slice_items x) m }
+    ensures writes { (e : Refusal) → ⟦<BoxedSlice<T> as PagableSerialize<E>>⟧.write_causes e ↔ memory_or T.write_causes e }
+    ensures reads { (e : Refusal) → ⟦<BoxedSlice<T> as PagableDeserialize<'static, E>>⟧.read_causes e ↔ memory_or T.read_causes e }
+{}
+
+/// A `SmallVec` is a list.
+pub fn small_list_is_carried<
+    E: Env,
+    T: PagableSerialize<E> + PagableDeserialize<'static, E> + MadeWith<Global> + Drop,
+    const N: usize,
+>()
+    ensures shape { (e : E) → ⟦<SmallVec<T, N> as Carried<E>>⟧.shape e ≡ list (T.Carried.shape e) }
+    ensures means { (x : _) (m : Meaning Reference) → ⟦<SmallVec<T, N> as Carried<E>>⟧.means x m ↔ MeansList T.Carried.means x.items m }
+    ensures writes { (e : Refusal) → ⟦<SmallVec<T, N> as PagableSerialize<E>>⟧.write_causes e ↔ memory_or T.write_causes e }
+    ensures reads { (e : Refusal) → ⟦<SmallVec<T, N> as PagableDeserialize<'static, E>>⟧.read_causes e ↔ memory_or T.read_causes e }
+{}
+
+/// A slice behind a reference is spelled as its items, without their count, means what they mean, and is refused as an
+/// item is. It isn't read.
+pub fn slice_is_carried<'a, E: Env, T: PagableSerialize<E> + 'a>()
+    ensures shape { (e : E) → ⟦<&'a [T] as Carried<E>>⟧.shape e ≡ run (T.Carried.shape e) }
+    ensures means { (x : _) (m : Meaning Reference) → ⟦<&'a [T] as Carried<E>>⟧.means x m ↔ MeansList T.Carried.means x.now m }
+    ensures writes { (e : Refusal) → ⟦<&'a [T] as PagableSerialize<E>>⟧.write_causes e ↔ T.write_causes e }
+{}
+
+/// A `BTreeMap` is spelled as a length and its entries in the order of its keys' meanings, means its entries in their
+/// order, and is refused by want of memory or as a key or a value is.
+pub fn sorted_map_is_carried<
+    E: Env,
+    K: PagableOrdKey<E> + PagableSerialize<E> + PagableDeserialize<'static, E> + Drop,
+    V: PagableSerialize<E> + PagableDeserialize<'static, E> + Drop,
+>()
+    ensures shape { (e : E) → ⟦<BTreeMap<K, V> as Carried<E>>⟧.shape e ≡ sorted_map K.PagableOrdKey.order (K.Carried.shape e) (V.Carried.shape e) }
+    ensures means { (x : _) (m : Meaning Reference) → ⟦<BTreeMap<K, V> as Carried<E>>⟧.means x m ↔ MeansList (MeansPair K.Carried.means V.Carried.means) x.entries m }
+    ensures writes { (e : Refusal) → ⟦<BTreeMap<K, V> as PagableSerialize<E>>⟧.write_causes e ↔ memory_or (either K.write_causes V.write_causes) e }
+    ensures reads { (e : Refusal) → ⟦<BTreeMap<K, V> as PagableDeserialize<'static, E>>⟧.read_causes e ↔ memory_or (either K.read_causes V.read_causes) e }
+{}
+
+/// An `IndexMap` is spelled as a length and its entries in the order of their arrival, means its entries in that order,
+/// and is refused by want of memory or as a key or a value is.
+pub fn placed_map_is_carried<
+    E: Env,
+    K: PagableKey<E> + Hash + PagableSerialize<E> + PagableDeserialize<'static, E> + Drop,
+    V: PagableSerialize<E> + PagableDeserialize<'static, E> + Drop,
+>()
+    ensures shape { (e : E) → ⟦<IndexMap<K, V> as Carried<E>>⟧.shape e ≡ placed_map (K.Carried.shape e) (V.Carried.shape e) }
+    ensures means { (x : _) (m : Meaning Reference) → ⟦<IndexMap<K, V> as Carried<E>>⟧.means x m ↔ MeansList (MeansPair K.Carried.means V.Carried.means) x.entries m }
+    ensures writes { (e : Refusal) → ⟦<IndexMap<K, V> as PagableSerialize<E>>⟧.write_causes e ↔ memory_or (either K.write_causes V.write_causes) e }
+    ensures reads { (e : Refusal) → ⟦<IndexMap<K, V> as PagableDeserialize<'static, E>>⟧.read_causes e ↔ memory_or (either K.read_causes V.read_causes) e }
+{}
+
+/// A `BTreeSet` is spelled as a length and its items in the order of their meanings, means its items in their order,
+/// and is refused by want of memory or as an item is.
+pub fn sorted_set_is_carried<
+    E: Env,
+    T: PagableOrdKey<E> + PagableSerialize<E> + PagableDeserialize<'static, E> + Drop,
+>()
+    ensures shape { (e : E) → ⟦<BTreeSet<T> as Carried<E>>⟧.shape e ≡ sorted_set T.PagableOrdKey.order (T.Carried.shape e) }
+    ensures means { (x : _) (m : Meaning Reference) → ⟦<BTreeSet<T> as Carried<E>>⟧.means x m ↔ MeansList T.Carried.means x.keys m }
+    ensures writes { (e : Refusal) → ⟦<BTreeSet<T> as PagableSerialize<E>>⟧.write_causes e ↔ memory_or T.write_causes e }
+    ensures reads { (e : Refusal) → ⟦<BTreeSet<T> as PagableDeserialize<'static, E>>⟧.read_causes e ↔ memory_or T.read_causes e }
+{}
+
+/// An `IndexSet` is spelled as a length and its items in the order of their arrival, means its items in that order, and
+/// is refused by want of memory or as an item is.
+pub fn placed_set_is_carried<
+    E: Env,
+    T: PagableKey<E> + Hash + PagableSerialize<E> + PagableDeserialize<'static, E> + Drop,
+>()
+    ensures shape { (e : E) → ⟦<IndexSet<T> as Carried<E>>⟧.shape e ≡ placed_set (T.Carried.shape e) }
+    ensures means { (x : _) (m : Meaning Reference) → ⟦<IndexSet<T> as Carried<E>>⟧.means x m ↔ MeansList T.Carried.means x.keys m }
+    ensures writes { (e : Refusal) → ⟦<IndexSet<T> as PagableSerialize<E>>⟧.write_causes e ↔ memory_or T.write_causes e }
+    ensures reads { (e : Refusal) → ⟦<IndexSet<T> as PagableDeserialize<'static, E>>⟧.read_causes e ↔ memory_or T.read_causes e }
 {}

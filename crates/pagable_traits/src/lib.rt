@@ -7,8 +7,10 @@ pub mod eager;
 pub mod env;
 pub mod hash;
 pub mod impls;
+pub mod keys;
 pub mod laws;
 pub mod nodes;
+pub mod one_form;
 pub mod reader;
 pub mod serializer;
 pub mod session;
@@ -24,7 +26,9 @@ pub use impls::static_value::{
     HasStaticValueRegistry, StaticBytes, StaticStr, StaticValue, StaticValueEntry,
     StaticValueRegistry,
 };
+pub use keys::{PagableKey, PagableOrdKey};
 pub use nodes::{InNode, NodeSet};
+pub use one_form::Canonical;
 pub use pagable_model::{
     ArcRef, HandleNumber, Identity, Kind, LoadNumber, NodeNumber, PagableCursor, WorkerNumber,
 };

@@ -1,0 +1,325 @@
+-- Entries of maps: what they mean as pairs, and what putting in, writing and reading them gives.
+use Rattle.std.proofs.Common.{◌≡◌, ℕ, zero, suc, ◌<◌, ◌≤◌, subst, List, [], ◌∷◌, ◌++◌, length, map, arith, refl, sym, ap, ◌∙◌, append_assoc, Result, Ok, Err, inl, inr}
+use Rattle.std.proofs.lemmas.List.{length-map, append-nil}
+use Rattle.std.specs.Prelude.{IfErr, ◌⊎◌}
+use Rattle.std.specs.List.{AllByRecursion}
+use Rattle.std.specs.List.Sorted.{IsStrictlySortedBy}
+use Rattle.std.specs.Map.{keys_of}
+use Rattle.std.specs.declared.cmp.Ordering.{Ordering}
+use Rattle.std.specs.declared.cmp.Ordering.TheVariants as answers
+use Rattle.std.specs.Ordering.{match_ordering, ordering_reverse}
+use Rattle.std.specs.Cmp.{IsTotalOrder}
+use Rattle.std.specs.BTreeMap.{insert_entry}
+use Rattle.pagable_model.specs.declared.error.Error.{Error}
+use Rattle.pagable_model.specs.declared.numbers.ArcRef.{ArcRef}
+use Rattle.pagable_model.specs.Steps.{◌>>=◌}
+use Rattle.pagable_model.specs.Basic.{longest, length_form, length_at}
+use Rattle.pagable_model.specs.Lengths.{long_or_memory}
+use Rattle.pagable_model.specs.Meaning.{Meaning, pair, sequence, entry}
+use Rattle.pagable_model.specs.Keys.{Entry, KeyOrder, ordered, put_all, put_sorted, AllAfter, Apart, Ascends}
+use Rattle.pagable_model.specs.Shape.{Shape, both, sorted_map}
+use Rattle.pagable_model.specs.Carried.{of_entries}
+use Rattle.pagable_model.specs.Form.{Form, Forms, Entries, no-forms, more-forms, no-entries, more-entries, both-form, sorted-map-form}
+use Rattle.pagable_model.specs.Reading.{Rest, Gets, Context, items, bytes_of, two, read, read_with}
+use Rattle.pagable_model.specs.Writing.{Out, Nesting, FormAt, FormsAt, EntriesAt, WritesSome, WritesSomeAll, added, kind_of_arc, NoForm, NoForms, NoFormOfSome, NoFormsOfSome, Refused, RefusedAll, Grows}
+use Rattle.pagable_model.specs.Standing.{Gave, SomeMeaning}
+use Rattle.pagable_traits.specs.Collected.{Collected}
+use Rattle.pagable_model.specs.Lifted.{MeanAll, mean-none, mean-more, MeansList, MeansPair, items_have_meanings}
+use Rattle.pagable_traits.proofs.Writing.{then, memory_refuses}
+use Rattle.pagable_traits.proofs.Items.{mean-length, mean_last, sequence-same, forms-last, no-head, no-tail, writes_no_items, grows_some_all}
+use Rattle.pagable_traits.proofs.Parts.{writes_pair}
+
+-- ---- entries and the pairs that they are
+
+cons-is : {X : Type 0} (x y : X) (xs ys : List X) → x ≡ y → xs ≡ ys → x ∷ xs ≡ y ∷ ys
+cons-is x y xs ys e f = rw (e, f) refl
+
+-- each entry's key and value mean these
+unfoldable pub EntriesMean : {K V : Type 0} → (K → Meaning ArcRef → Type 0) → (V → Meaning ArcRef → Type 0) → List (K × V) → List (Entry ArcRef) → Type 0
+EntriesMean M N [] [] = Unit {0}
+EntriesMean M N [] (e ∷ es) = ⊥
+EntriesMean M N (x ∷ xs) [] = ⊥
+EntriesMean M N (x ∷ xs) (e ∷ es) = M x.0 e.0 × N x.1 e.1 × EntriesMean M N xs es
+
+pub entries-of-pairs : {K V : Type 0} (M : K → Meaning ArcRef → Type 0) (N : V → Meaning ArcRef → Type 0) {xs : List (K × V)} {ms : List (Meaning ArcRef)} → MeanAll (MeansPair M N) xs ms → (es : List (Entry ArcRef)) × (ms ≡ map entry es) × EntriesMean M N xs es
+unfolding EntriesMean
+entries-of-pairs M N mean-none = ([], refl, tt)
+entries-of-pairs M N (mean-more x m xs ms h t) =
+    let rest = entries-of-pairs M N t in
+    ((h.first, h.second) ∷ rest.0, cons-is _ _ _ _ h.is rest.1, (h.is_first, h.is_second, rest.2))
+
+pub pairs-of-entries : {K V : Type 0} (M : K → Meaning ArcRef → Type 0) (N : V → Meaning ArcRef → Type 0) (xs : List (K × V)) (es : List (Entry ArcRef)) → EntriesMean M N xs es → MeanAll (MeansPair M N) xs (map entry es)
+unfolding EntriesMean
+pairs-of-entries M N [] [] h = mean-none
+pairs-of-entries M N [] (e ∷ es) h = absurd h
+pairs-of-entries M N (x ∷ xs) [] h = absurd h
+pairs-of-entries M N (x ∷ xs) (e ∷ es) h =
+    mean-more x (entry e) xs (map entry es) (record { first = e.0; second = e.1; is_first = h.0; is_second = h.1; is = refl }) (pairs-of-entries M N xs es h.2)
+
+pub same-entries : (ds es : List (Entry ArcRef)) → map entry ds ≡ map entry es → ds ≡ es
+same-entries [] [] e = refl
+same-entries [] (y ∷ ys) e = cc
+same-entries (x ∷ xs) [] e = cc
+same-entries (x ∷ xs) (y ∷ ys) e =
+    let tails : map entry xs ≡ map entry ys = cc in
+    let heads : entry x ≡ entry y = cc in
+    let firsts : x.0 ≡ y.0 = cc in
+    let seconds : x.1 ≡ y.1 = cc in
+    let rest = same-entries xs ys tails in
+    rw (firsts, seconds, rest) refl
+
+-- ---- forms of pairs are forms of entries, and back
+
+pub entries-of-forms : {parts : ℕ → Shape} {left : ℕ} {s t : Shape} {ms : List (Meaning ArcRef)} {b : List ℕ} {k : List ArcRef} → Forms ArcRef kind_of_arc parts left (both s t) ms b k → (es : List (Entry ArcRef)) × (ms ≡ map entry es) × Entries ArcRef kind_of_arc parts left s t es b k
+entries-of-forms {parts} {left} {s} {t} (no-forms d st) = ([], refl, no-entries d s t)
+entries-of-forms {parts} {left} {s} {t} (more-forms d st m ms b c j l (both-form d2 s2 t2 x y b1 b2 j1 j2 f g) rest) =
+    let others = entries-of-forms {s = s} {t = t} rest in
+    ((x, y) ∷ others.0, cons-is _ _ _ _ refl others.1, rw (append_assoc b1 b2 c, append_assoc j1 j2 l) (more-entries d s t x y others.0 b1 b2 c j1 j2 l f g others.2))
+
+pub forms-of-entries : {parts : ℕ → Shape} {left : ℕ} {s t : Shape} {es : List (Entry ArcRef)} {b : List ℕ} {k : List ArcRef} → Entries ArcRef kind_of_arc parts left s t es b k → Forms ArcRef kind_of_arc parts left (both s t) (map entry es) b k
+forms-of-entries (no-entries d s t) = no-forms d (both s t)
+forms-of-entries (more-entries d s t x y es b1 b2 c j1 j2 l f g rest) =
+    rw (← append_assoc b1 b2 c, ← append_assoc j1 j2 l) (more-forms d (both s t) (pair x y) (map entry es) (b1 ++ b2) c (j1 ++ j2) l (both-form d s t x y b1 b2 j1 j2 f g) (forms-of-entries rest))
+
+-- ---- reading pairs is reading entries
+
+-- what was read, seen by view
+abbrev pub viewed : {A X Y : Type 0} → (X → Y) → Result (X × Rest A) Error → Result (Y × Rest A) Error
+viewed view read = read >>= λ o. Ok (view o.0, o.1)
+
+abbrev first-of : {A X : Type 0} → X → Result (List X × Rest A) Error → Result (List X × Rest A) Error
+first-of x read = read >>= λ others. Ok (x ∷ others.0, others.1)
+
+view-last : {A X Y : Type 0} (view : X → Y) (x : X) (r : Result (List X × Rest A) Error) → first-of (view x) (viewed (map view) r) ≡ viewed (map view) (first-of x r)
+view-last view x (Ok o) = refl
+view-last view x (Err e) = refl
+
+view-step : {A X Y : Type 0} (view : X → Y) (whole : Gets A (List Y)) (part : Gets A (List X)) → ((rest : Rest A) → whole rest ≡ viewed (map view) (part rest)) → (r : Result (X × Rest A) Error)
+    → (viewed view r >>= λ first. first-of first.0 (whole first.1)) ≡ viewed (map view) (r >>= λ first. first-of first.0 (part first.1))
+view-step view whole part same (Ok f) = rw (same f.1) (view-last view f.0 (part f.1))
+view-step view whole part same (Err e) = refl
+
+items-seen : {A X Y : Type 0} (view : X → Y) (whole : Gets A Y) (part : Gets A X) → ((rest : Rest A) → whole rest ≡ viewed view (part rest)) → (n : ℕ) (rest : Rest A) → items whole n rest ≡ viewed (map view) (items part n rest)
+unfolding items
+items-seen view whole part same zero rest = refl
+items-seen view whole part same (suc n) rest = rw (same rest) (view-step view (items whole n) (items part n) (items-seen view whole part same n) (part rest))
+
+pair-read : {A : Type 0} (context : Context A ArcRef) (s t : Shape) (rest : Rest A) → read context (both s t) rest ≡ viewed entry (two (read context s) (read context t) rest)
+unfolding read read_with
+pair-read context s t rest = refl
+
+pairs-read : {A : Type 0} (context : Context A ArcRef) (s t : Shape) (count : ℕ) (rest : Rest A) → items (read context (both s t)) count rest ≡ viewed (map entry) (items (two (read context s) (read context t)) count rest)
+pairs-read context s t count rest = items-seen entry (read context (both s t)) (two (read context s) (read context t)) (pair-read context s t) count rest
+
+abbrev given : {X : Type 0} → X → Result X Error → X
+given other (Ok x) = x
+given other (Err e) = other
+
+were-entries : {A : Type 0} (r : Result (List (Entry ArcRef) × Rest A) Error) (ms : List (Meaning ArcRef)) (after : Rest A) → viewed (map entry) r ≡ Ok (ms, after) → (es : List (Entry ArcRef)) × (ms ≡ map entry es) × (r ≡ Ok (es, after))
+were-entries {A} (Ok o) ms after e =
+    let other : List (Meaning ArcRef) × Rest A = (ms, after) in
+    let same : map entry o.0 ≡ ms = ap (λ (r : Result (List (Meaning ArcRef) × Rest A) Error). (given other r).0) e in
+    let rest : o.1 ≡ after = ap (λ (r : Result (List (Meaning ArcRef) × Rest A) Error). (given other r).1) e in
+    let with : Rest A → Result (List (Entry ArcRef) × Rest A) Error = λ y. Ok (o.0, y) in
+    (o.0, sym same, ap with rest)
+were-entries (Err x) ms after e = cc
+
+was-refused : {A : Type 0} (r : Result (List (Entry ArcRef) × Rest A) Error) (e : Error) → viewed (map entry) r ≡ Err e → r ≡ Err e
+was-refused (Ok o) x e = cc
+was-refused (Err y) x e = cc
+
+-- entries that were read as pairs
+pub read-entries : {A : Type 0} (context : Context A ArcRef) (s t : Shape) (count : ℕ) (rest after : Rest A) (ms : List (Meaning ArcRef)) → items (read context (both s t)) count rest ≡ Ok (ms, after)
+    → (es : List (Entry ArcRef)) × (ms ≡ map entry es) × (items (two (read context s) (read context t)) count rest ≡ Ok (es, after))
+read-entries context s t count rest after ms e = were-entries (items (two (read context s) (read context t)) count rest) ms after (sym (pairs-read context s t count rest) ∙ e)
+
+pub entries-refused : {A : Type 0} (context : Context A ArcRef) (s t : Shape) (count : ℕ) (rest : Rest A) (x : Error) → items (read context (both s t)) count rest ≡ Err x → items (two (read context s) (read context t)) count rest ≡ Err x
+entries-refused context s t count rest x e = was-refused (items (two (read context s) (read context t)) count rest) x (sym (pairs-read context s t count rest) ∙ e)
+
+-- ---- writing entries one after another
+
+pub writes_entry : {K V : Type 0} (M : K → Meaning ArcRef → Type 0) (N : V → Meaning ArcRef → Type 0) (x : K) (y : V) (n : Nesting) (s t : Shape) (old mid new : Out) → WritesSome (M x) n s old mid → WritesSome (N y) n t mid new → WritesSome (MeansPair M N (x, y)) n (both s t) old new
+writes_entry M N x y n s t old mid new v w = writes_pair M N (x, y) n s t old mid new v w
+
+pub writes-next : {T : Type 0} (M : T → Meaning ArcRef → Type 0) (front : List T) (x : T) (n : Nesting) (s : Shape) (a b c : Out) → WritesSomeAll (MeanAll M front) n s a b → WritesSome (M x) n s b c → WritesSomeAll (MeanAll M (front ++ x ∷ [])) n s a c
+writes-next M front x n s a b c v w = record {
+  ms = v.ms ++ w.m ∷ [];
+  is = mean_last M front v.ms x w.m v.is w.is;
+  wrote = record {
+    bytes = v.wrote.bytes ++ w.wrote.bytes;
+    refs = v.wrote.refs ++ w.wrote.refs;
+    form = forms-last w.m w.wrote.bytes w.wrote.refs v.wrote.form w.wrote.form;
+    grown = then a b c _ _ _ _ v.wrote.grown w.wrote.grown;
+  };
+}
+
+lacks-among : {T : Type 0} (M : T → Meaning ArcRef → Type 0) (has : (x : T) → SomeMeaning (M x)) (front : List T) (x : T) (rest : List T) (n : Nesting) (s : Shape) → NoFormOfSome (M x) n s → NoFormsOfSome (MeanAll M (front ++ x ∷ rest)) n s
+lacks-among M has [] x rest n s lacks =
+    let others = items_have_meanings M has rest in
+    record { ms = lacks.m ∷ others.0; is = mean-more x lacks.m rest others.0 lacks.is others.1; no_forms = no-head n s lacks.m others.0 lacks.no_form }
+lacks-among M has (y ∷ front) x rest n s lacks =
+    let others = lacks-among M has front x rest n s lacks in
+    record { ms = (has y).0 ∷ others.ms; is = mean-more y (has y).0 (front ++ x ∷ rest) others.ms (has y).1 others.is; no_forms = no-tail n s (has y).0 others.ms others.no_forms }
+
+pub refuses-among : {T : Type 0} (M : T → Meaning ArcRef → Type 0) (has : (x : T) → SomeMeaning (M x)) (front : List T) (x : T) (rest : List T) (n : Nesting) (s : Shape) (e : Error) → Refused (M x) n s e → RefusedAll (MeanAll M (front ++ x ∷ rest)) n s e
+refuses-among M has front x rest n s e h = λ fault. lacks-among M has front x rest n s (h fault)
+
+pub ruleset entries = (writes_entry)
+
+-- of all, those before left were written
+pub record Written {T : Type 0} (M : T → Meaning ArcRef → Type 0) (n : Nesting) (s : Shape) (all left : List T) (old new : Out) : Type 0 where
+  pub front : List T
+  pub is : all ≡ front ++ left
+  pub wrote : WritesSomeAll (MeanAll M front) n s old new
+
+pub written-none : {T : Type 0} (M : T → Meaning ArcRef → Type 0) (n : Nesting) (s : Shape) (all left : List T) (old : Out) → all ≡ left → Written M n s all left old old
+written-none M n s all left old e = record { front = []; is = e; wrote = writes_no_items M n s old }
+
+pub written-more : {T : Type 0} (M : T → Meaning ArcRef → Type 0) (n : Nesting) (s : Shape) (all left rest : List T) (x : T) (a b c : Out) → Written M n s all left a b → left ≡ x ∷ rest → WritesSome (M x) n s b c → Written M n s all rest a c
+written-more {T} M n s all left rest x a b c v e w = record {
+  front = v.front ++ x ∷ [];
+  is = v.is ∙ ap (λ (ys : List T). v.front ++ ys) e ∙ sym (append_assoc v.front (x ∷ []) rest);
+  wrote = writes-next M v.front x n s a b c v.wrote w;
+}
+
+pub written-all : {T : Type 0} (M : T → Meaning ArcRef → Type 0) (n : Nesting) (s : Shape) (all left : List T) (a b : Out) → Written M n s all left a b → left ≡ [] → WritesSomeAll (MeanAll M all) n s a b
+written-all {T} M n s all left a b v e =
+    let same : all ≡ v.front = v.is ∙ ap (λ (ys : List T). v.front ++ ys) e ∙ append-nil v.front in
+    rw same v.wrote
+
+pub written-refused : {T : Type 0} (M : T → Meaning ArcRef → Type 0) (has : (x : T) → SomeMeaning (M x)) (n : Nesting) (s : Shape) (all left rest : List T) (x : T) (a b : Out) (e : Error) → Written M n s all left a b → left ≡ x ∷ rest → Refused (M x) n s e → RefusedAll (MeanAll M all) n s e
+written-refused {T} M has n s all left rest x a b e v f h =
+    let same : all ≡ v.front ++ x ∷ rest = v.is ∙ ap (λ (ys : List T). v.front ++ ys) f in
+    rw same (refuses-among M has v.front x rest n s e h)
+
+pub written-grows : {T : Type 0} (M : T → Meaning ArcRef → Type 0) (n : Nesting) (s : Shape) (all left : List T) (a b : Out) → Written M n s all left a b → Grows a b
+written-grows M n s all left a b v = grows_some_all (MeanAll M v.front) n s a b v.wrote
+
+-- ---- refusals, for each shape that is a length and items
+
+-- a form of the shape is a length and forms of items
+pub record Splits (n : Nesting) (whole item : Shape) : Type 0 where
+  pub parts : (ms : List (Meaning ArcRef)) (b : List ℕ) (k : List ArcRef) → FormAt n whole (sequence ms) b k → (length ms ≤ longest) × ((c : List ℕ) × FormsAt n item ms c k)
+
+pub refuses-items : {X T : Type 0} (r : Result X Error) (M : T → Meaning ArcRef → Type 0) (xs : List T) (n : Nesting) (whole item : Shape) → Splits n whole item → IfErr r (RefusedAll (MeanAll M xs) n item) → IfErr r (Refused (MeansList M xs) n whole)
+refuses-items (Ok x) M xs n whole item split h = tt
+refuses-items (Err e) M xs n whole item split h = λ fault.
+    let lacks = h fault in
+    record { m = sequence lacks.ms; is = record { ms = lacks.ms; each = lacks.is; is = refl }; no_form = λ b k f. let p = (split.parts lacks.ms b k f).1 in lacks.no_forms p.0 k p.1 }
+
+pub refuse-count : {T : Type 0} (M : T → Meaning ArcRef → Type 0) (has : (x : T) → SomeMeaning (M x)) (xs : List T) (n : Nesting) (whole item : Shape) (e : Error) → Splits n whole item → (count : ℕ) → count ≡ length xs → long_or_memory count e → Refused (MeansList M xs) n whole e
+refuse-count M has xs n whole item e split count all (inl h) = λ fault.
+    let each = items_have_meanings M has xs in
+    let long : longest < length each.0 = rw (mean-length each.1, ← all) h.0 in
+    record { m = sequence each.0; is = record { ms = each.0; each = each.1; is = refl }; no_form = λ b k f. omega (arith, long, (split.parts each.0 b k f).0) }
+refuse-count M has xs n whole item e split count all (inr h) = memory_refuses e (MeansList M xs) n whole h.1
+
+-- ---- sorted maps
+
+sorted-map-parts : (n : Nesting) {order : KeyOrder} {s t : Shape} {m : Meaning ArcRef} {b : List ℕ} {k : List ArcRef} (ms : List (Meaning ArcRef)) → FormAt n (sorted_map order s t) m b k → m ≡ sequence ms → (length ms ≤ longest) × ((c : List ℕ) × FormsAt n (both s t) ms c k)
+sorted-map-parts n {order} {s} {t} {m} {b} {k} ms (sorted-map-form l o s' t' es c k' le asc f) e =
+    let same : map entry es ≡ ms = sequence-same (map entry es) ms e in
+    let short : length (map entry es) ≤ longest = rw (length-map es entry) le in (
+      let P : List (Meaning ArcRef) → Type 0 = λ x. length x ≤ longest in subst P same short,
+      (c, let Q : List (Meaning ArcRef) → Type 0 = λ x. FormsAt n (both s' t') x c k' in subst Q same (forms-of-entries f)),
+    )
+
+pub sorted-map-splits : (n : Nesting) (order : KeyOrder) (s t : Shape) → Splits n (sorted_map order s t) (both s t)
+sorted-map-splits n order s t = record { parts = λ ms b k f. sorted-map-parts n ms f refl }
+
+pub refused_sorted_map : {X K V : Type 0} (r : Result X Error) (M : K × V → Meaning ArcRef → Type 0) (xs : List (K × V)) (n : Nesting) (order : KeyOrder) (s t : Shape) → IfErr r (RefusedAll (MeanAll M xs) n (both s t)) → IfErr r (Refused (MeansList M xs) n (sorted_map order s t))
+refused_sorted_map r M xs n order s t h = refuses-items r M xs n (sorted_map order s t) (both s t) (sorted-map-splits n order s t) h
+
+-- the order of a key's values is that of their meanings
+pub record IsOrderOf {K : Type 0} (M : K → Meaning ArcRef → Type 0) (cmp : K → K → Ordering) (order : KeyOrder) : Type 0 where
+  pub agrees : (x y : K) (m n : Meaning ArcRef) → M x m → M y n → cmp x y ≡ ordered order m n
+  pub antisymm : (x y : K) → cmp x y ≡ ordering_reverse (cmp y x)
+
+pub key-order : {K : Type 0} (M : K → Meaning ArcRef → Type 0) (meaning : K → Meaning ArcRef) → ((x : K) (m : Meaning ArcRef) → M x m → m ≡ meaning x) → (cmp : K → K → Ordering) (order : KeyOrder) → ((x y : K) → cmp x y ≡ ordered order (meaning x) (meaning y)) → IsTotalOrder cmp → IsOrderOf M cmp order
+key-order M meaning single cmp order is total = record { agrees = λ x y m n first second. rw (single x m first, single y n second) (is x y); antisymm = total.antisymm }
+
+put-in-order : {K V : Type 0} (M : K → Meaning ArcRef → Type 0) (N : V → Meaning ArcRef → Type 0) (cmp : K → K → Ordering) (order : KeyOrder) → IsOrderOf M cmp order → (xs : List (K × V)) (es : List (Entry ArcRef)) (x : K × V) (e : Entry ArcRef)
+    → EntriesMean M N xs es → M x.0 e.0 → N x.1 e.1 → EntriesMean M N (insert_entry cmp xs x.0 x.1) (put_sorted order es e)
+unfolding EntriesMean
+put-in-order M N cmp order is [] [] x e h first second = (first, second, tt)
+put-in-order M N cmp order is [] (f ∷ es) x e h first second = absurd h
+put-in-order M N cmp order is (y ∷ xs) [] x e h first second = absurd h
+put-in-order M N cmp order is (y ∷ xs) (f ∷ es) x e h first second =
+    rw (is.agrees x.0 y.0 e.0 f.0 first h.0) (by_case (put-in-order M N cmp order is xs es x e h.2 first second) (ordered order e.0 f.0))
+  where
+    by_case : EntriesMean M N (insert_entry cmp xs x.0 x.1) (put_sorted order es e) → (o : Ordering)
+        → EntriesMean M N (match_ordering o ((x.0, x.1) ∷ y ∷ xs) ((y.0, x.1) ∷ xs) (y ∷ insert_entry cmp xs x.0 x.1)) (match_ordering o ((e.0, e.1) ∷ f ∷ es) ((f.0, e.1) ∷ es) (f ∷ put_sorted order es e))
+    by_case tail answers.Less = (first, second, h)
+    by_case tail answers.Equal = (h.0, second, h.2)
+    by_case tail answers.Greater = (h.0, h.1, tail)
+
+put-all-in-order : {K V : Type 0} (M : K → Meaning ArcRef → Type 0) (N : V → Meaning ArcRef → Type 0) (cmp : K → K → Ordering) (order : KeyOrder) → IsOrderOf M cmp order → (acc xs : List (K × V)) (ds es : List (Entry ArcRef)) → EntriesMean M N acc ds → EntriesMean M N xs es
+    → EntriesMean M N (put_all (λ ys x. insert_entry cmp ys x.0 x.1) acc xs) (put_all (put_sorted order) ds es)
+unfolding EntriesMean put_all
+put-all-in-order M N cmp order is acc [] ds [] so_far h = so_far
+put-all-in-order M N cmp order is acc [] ds (e ∷ es) so_far h = absurd h
+put-all-in-order M N cmp order is acc (x ∷ xs) ds [] so_far h = absurd h
+put-all-in-order M N cmp order is acc (x ∷ xs) ds (e ∷ es) so_far h =
+    put-all-in-order M N cmp order is (insert_entry cmp acc x.0 x.1) xs (put_sorted order ds e) es (put-in-order M N cmp order is acc ds x e so_far h.0 h.1) h.2
+
+below-all : {K V : Type 0} (M : K → Meaning ArcRef → Type 0) (N : V → Meaning ArcRef → Type 0) (cmp : K → K → Ordering) (order : KeyOrder) → IsOrderOf M cmp order → (x : K × V) (e : Entry ArcRef) → M x.0 e.0 → (xs : List (K × V)) (es : List (Entry ArcRef)) → EntriesMean M N xs es
+    → AllByRecursion (λ y. cmp x.0 y ≡ answers.Less) (keys_of xs) → AllAfter (λ (d f : Entry ArcRef). ordered order d.0 f.0 ≡ answers.Greater) e es
+unfolding EntriesMean AllAfter
+below-all M N cmp order is x e first [] [] h lt = tt
+below-all M N cmp order is x e first [] (f ∷ es) h lt = absurd h
+below-all M N cmp order is x e first (y ∷ xs) [] h lt = absurd h
+below-all M N cmp order is x e first (y ∷ xs) (f ∷ es) h lt =
+    (sym (is.agrees y.0 x.0 f.0 e.0 h.0 first) ∙ is.antisymm y.0 x.0 ∙ ap ordering_reverse lt.0, below-all M N cmp order is x e first xs es h.2 lt.1)
+
+ascends : {K V : Type 0} (M : K → Meaning ArcRef → Type 0) (N : V → Meaning ArcRef → Type 0) (cmp : K → K → Ordering) (order : KeyOrder) → IsOrderOf M cmp order → (xs : List (K × V)) (es : List (Entry ArcRef)) → EntriesMean M N xs es → IsStrictlySortedBy cmp (keys_of xs) → Ascends order es
+unfolding EntriesMean IsStrictlySortedBy Apart
+ascends M N cmp order is [] [] h sorted = tt
+ascends M N cmp order is [] (e ∷ es) h sorted = absurd h
+ascends M N cmp order is (x ∷ xs) [] h sorted = absurd h
+ascends M N cmp order is (x ∷ xs) (e ∷ es) h sorted = (below-all M N cmp order is x e h.0 xs es h.2 sorted.0, ascends M N cmp order is xs es h.2 sorted.1)
+
+pub writes_sorted_map : {K V : Type 0} (M : K → Meaning ArcRef → Type 0) (N : V → Meaning ArcRef → Type 0) (cmp : K → K → Ordering) (order : KeyOrder) → IsOrderOf M cmp order → (xs : List (K × V)) (n : Nesting) (s t : Shape) (old mid new : Out) (count : ℕ) → IsStrictlySortedBy cmp (keys_of xs)
+    → count ≡ length xs → mid ≡ added old (length_form count) [] → count ≤ longest → WritesSomeAll (MeanAll (MeansPair M N) xs) n (both s t) mid new → WritesSome (MeansList (MeansPair M N) xs) n (sorted_map order s t) old new
+writes_sorted_map M N cmp order is xs n s t old mid new count sorted all counted le v =
+    let es = entries-of-pairs M N v.is in
+    let written = entries-of-forms v.wrote.form in
+    let same : es.0 ≡ written.0 = same-entries es.0 written.0 (sym es.1 ∙ written.1) in
+    let mean : EntriesMean M N xs written.0 = rw (← same) es.2 in
+    let long : length written.0 ≡ count = sym (length-map written.0 entry) ∙ ap (λ (ms : List (Meaning ArcRef)). length ms) (sym written.1) ∙ mean-length v.is ∙ sym all in
+    let short : length written.0 ≤ longest = rw long le in
+    let first : mid ≡ added old (length_form (length written.0)) [] = rw long counted in
+    record {
+      m = of_entries written.0;
+      is = record { ms = map entry written.0; each = pairs-of-entries M N xs written.0 mean; is = refl };
+      wrote = record {
+        bytes = length_form (length written.0) ++ v.wrote.bytes;
+        refs = v.wrote.refs;
+        form = sorted-map-form _ order s t written.0 _ _ short (ascends M N cmp order is xs written.0 mean sorted) written.2;
+        grown = then old mid new _ _ _ _ first v.wrote.grown;
+      };
+    }
+
+-- what was read entry by entry and put in
+pub sorted_map_collected : {K V A : Type 0} (M : K → Meaning ArcRef → Type 0) (N : V → Meaning ArcRef → Type 0) (cmp : K → K → Ordering) (order : KeyOrder) → IsOrderOf M cmp order → (context : Context A ArcRef) (s t : Shape) (now : List (K × V)) (rest mid after : Rest A) (count : ℕ) → bytes_of length_at (λ n. n) rest ≡ Ok (count, mid)
+    → Gave (Collected (MeansPair M N) (λ ys x. insert_entry cmp ys x.0 x.1) now) after (items (read context (both s t)) count mid) → Gave (MeansList (MeansPair M N) now) after (read context (sorted_map order s t) rest)
+unfolding EntriesMean read read_with
+sorted_map_collected M N cmp order is context s t now rest mid after count counted g =
+    let were = read-entries context s t count mid after g.m g.gave in
+    let es = entries-of-pairs M N g.is.each in
+    let same : es.0 ≡ were.0 = same-entries es.0 were.0 (sym es.1 ∙ were.1) in
+    let mean : EntriesMean M N g.is.xs were.0 = rw (← same) es.2 in
+    let put = put-all-in-order M N cmp order is [] g.is.xs [] were.0 tt mean in
+    let each : EntriesMean M N now (put_all (put_sorted order) [] were.0) = rw g.is.is put in
+    record {
+      m = of_entries (put_all (put_sorted order) [] were.0);
+      is = record { ms = map entry (put_all (put_sorted order) [] were.0); each = pairs-of-entries M N now (put_all (put_sorted order) [] were.0) each; is = refl };
+      gave = rw (counted, were.2) refl;
+    }
+
+pub sorted_map_refused : {A : Type 0} (own : Error → Type 0) (context : Context A ArcRef) (order : KeyOrder) (s t : Shape) (e : Error) (rest mid : Rest A) (count : ℕ) → bytes_of length_at (λ n. n) rest ≡ Ok (count, mid) → (items (read context (both s t)) count mid ≡ Err e) ⊎ own e
+    → (read context (sorted_map order s t) rest ≡ Err e) ⊎ own e
+unfolding read read_with
+sorted_map_refused own context order s t e rest mid count counted (inl h) = inl (rw (counted, entries-refused context s t count mid e h) refl)
+sorted_map_refused own context order s t e rest mid count counted (inr h) = inr h
+
+pub ruleset sorted_maps = (refused_sorted_map)

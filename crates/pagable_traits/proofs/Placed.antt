@@ -1,0 +1,128 @@
+-- Maps in order of arrival: what putting in, writing and reading their entries gives.
+use Rattle.std.proofs.Common.{◌≡◌, ℕ, ◌≤◌, Bool, true, false, subst, List, [], ◌∷◌, ◌++◌, length, map, refl, sym, ap, ◌∙◌, Result, Ok, Err, inl, inr}
+use Rattle.std.proofs.lemmas.List.{length-map}
+use Rattle.std.specs.Prelude.{IfErr, ◌⊎◌, if◌then◌else◌}
+use Rattle.std.specs.List.{AllByRecursion, IsDistinct}
+use Rattle.std.specs.Map.{keys_of}
+use Rattle.std.specs.Cmp.{IsEquivalence}
+use Rattle.indexmap.specs.IndexMap.{insert_entry}
+use Rattle.pagable_model.specs.declared.error.Error.{Error}
+use Rattle.pagable_model.specs.declared.numbers.ArcRef.{ArcRef}
+use Rattle.pagable_model.specs.Basic.{longest, length_form, length_at}
+use Rattle.pagable_model.specs.Meaning.{Meaning, sequence, entry}
+use Rattle.pagable_model.specs.Keys.{Entry, same_key, put_all, put_placed, AllAfter, Apart, Differ}
+use Rattle.pagable_model.specs.Shape.{Shape, both, placed_map}
+use Rattle.pagable_model.specs.Carried.{of_entries}
+use Rattle.pagable_model.specs.Form.{placed-map-form}
+use Rattle.pagable_model.specs.Reading.{Rest, Context, items, bytes_of, read, read_with}
+use Rattle.pagable_model.specs.Writing.{Out, Nesting, FormAt, FormsAt, WritesSome, WritesSomeAll, added, Refused, RefusedAll}
+use Rattle.pagable_model.specs.Standing.{Gave}
+use Rattle.pagable_traits.specs.Collected.{Collected}
+use Rattle.pagable_model.specs.Lifted.{MeanAll, MeansList, MeansPair}
+use Rattle.pagable_traits.proofs.Writing.{then as and_then}
+use Rattle.pagable_traits.proofs.Items.{mean-length, sequence-same}
+use Rattle.pagable_traits.proofs.Maps.{EntriesMean, entries-of-pairs, pairs-of-entries, same-entries, entries-of-forms, forms-of-entries, read-entries, entries-refused, Splits, refuses-items}
+
+placed-map-parts : (n : Nesting) {s t : Shape} {m : Meaning ArcRef} {b : List ℕ} {k : List ArcRef} (ms : List (Meaning ArcRef)) → FormAt n (placed_map s t) m b k → m ≡ sequence ms → (length ms ≤ longest) × ((c : List ℕ) × FormsAt n (both s t) ms c k)
+placed-map-parts n {s} {t} {m} {b} {k} ms (placed-map-form l s' t' es c k' le differ f) e =
+    let same : map entry es ≡ ms = sequence-same (map entry es) ms e in
+    let short : length (map entry es) ≤ longest = rw (length-map es entry) le in (
+      let P : List (Meaning ArcRef) → Type 0 = λ x. length x ≤ longest in subst P same short,
+      (c, let Q : List (Meaning ArcRef) → Type 0 = λ x. FormsAt n (both s' t') x c k' in subst Q same (forms-of-entries f)),
+    )
+
+pub placed-map-splits : (n : Nesting) (s t : Shape) → Splits n (placed_map s t) (both s t)
+placed-map-splits n s t = record { parts = λ ms b k f. placed-map-parts n ms f refl }
+
+pub refused_placed_map : {X K V : Type 0} (r : Result X Error) (M : K × V → Meaning ArcRef → Type 0) (xs : List (K × V)) (n : Nesting) (s t : Shape) → IfErr r (RefusedAll (MeanAll M xs) n (both s t)) → IfErr r (Refused (MeansList M xs) n (placed_map s t))
+refused_placed_map r M xs n s t h = refuses-items r M xs n (placed_map s t) (both s t) (placed-map-splits n s t) h
+
+-- the sameness of a key's values is that of their meanings
+pub record IsSameOf {K : Type 0} (M : K → Meaning ArcRef → Type 0) (eq : K → K → Bool) : Type 0 where
+  pub agrees : (x y : K) (m n : Meaning ArcRef) → M x m → M y n → eq x y ≡ same_key m n
+  pub symm : (x y : K) → eq x y ≡ eq y x
+
+pub key-same : {K : Type 0} (M : K → Meaning ArcRef → Type 0) (meaning : K → Meaning ArcRef) → ((x : K) (m : Meaning ArcRef) → M x m → m ≡ meaning x) → (eq : K → K → Bool) → ((x y : K) → eq x y ≡ same_key (meaning x) (meaning y)) → IsEquivalence eq → IsSameOf M eq
+key-same M meaning single eq is laws = record { agrees = λ x y m n first second. rw (single x m first, single y n second) (is x y); symm = laws.symm }
+
+put-in-place : {K V : Type 0} (M : K → Meaning ArcRef → Type 0) (N : V → Meaning ArcRef → Type 0) (eq : K → K → Bool) → IsSameOf M eq → (xs : List (K × V)) (es : List (Entry ArcRef)) (x : K × V) (e : Entry ArcRef) → EntriesMean M N xs es → M x.0 e.0 → N x.1 e.1
+    → EntriesMean M N (insert_entry eq xs x.0 x.1) (put_placed es e)
+unfolding EntriesMean
+put-in-place M N eq is [] [] x e h first second = (first, second, tt)
+put-in-place M N eq is [] (f ∷ es) x e h first second = absurd h
+put-in-place M N eq is (y ∷ xs) [] x e h first second = absurd h
+put-in-place M N eq is (y ∷ xs) (f ∷ es) x e h first second =
+    rw (is.agrees x.0 y.0 e.0 f.0 first h.0) (by_case (put-in-place M N eq is xs es x e h.2 first second) (same_key e.0 f.0))
+  where
+    by_case : EntriesMean M N (insert_entry eq xs x.0 x.1) (put_placed es e) → (same : Bool)
+        → EntriesMean M N (if same then (y.0, x.1) ∷ xs else y ∷ insert_entry eq xs x.0 x.1) (if same then (f.0, e.1) ∷ es else f ∷ put_placed es e)
+    by_case tail true = (h.0, second, h.2)
+    by_case tail false = (h.0, h.1, tail)
+
+put-all-in-place : {K V : Type 0} (M : K → Meaning ArcRef → Type 0) (N : V → Meaning ArcRef → Type 0) (eq : K → K → Bool) → IsSameOf M eq → (acc xs : List (K × V)) (ds es : List (Entry ArcRef)) → EntriesMean M N acc ds → EntriesMean M N xs es
+    → EntriesMean M N (put_all (λ ys x. insert_entry eq ys x.0 x.1) acc xs) (put_all put_placed ds es)
+unfolding EntriesMean put_all
+put-all-in-place M N eq is acc [] ds [] so_far h = so_far
+put-all-in-place M N eq is acc [] ds (e ∷ es) so_far h = absurd h
+put-all-in-place M N eq is acc (x ∷ xs) ds [] so_far h = absurd h
+put-all-in-place M N eq is acc (x ∷ xs) ds (e ∷ es) so_far h =
+    put-all-in-place M N eq is (insert_entry eq acc x.0 x.1) xs (put_placed ds e) es (put-in-place M N eq is acc ds x e so_far h.0 h.1) h.2
+
+apart-from-all : {K V : Type 0} (M : K → Meaning ArcRef → Type 0) (N : V → Meaning ArcRef → Type 0) (eq : K → K → Bool) → IsSameOf M eq → (x : K × V) (e : Entry ArcRef) → M x.0 e.0 → (xs : List (K × V)) (es : List (Entry ArcRef)) → EntriesMean M N xs es
+    → AllByRecursion (λ y. eq x.0 y ≡ false) (keys_of xs) → AllAfter (λ (d f : Entry ArcRef). same_key d.0 f.0 ≡ false) e es
+unfolding EntriesMean AllAfter
+apart-from-all M N eq is x e first [] [] h other = tt
+apart-from-all M N eq is x e first [] (f ∷ es) h other = absurd h
+apart-from-all M N eq is x e first (y ∷ xs) [] h other = absurd h
+apart-from-all M N eq is x e first (y ∷ xs) (f ∷ es) h other = (sym (is.agrees y.0 x.0 f.0 e.0 h.0 first) ∙ is.symm y.0 x.0 ∙ other.0, apart-from-all M N eq is x e first xs es h.2 other.1)
+
+differ : {K V : Type 0} (M : K → Meaning ArcRef → Type 0) (N : V → Meaning ArcRef → Type 0) (eq : K → K → Bool) → IsSameOf M eq → (xs : List (K × V)) (es : List (Entry ArcRef)) → EntriesMean M N xs es → IsDistinct eq (keys_of xs) → Differ es
+unfolding EntriesMean IsDistinct Apart
+differ M N eq is [] [] h distinct = tt
+differ M N eq is [] (e ∷ es) h distinct = absurd h
+differ M N eq is (x ∷ xs) [] h distinct = absurd h
+differ M N eq is (x ∷ xs) (e ∷ es) h distinct = (apart-from-all M N eq is x e h.0 xs es h.2 distinct.0, differ M N eq is xs es h.2 distinct.1)
+
+pub writes_placed_map : {K V : Type 0} (M : K → Meaning ArcRef → Type 0) (N : V → Meaning ArcRef → Type 0) (eq : K → K → Bool) → IsSameOf M eq → (xs : List (K × V)) (n : Nesting) (s t : Shape) (old mid new : Out) (count : ℕ) → IsDistinct eq (keys_of xs)
+    → count ≡ length xs → mid ≡ added old (length_form count) [] → count ≤ longest → WritesSomeAll (MeanAll (MeansPair M N) xs) n (both s t) mid new → WritesSome (MeansList (MeansPair M N) xs) n (placed_map s t) old new
+writes_placed_map M N eq is xs n s t old mid new count distinct all counted le v =
+    let es = entries-of-pairs M N v.is in
+    let written = entries-of-forms v.wrote.form in
+    let same : es.0 ≡ written.0 = same-entries es.0 written.0 (sym es.1 ∙ written.1) in
+    let mean : EntriesMean M N xs written.0 = rw (← same) es.2 in
+    let long : length written.0 ≡ count = sym (length-map written.0 entry) ∙ ap (λ (ms : List (Meaning ArcRef)). length ms) (sym written.1) ∙ mean-length v.is ∙ sym all in
+    let short : length written.0 ≤ longest = rw long le in
+    let first : mid ≡ added old (length_form (length written.0)) [] = rw long counted in
+    record {
+      m = of_entries written.0;
+      is = record { ms = map entry written.0; each = pairs-of-entries M N xs written.0 mean; is = refl };
+      wrote = record {
+        bytes = length_form (length written.0) ++ v.wrote.bytes;
+        refs = v.wrote.refs;
+        form = placed-map-form _ s t written.0 _ _ short (differ M N eq is xs written.0 mean distinct) written.2;
+        grown = and_then old mid new _ _ _ _ first v.wrote.grown;
+      };
+    }
+
+pub placed_map_collected : {K V A : Type 0} (M : K → Meaning ArcRef → Type 0) (N : V → Meaning ArcRef → Type 0) (eq : K → K → Bool) → IsSameOf M eq → (context : Context A ArcRef) (s t : Shape) (now : List (K × V)) (rest mid after : Rest A) (count : ℕ) → bytes_of length_at (λ n. n) rest ≡ Ok (count, mid)
+    → Gave (Collected (MeansPair M N) (λ ys x. insert_entry eq ys x.0 x.1) now) after (items (read context (both s t)) count mid) → Gave (MeansList (MeansPair M N) now) after (read context (placed_map s t) rest)
+unfolding EntriesMean read read_with
+placed_map_collected M N eq is context s t now rest mid after count counted g =
+    let were = read-entries context s t count mid after g.m g.gave in
+    let es = entries-of-pairs M N g.is.each in
+    let same : es.0 ≡ were.0 = same-entries es.0 were.0 (sym es.1 ∙ were.1) in
+    let mean : EntriesMean M N g.is.xs were.0 = rw (← same) es.2 in
+    let put = put-all-in-place M N eq is [] g.is.xs [] were.0 tt mean in
+    let each : EntriesMean M N now (put_all put_placed [] were.0) = rw g.is.is put in
+    record {
+      m = of_entries (put_all put_placed [] were.0);
+      is = record { ms = map entry (put_all put_placed [] were.0); each = pairs-of-entries M N now (put_all put_placed [] were.0) each; is = refl };
+      gave = rw (counted, were.2) refl;
+    }
+
+pub placed_map_refused : {A : Type 0} (own : Error → Type 0) (context : Context A ArcRef) (s t : Shape) (e : Error) (rest mid : Rest A) (count : ℕ) → bytes_of length_at (λ n. n) rest ≡ Ok (count, mid) → (items (read context (both s t)) count mid ≡ Err e) ⊎ own e → (read context (placed_map s t) rest ≡ Err e) ⊎ own e
+unfolding read read_with
+placed_map_refused own context s t e rest mid count counted (inl h) = inl (rw (counted, entries-refused context s t count mid e h) refl)
+placed_map_refused own context s t e rest mid count counted (inr h) = inr h
+
+pub ruleset placed_maps = (refused_placed_map)

@@ -1,0 +1,184 @@
+-- Sets: what putting in, writing and reading their items gives.
+use Rattle.std.proofs.Common.{◌≡◌, ℕ, ◌≤◌, Bool, true, false, subst, List, [], ◌∷◌, ◌++◌, length, refl, sym, ap, ◌∙◌, Result, Ok, Err, inl, inr}
+use Rattle.std.specs.Prelude.{IfErr, ◌⊎◌, ◌||◌, if◌then◌else◌}
+use Rattle.std.specs.List.{AllByRecursion, IsDistinct, list_any}
+use Rattle.std.specs.List.Sorted.{IsStrictlySortedBy}
+use Rattle.std.specs.declared.cmp.Ordering.{Ordering}
+use Rattle.std.specs.declared.cmp.Ordering.TheVariants as answers
+use Rattle.std.specs.Ordering.{match_ordering, ordering_reverse}
+use Rattle.std.specs.BTreeSet.{insert_key}
+use Rattle.indexmap.specs.IndexSet as placed
+use Rattle.pagable_model.specs.declared.error.Error.{Error}
+use Rattle.pagable_model.specs.declared.numbers.ArcRef.{ArcRef}
+use Rattle.pagable_model.specs.Basic.{longest, length_form, length_at}
+use Rattle.pagable_model.specs.Meaning.{Meaning, sequence}
+use Rattle.pagable_model.specs.Keys.{KeyOrder, ordered, same_key, put_all, put_sorted_item, put_placed_item, AllAfter, Apart, ItemsAscend, ItemsDiffer}
+use Rattle.pagable_model.specs.Shape.{Shape, sorted_set, placed_set}
+use Rattle.pagable_model.specs.Form.{sorted-set-form, placed-set-form}
+use Rattle.pagable_model.specs.Reading.{Rest, Context, items, bytes_of, read, read_with}
+use Rattle.pagable_model.specs.Writing.{Out, Nesting, FormAt, FormsAt, WritesSome, WritesSomeAll, added, Refused, RefusedAll}
+use Rattle.pagable_model.specs.Standing.{Gave}
+use Rattle.pagable_traits.specs.Collected.{Collected}
+use Rattle.pagable_model.specs.Lifted.{MeanAll, mean-none, mean-more, MeansList}
+use Rattle.pagable_traits.proofs.Writing.{then as and_then}
+use Rattle.pagable_traits.proofs.Items.{mean-length, sequence-same}
+use Rattle.pagable_traits.proofs.Maps.{Splits, refuses-items, IsOrderOf}
+use Rattle.pagable_traits.proofs.Placed.{IsSameOf}
+
+-- ---- refusals
+
+sorted-set-parts : (n : Nesting) {order : KeyOrder} {s : Shape} {m : Meaning ArcRef} {b : List ℕ} {k : List ArcRef} (ms : List (Meaning ArcRef)) → FormAt n (sorted_set order s) m b k → m ≡ sequence ms → (length ms ≤ longest) × ((c : List ℕ) × FormsAt n s ms c k)
+sorted-set-parts n {order} {s} {m} {b} {k} ms (sorted-set-form l o s' xs c k' le asc f) e =
+    let same : xs ≡ ms = sequence-same xs ms e in (
+      let P : List (Meaning ArcRef) → Type 0 = λ x. length x ≤ longest in subst P same le,
+      (c, let Q : List (Meaning ArcRef) → Type 0 = λ x. FormsAt n s' x c k' in subst Q same f),
+    )
+
+pub sorted-set-splits : (n : Nesting) (order : KeyOrder) (s : Shape) → Splits n (sorted_set order s) s
+sorted-set-splits n order s = record { parts = λ ms b k f. sorted-set-parts n ms f refl }
+
+pub refused_sorted_set : {X T : Type 0} (r : Result X Error) (M : T → Meaning ArcRef → Type 0) (xs : List T) (n : Nesting) (order : KeyOrder) (s : Shape) → IfErr r (RefusedAll (MeanAll M xs) n s) → IfErr r (Refused (MeansList M xs) n (sorted_set order s))
+refused_sorted_set r M xs n order s h = refuses-items r M xs n (sorted_set order s) s (sorted-set-splits n order s) h
+
+placed-set-parts : (n : Nesting) {s : Shape} {m : Meaning ArcRef} {b : List ℕ} {k : List ArcRef} (ms : List (Meaning ArcRef)) → FormAt n (placed_set s) m b k → m ≡ sequence ms → (length ms ≤ longest) × ((c : List ℕ) × FormsAt n s ms c k)
+placed-set-parts n {s} {m} {b} {k} ms (placed-set-form l s' xs c k' le differ f) e =
+    let same : xs ≡ ms = sequence-same xs ms e in (
+      let P : List (Meaning ArcRef) → Type 0 = λ x. length x ≤ longest in subst P same le,
+      (c, let Q : List (Meaning ArcRef) → Type 0 = λ x. FormsAt n s' x c k' in subst Q same f),
+    )
+
+pub placed-set-splits : (n : Nesting) (s : Shape) → Splits n (placed_set s) s
+placed-set-splits n s = record { parts = λ ms b k f. placed-set-parts n ms f refl }
+
+pub refused_placed_set : {X T : Type 0} (r : Result X Error) (M : T → Meaning ArcRef → Type 0) (xs : List T) (n : Nesting) (s : Shape) → IfErr r (RefusedAll (MeanAll M xs) n s) → IfErr r (Refused (MeansList M xs) n (placed_set s))
+refused_placed_set r M xs n s h = refuses-items r M xs n (placed_set s) s (placed-set-splits n s) h
+
+-- ---- sorted sets
+
+put-item : {K : Type 0} (M : K → Meaning ArcRef → Type 0) (cmp : K → K → Ordering) (order : KeyOrder) → IsOrderOf M cmp order → (x : K) (m : Meaning ArcRef) → M x m → {xs : List K} {ms : List (Meaning ArcRef)} → MeanAll M xs ms → MeanAll M (insert_key cmp xs x) (insert_key (ordered order) ms m)
+put-item M cmp order is x m h mean-none = mean-more x m [] [] h mean-none
+put-item M cmp order is x m h (mean-more y f xs ms g t) = rw (is.agrees x y m f h g) (by_case (put-item M cmp order is x m h t) (ordered order m f))
+  where
+    by_case : MeanAll M (insert_key cmp xs x) (insert_key (ordered order) ms m) → (o : Ordering)
+        → MeanAll M (match_ordering o (x ∷ y ∷ xs) (y ∷ xs) (y ∷ insert_key cmp xs x)) (match_ordering o (m ∷ f ∷ ms) (f ∷ ms) (f ∷ insert_key (ordered order) ms m))
+    by_case tail answers.Less = mean-more x m (y ∷ xs) (f ∷ ms) h (mean-more y f xs ms g t)
+    by_case tail answers.Equal = mean-more y f xs ms g t
+    by_case tail answers.Greater = mean-more y f (insert_key cmp xs x) (insert_key (ordered order) ms m) g tail
+
+put-items : {K : Type 0} (M : K → Meaning ArcRef → Type 0) (cmp : K → K → Ordering) (order : KeyOrder) → IsOrderOf M cmp order → (acc : List K) (ds : List (Meaning ArcRef)) → MeanAll M acc ds → {xs : List K} {ms : List (Meaning ArcRef)} → MeanAll M xs ms
+    → MeanAll M (put_all (λ ys y. insert_key cmp ys y) acc xs) (put_all (put_sorted_item order) ds ms)
+unfolding put_all
+put-items M cmp order is acc ds so_far mean-none = so_far
+put-items M cmp order is acc ds so_far (mean-more x m xs ms h t) = put-items M cmp order is (insert_key cmp acc x) (put_sorted_item order ds m) (put-item M cmp order is x m h so_far) t
+
+below-items : {K : Type 0} (M : K → Meaning ArcRef → Type 0) (cmp : K → K → Ordering) (order : KeyOrder) → IsOrderOf M cmp order → (x : K) (m : Meaning ArcRef) → M x m → {ys : List K} {ns : List (Meaning ArcRef)} → MeanAll M ys ns → AllByRecursion (λ y. cmp x y ≡ answers.Less) ys
+    → AllAfter (λ (a b : Meaning ArcRef). ordered order a b ≡ answers.Greater) m ns
+unfolding AllAfter
+below-items M cmp order is x m first mean-none lt = tt
+below-items M cmp order is x m first (mean-more y n ys ns h t) lt = (sym (is.agrees y x n m h first) ∙ is.antisymm y x ∙ ap ordering_reverse lt.0, below-items M cmp order is x m first t lt.1)
+
+items-ascend : {K : Type 0} (M : K → Meaning ArcRef → Type 0) (cmp : K → K → Ordering) (order : KeyOrder) → IsOrderOf M cmp order → {xs : List K} {ms : List (Meaning ArcRef)} → MeanAll M xs ms → IsStrictlySortedBy cmp xs → ItemsAscend order ms
+unfolding IsStrictlySortedBy Apart
+items-ascend M cmp order is mean-none sorted = tt
+items-ascend M cmp order is (mean-more x m xs ms h t) sorted = (below-items M cmp order is x m h t sorted.0, items-ascend M cmp order is t sorted.1)
+
+pub writes_sorted_set : {K : Type 0} (M : K → Meaning ArcRef → Type 0) (cmp : K → K → Ordering) (order : KeyOrder) → IsOrderOf M cmp order → (xs : List K) (n : Nesting) (s : Shape) (old mid new : Out) (count : ℕ) → IsStrictlySortedBy cmp xs → count ≡ length xs → mid ≡ added old (length_form count) [] → count ≤ longest
+    → WritesSomeAll (MeanAll M xs) n s mid new → WritesSome (MeansList M xs) n (sorted_set order s) old new
+writes_sorted_set M cmp order is xs n s old mid new count sorted all counted le v =
+    let long : length v.ms ≡ count = mean-length v.is ∙ sym all in
+    let short : length v.ms ≤ longest = rw long le in
+    let first : mid ≡ added old (length_form (length v.ms)) [] = rw long counted in
+    record {
+      m = sequence v.ms;
+      is = record { ms = v.ms; each = v.is; is = refl };
+      wrote = record {
+        bytes = length_form (length v.ms) ++ v.wrote.bytes;
+        refs = v.wrote.refs;
+        form = sorted-set-form _ order s v.ms _ _ short (items-ascend M cmp order is v.is sorted) v.wrote.form;
+        grown = and_then old mid new _ _ _ _ first v.wrote.grown;
+      };
+    }
+
+pub sorted_set_collected : {K A : Type 0} (M : K → Meaning ArcRef → Type 0) (cmp : K → K → Ordering) (order : KeyOrder) → IsOrderOf M cmp order → (context : Context A ArcRef) (s : Shape) (now : List K) (rest mid after : Rest A) (count : ℕ) → bytes_of length_at (λ n. n) rest ≡ Ok (count, mid)
+    → Gave (Collected M (λ ys y. insert_key cmp ys y) now) after (items (read context s) count mid) → Gave (MeansList M now) after (read context (sorted_set order s) rest)
+unfolding read read_with
+sorted_set_collected M cmp order is context s now rest mid after count counted g =
+    let put = put-items M cmp order is [] [] mean-none g.is.each in
+    let each : MeanAll M now (put_all (put_sorted_item order) [] g.m) = rw g.is.is put in
+    record {
+      m = sequence (put_all (put_sorted_item order) [] g.m);
+      is = record { ms = put_all (put_sorted_item order) [] g.m; each = each; is = refl };
+      gave = rw (counted, g.gave) refl;
+    }
+
+pub sorted_set_refused : {A : Type 0} (own : Error → Type 0) (context : Context A ArcRef) (order : KeyOrder) (s : Shape) (e : Error) (rest mid : Rest A) (count : ℕ) → bytes_of length_at (λ n. n) rest ≡ Ok (count, mid) → (items (read context s) count mid ≡ Err e) ⊎ own e → (read context (sorted_set order s) rest ≡ Err e) ⊎ own e
+unfolding read read_with
+sorted_set_refused own context order s e rest mid count counted (inl h) = inl (rw (counted, h) refl)
+sorted_set_refused own context order s e rest mid count counted (inr h) = inr h
+
+pub ruleset sorted_sets = (refused_sorted_set)
+
+-- ---- sets in order of arrival
+
+-- an item that is put in is looked for from the front
+inserted : {K : Type 0} (y : K) (xs : List K) (x : K) (here later : Bool) → (if here || later then y ∷ xs else (y ∷ xs) ++ x ∷ []) ≡ (if here then y ∷ xs else y ∷ (if later then xs else xs ++ x ∷ []))
+inserted y xs x true later = refl
+inserted y xs x false true = refl
+inserted y xs x false false = refl
+
+place-item : {K : Type 0} (M : K → Meaning ArcRef → Type 0) (eq : K → K → Bool) → IsSameOf M eq → (x : K) (m : Meaning ArcRef) → M x m → {xs : List K} {ms : List (Meaning ArcRef)} → MeanAll M xs ms → MeanAll M (placed.insert_key eq xs x) (put_placed_item ms m)
+place-item M eq is x m h mean-none = mean-more x m [] [] h mean-none
+place-item {K} M eq is x m h (mean-more y f xs ms g t) =
+    let P : List K → Type 0 = λ ys. MeanAll M ys (put_placed_item (f ∷ ms) m) in
+    subst P (sym (inserted y xs x (eq x y) (list_any (eq x) xs))) (rw (is.agrees x y m f h g) (by_case (place-item M eq is x m h t) (same_key m f)))
+  where
+    by_case : MeanAll M (placed.insert_key eq xs x) (put_placed_item ms m) → (same : Bool) → MeanAll M (if same then y ∷ xs else y ∷ placed.insert_key eq xs x) (if same then f ∷ ms else f ∷ put_placed_item ms m)
+    by_case tail true = mean-more y f xs ms g t
+    by_case tail false = mean-more y f (placed.insert_key eq xs x) (put_placed_item ms m) g tail
+
+place-items : {K : Type 0} (M : K → Meaning ArcRef → Type 0) (eq : K → K → Bool) → IsSameOf M eq → (acc : List K) (ds : List (Meaning ArcRef)) → MeanAll M acc ds → {xs : List K} {ms : List (Meaning ArcRef)} → MeanAll M xs ms → MeanAll M (put_all (λ ys y. placed.insert_key eq ys y) acc xs) (put_all put_placed_item ds ms)
+unfolding put_all
+place-items M eq is acc ds so_far mean-none = so_far
+place-items M eq is acc ds so_far (mean-more x m xs ms h t) = place-items M eq is (placed.insert_key eq acc x) (put_placed_item ds m) (place-item M eq is x m h so_far) t
+
+apart-items : {K : Type 0} (M : K → Meaning ArcRef → Type 0) (eq : K → K → Bool) → IsSameOf M eq → (x : K) (m : Meaning ArcRef) → M x m → {ys : List K} {ns : List (Meaning ArcRef)} → MeanAll M ys ns → AllByRecursion (λ y. eq x y ≡ false) ys → AllAfter (λ (a b : Meaning ArcRef). same_key a b ≡ false) m ns
+unfolding AllAfter
+apart-items M eq is x m first mean-none other = tt
+apart-items M eq is x m first (mean-more y n ys ns h t) other = (sym (is.agrees y x n m h first) ∙ is.symm y x ∙ other.0, apart-items M eq is x m first t other.1)
+
+items-differ : {K : Type 0} (M : K → Meaning ArcRef → Type 0) (eq : K → K → Bool) → IsSameOf M eq → {xs : List K} {ms : List (Meaning ArcRef)} → MeanAll M xs ms → IsDistinct eq xs → ItemsDiffer ms
+unfolding IsDistinct Apart
+items-differ M eq is mean-none distinct = tt
+items-differ M eq is (mean-more x m xs ms h t) distinct = (apart-items M eq is x m h t distinct.0, items-differ M eq is t distinct.1)
+
+pub writes_placed_set : {K : Type 0} (M : K → Meaning ArcRef → Type 0) (eq : K → K → Bool) → IsSameOf M eq → (xs : List K) (n : Nesting) (s : Shape) (old mid new : Out) (count : ℕ) → IsDistinct eq xs → count ≡ length xs → mid ≡ added old (length_form count) [] → count ≤ longest → WritesSomeAll (MeanAll M xs) n s mid new
+    → WritesSome (MeansList M xs) n (placed_set s) old new
+writes_placed_set M eq is xs n s old mid new count distinct all counted le v =
+    let long : length v.ms ≡ count = mean-length v.is ∙ sym all in
+    let short : length v.ms ≤ longest = rw long le in
+    let first : mid ≡ added old (length_form (length v.ms)) [] = rw long counted in
+    record {
+      m = sequence v.ms;
+      is = record { ms = v.ms; each = v.is; is = refl };
+      wrote = record {
+        bytes = length_form (length v.ms) ++ v.wrote.bytes;
+        refs = v.wrote.refs;
+        form = placed-set-form _ s v.ms _ _ short (items-differ M eq is v.is distinct) v.wrote.form;
+        grown = and_then old mid new _ _ _ _ first v.wrote.grown;
+      };
+    }
+
+pub placed_set_collected : {K A : Type 0} (M : K → Meaning ArcRef → Type 0) (eq : K → K → Bool) → IsSameOf M eq → (context : Context A ArcRef) (s : Shape) (now : List K) (rest mid after : Rest A) (count : ℕ) → bytes_of length_at (λ n. n) rest ≡ Ok (count, mid)
+    → Gave (Collected M (λ ys y. placed.insert_key eq ys y) now) after (items (read context s) count mid) → Gave (MeansList M now) after (read context (placed_set s) rest)
+unfolding read read_with
+placed_set_collected M eq is context s now rest mid after count counted g =
+    let put = place-items M eq is [] [] mean-none g.is.each in
+    let each : MeanAll M now (put_all put_placed_item [] g.m) = rw g.is.is put in
+    record { m = sequence (put_all put_placed_item [] g.m); is = record { ms = put_all put_placed_item [] g.m; each = each; is = refl }; gave = rw (counted, g.gave) refl }
+
+pub placed_set_refused : {A : Type 0} (own : Error → Type 0) (context : Context A ArcRef) (s : Shape) (e : Error) (rest mid : Rest A) (count : ℕ) → bytes_of length_at (λ n. n) rest ≡ Ok (count, mid) → (items (read context s) count mid ≡ Err e) ⊎ own e → (read context (placed_set s) rest ≡ Err e) ⊎ own e
+unfolding read read_with
+placed_set_refused own context s e rest mid count counted (inl h) = inl (rw (counted, h) refl)
+placed_set_refused own context s e rest mid count counted (inr h) = inr h
+
+pub ruleset placed_sets = (refused_placed_set)

@@ -1,0 +1,22 @@
+use Rattle.std.proofs.lemmas.Result.{err_from_is_err_and}
+use Rattle.pagable_model.specs.Gives.{memory_or, either}
+use Rattle.pagable_model.specs.Standing.{handles_at}
+use Rattle.pagable_traits.proofs.Maps.{key-order, sorted_map_collected, sorted_map_refused}
+use Rattle.pagable_traits.proofs.impls.maps.BTreeMapPagableDeserialize.pagable_deserialize.Goals as goal
+
+pub returns-in_err-entries-clause-gives : goal.returns-in_err-entries-clause-gives
+returns-in_err-entries-clause-gives g c =
+    let p = err_from_is_err_and c.from_residual-in_err-entries.result c.from_residual-in_err-entries.ensures.1 in
+    let env = g.D.PagableDeserializer.environment c.args.deserializer.now in
+    let context = handles_at (g.D.PagableDeserializer.levels c.args.deserializer.now) (g.E.Env.parts env) in
+    let own = memory_or (either g.K.PagableDeserialize.read_causes g.V.PagableDeserialize.read_causes) in
+    rw (p.1, p.2) (sorted_map_refused own context g.K.PagableOrdKey.order (g.K.Carried.shape env) (g.V.Carried.shape env) _ (g.D.PagableDeserializer.rest c.args.deserializer.now) _ _ c.in_ok-count.ensures.gives
+    (rw (c.in_ok-count.ensures.same_levels, c.in_ok-count.ensures.same_env) at c.in_err-entries.ensures.gives))
+
+pub returns-clause-gives : goal.returns-clause-gives
+returns-clause-gives g c =
+    let env = g.D.PagableDeserializer.environment c.args.deserializer.now in
+    let context = handles_at (g.D.PagableDeserializer.levels c.args.deserializer.now) (g.E.Env.parts env) in
+    let order = key-order g.K.Carried.means g.K.OneMeaning.meaning g.met.K.OneMeaning.single g.K.Ord.cmp g.K.PagableOrdKey.order g.met.K.PagableOrdKey.is_order g.met.K.Ord.total in
+    sorted_map_collected g.K.Carried.means g.V.Carried.means g.K.Ord.cmp g.K.PagableOrdKey.order order context (g.K.Carried.shape env) (g.V.Carried.shape env) _ (g.D.PagableDeserializer.rest c.args.deserializer.now) _ _ _ c.in_ok-count.ensures.gives
+    (rw (c.in_ok-count.ensures.same_levels, c.in_ok-count.ensures.same_env) at c.in_ok-entries.ensures.gives)

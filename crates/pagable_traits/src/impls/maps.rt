@@ -1,0 +1,129 @@
+//! Maps.
+
+ghost use Rattle.std.specs.Prelude.{◌≡◌, map, OnOk, IfErr};
+ghost use Rattle.std.specs.BTreeMap.{insert_entry};
+ghost use Rattle.pagable_model.specs.Gives.{memory_or, either};
+ghost use Rattle.pagable_model.specs.Meaning.{pair, sequence};
+ghost use Rattle.pagable_model.specs.Shape.{both, sorted_map};
+ghost use Rattle.pagable_model.specs.Writing.{nesting, WritesSome, WritesSomeAll, Refused, RefusedAll, IsRefusal, Grows};
+ghost use Rattle.pagable_traits.specs.Causes.{memory_or_is_own_reading, memory_or_is_own_writing, either_is_own_reading, either_is_own_writing};
+ghost use Rattle.pagable_model.specs.Lifted.{MeanAll, MeansList, MeansPair, list_has_meaning, pair_has_meaning, list_is_meaning, pair_is_meaning, list_single, pair_single};
+
+use crate::deserializer::PagableDeserializer;
+use crate::env::Env;
+use crate::impls::collecting::{Collects, collect_items};
+use crate::impls::parts::{read_count, write_count};
+use crate::keys::PagableOrdKey;
+use crate::serializer::PagableSerializer;
+use crate::traits::{Carried, OneMeaning, PagableDeserialize, PagableSerialize};
+use pagable_flavors::Error;
+use std::alloc::Global;
+use std::collections::BTreeMap;
+
+/// Writes a key and its value, one after the other. A refusal is the key's, or else the value's.
+#[tactic(auto, using(crate::proofs::Writing::parts, crate::proofs::Parts::pairs, crate::proofs::Parts::causes, crate::proofs::Maps::entries))]
+pub fn write_entry<E: Env, K: PagableSerialize<E>, V: PagableSerialize<E>, S: PagableSerializer<E>>(
+    key: &K,
+    value: &V,
+    serializer: &mut S,
+) -> Result<(), Error>
+    ensures ok { OnOk result (WritesSome (MeansPair K.means V.means (key.now, value.now)) (nesting (S.levels serializer.old) (E.parts (S.environment serializer.old))) (both (K.shape (S.environment serializer.old)) (V.shape (S.environment serializer.old))) (S.out serializer.old) (S.out serializer.new)) }
+    ensures refused { IfErr result (Refused (MeansPair K.means V.means (key.now, value.now)) (nesting (S.levels serializer.old) (E.parts (S.environment serializer.old))) (both (K.shape (S.environment serializer.old)) (V.shape (S.environment serializer.old)))) }
+    ensures only { IfErr result (IsRefusal (either K.write_causes V.write_causes)) }
+    ensures err { Grows (S.out serializer.old) (S.out serializer.new) }
+    ensures same_env { S.environment serializer.new ≡ S.environment serializer.old }
+    ensures same_levels { S.levels serializer.new ≡ S.levels serializer.old }
+{
+    key.pagable_serialize(serializer)?;
+    value.pagable_serialize(serializer)?;
+    Ok(())
+}
+
+/// Writes the entries in the order of their keys, without their count. A refusal is that of the first entry that is
+/// refused.
+pub fn write_sorted_entries<
+    E: Env,
+    K: PagableSerialize<E> + Ord,
+    V: PagableSerialize<E>,
+    S: PagableSerializer<E>,
+>(entries: &BTreeMap<K, V>, serializer: &mut S) -> Result<(), Error>
+    ensures ok { OnOk result (WritesSomeAll (MeanAll (MeansPair K.means V.means) entries.now.entries) (nesting (S.levels serializer.old) (E.parts (S.environment serializer.old))) (both (K.shape (S.environment serializer.old)) (V.shape (S.environment serializer.old))) (S.out serializer.old) (S.out serializer.new)) }
+    ensures refused { IfErr result (RefusedAll (MeanAll (MeansPair K.means V.means) entries.now.entries) (nesting (S.levels serializer.old) (E.parts (S.environment serializer.old))) (both (K.shape (S.environment serializer.old)) (V.shape (S.environment serializer.old)))) }
+    ensures only { IfErr result (IsRefusal (either K.write_causes V.write_causes)) }
+    ensures err { Grows (S.out serializer.old) (S.out serializer.new) }
+    ensures same_env { S.environment serializer.new ≡ S.environment serializer.old }
+    ensures same_levels { S.levels serializer.new ≡ S.levels serializer.old }
+{
+    for (key, value) in entries.iter() {
+        write_entry(key, value, serializer)?;
+    }
+    Ok(())
+}
+
+/// An entry whose key is there already gives its value to the key that stands.
+impl<K: Ord + Drop, V: Drop> Collects<(K, V)> for BTreeMap<K, V> {
+    ghost held = { λ m. m.entries };
+
+    ghost put = { λ es e. insert_entry K.cmp es e.0 e.1 };
+
+    fn with_places(alloc: Global, _places: usize) -> Result<Self, Error> {
+        Ok(BTreeMap::new(alloc))
+    }
+
+    fn put_in(&mut self, item: (K, V)) -> Result<(), Error> {
+        let (key, value) = item;
+        self.insert(key, value)?;
+        Ok(())
+    }
+}
+
+impl<E: Env, K: PagableOrdKey<E>, V: Carried<E>> Carried<E> for BTreeMap<K, V> {
+    ghost shape = { λ e. sorted_map K.order (K.shape e) (V.shape e) };
+
+    ghost means = { λ m. MeansList (MeansPair K.means V.means) m.entries };
+
+    ghost has_meaning = { λ m. list_has_meaning (MeansPair K.means V.means) (pair_has_meaning K.means V.means K.has_meaning V.has_meaning) m.entries };
+}
+
+impl<E: Env, K: PagableOrdKey<E>, V: OneMeaning<E>> OneMeaning<E> for BTreeMap<K, V> {
+    ghost meaning = { λ m. sequence (map (λ e. pair (K.meaning e.0) (V.meaning e.1)) m.entries) };
+
+    ghost is_meaning = { λ m. list_is_meaning (MeansPair K.Carried.means V.Carried.means) (λ e. pair (K.meaning e.0) (V.meaning e.1)) (pair_is_meaning K.Carried.means V.Carried.means K.meaning V.meaning K.is_meaning V.is_meaning) m.entries };
+
+    ghost single = { λ m. list_single (MeansPair K.Carried.means V.Carried.means) (λ e. pair (K.meaning e.0) (V.meaning e.1)) (pair_single K.Carried.means V.Carried.means K.meaning V.meaning K.single V.single) m.entries };
+}
+
+impl<E: Env, K: PagableOrdKey<E> + PagableSerialize<E>, V: PagableSerialize<E>> PagableSerialize<E>
+    for BTreeMap<K, V> {
+    ghost write_causes = { memory_or (either K.write_causes V.write_causes) };
+
+    ghost write_causes_are_own = { memory_or_is_own_writing (either K.write_causes V.write_causes) (either_is_own_writing K.write_causes V.write_causes K.write_causes_are_own V.write_causes_are_own) };
+
+    #[tactic(auto, using(crate::proofs::Writing::parts, crate::proofs::Items::lists, crate::proofs::Maps::sorted_maps, crate::proofs::Parts::causes))]
+    fn pagable_serialize<S: PagableSerializer<E>>(&self, serializer: &mut S) -> Result<(), Error> {
+        write_count(self.len(), serializer)?;
+        write_sorted_entries(self, serializer)?;
+        Ok(())
+    }
+}
+
+impl<
+    'de,
+    E: Env,
+    K: PagableOrdKey<E> + PagableDeserialize<'de, E> + Drop,
+    V: PagableDeserialize<'de, E> + Drop,
+> PagableDeserialize<'de, E> for BTreeMap<K, V> {
+    ghost read_causes = { memory_or (either K.read_causes V.read_causes) };
+
+    ghost read_causes_are_own = { memory_or_is_own_reading (either K.read_causes V.read_causes) (either_is_own_reading K.read_causes V.read_causes K.read_causes_are_own V.read_causes_are_own) };
+
+    #[tactic(auto, unfolding(pagable_model::specs::Reading::read, pagable_model::specs::Reading::read_with), using(crate::proofs::Reading::parts))]
+    fn pagable_deserialize<D: PagableDeserializer<E>>(
+        alloc: Global,
+        deserializer: &mut D,
+    ) -> Result<Self, Error> {
+        let count = read_count(deserializer)?;
+        let entries: BTreeMap<K, V> = collect_items(alloc, count, deserializer)?;
+        Ok(entries)
+    }
+}
