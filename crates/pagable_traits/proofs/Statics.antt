@@ -4,11 +4,12 @@ use Rattle.std.specs.Prelude.{IsTrue, ◌⊎◌, take}
 use Rattle.std.proofs.lemmas.List.{take_more, map-append}
 use Rattle.std.specs.Int.{w32}
 use Rattle.std.specs.Borrow.{Bor}
-use Rattle.std.specs.List.{slice_get}
+use Rattle.std.specs.List.{slice_get, AllByRecursion}
 use Rattle.std.proofs.lemmas.Bool.{cases_lt}
 use Rattle.std.proofs.lemmas.Option.{slice_get_read, get_or_from_slice_get}
 use Rattle.pagable_model.specs.declared.error.Error.TheVariants as errors
 use Rattle.pagable_model.specs.declared.numbers.ArcRef.{ArcRef}
+use Rattle.pagable_model.specs.Canonical.{HasNoReference, IsReadable}
 use Rattle.pagable_model.specs.Numbers.{bound, unsigned_form}
 use Rattle.pagable_model.specs.Meaning.{Meaning, lifted}
 use Rattle.pagable_model.specs.Shape.{static_value}
@@ -74,3 +75,13 @@ writes_static meaning x registry i m n old w is e lt grown =
     record { m = meaning x; is = refl; wrote = rw is (writes_bytes n (static_value registry) (lifted m) old w (unsigned_form w32 i) grown (static-form _ registry i m lt e)) }
 
 pub ruleset writing = (writes_static)
+
+-- ---- reading again
+
+all-plain : {T : Type 0} (plain : T → Meaning ⊥) → ((x : T) → HasNoReference (plain x)) → (registry : List (Bor T)) → AllByRecursion HasNoReference (meanings_of plain registry)
+all-plain plain none [] = tt
+all-plain plain none (v ∷ vs) = (none v.now, all-plain plain none vs)
+
+pub static_is_readable : {T : Type 0} (plain : T → Meaning ⊥) → ((x : T) → HasNoReference (plain x)) → (registry : List (Bor T)) → IsReadable (static_value (meanings_of plain registry))
+unfolding IsReadable
+static_is_readable plain none registry = all-plain plain none registry

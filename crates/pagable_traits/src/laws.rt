@@ -14,7 +14,12 @@ ghost use Rattle.pagable_model.specs.Lifted.{MeansOption, MeansList, MeansPair};
 ghost use Rattle.std.specs.Box.{boxed_slice_items};
 ghost use Rattle.pagable_model.specs.declared.error.Error.{Error as Refusal};
 ghost use Rattle.pagable_model.specs.declared.numbers.ArcRef.{ArcRef as Reference};
+ghost use Rattle.std.specs.Prelude.{Some, Ok};
+ghost use Rattle.std.specs.Borrow.{Bor};
+ghost use Rattle.std.specs.List.{slice_get};
+ghost use Rattle.pagable_model.specs.Canonical.{IsReadable};
 ghost use Rattle.pagable_model.specs.Meaning.{lifted};
+ghost use Rattle.pagable_model.specs.Reading.{registered};
 ghost use Rattle.pagable_model.specs.Shape.{static_value};
 ghost use Rattle.pagable_traits.specs.Statics.{meanings_of, unregistered};
 ghost use Rattle.pagable_traits.specs.declared.impls.static_value.StaticValue.{StaticValue as Static};
@@ -290,4 +295,10 @@ pub fn placed_set_is_carried<
     ensures means { (x : _) (m : Meaning Reference) → ⟦<IndexSet<T> as Carried<E>>⟧.means x m ↔ MeansList T.Carried.means x.keys m }
     ensures writes { (e : Refusal) → ⟦<IndexSet<T> as PagableSerialize<E>>⟧.write_causes e ↔ memory_or T.write_causes e }
     ensures reads { (e : Refusal) → ⟦<IndexSet<T> as PagableDeserialize<'static, E>>⟧.read_causes e ↔ memory_or T.read_causes e }
+{}
+
+/// The forms of static values are read again: each index of a registered value as that value.
+pub fn static_values_are_read_again<E: Env, T: HasStaticValueRegistry<'static, E> + 'static>()
+    ensures readable { (e : E) → IsReadable (static_value (meanings_of T.plain (T.known e))) }
+    ensures value { (e : E) (i : ℕ) (known : Bor T) → slice_get (T.known e) i ≡ Some known → registered (meanings_of T.plain (T.known e)) i ≡ Ok (T.plain known.now) }
 {}

@@ -7,6 +7,7 @@ ghost use Rattle.std.specs.List.Sorted.{IsPermutation, IsSortedByKey, IsStableBy
 ghost use Rattle.std.proofs.Common.{rules};
 ghost use Rattle.std.specs.Cmp.Rules.{comparing, hashing};
 ghost use Rattle.pagable_model.specs.Basic.{longest};
+ghost use Rattle.pagable_model.specs.Canonical.{HasNoReference};
 ghost use Rattle.pagable_model.specs.Gives.{Gives, never, memory_or};
 ghost use Rattle.pagable_model.specs.Meaning.{Meaning, lifted};
 ghost use Rattle.pagable_model.specs.Reading.{registered};
@@ -282,6 +283,8 @@ pub trait HasStaticValueRegistry<'a, E: Env>: Ord + Sized {
     ghost same_meaning: { (x y : Self) → IsTrue (Self.eq x y) → plain x ≡ plain y };
 
     ghost same_value: { (x y : Self) → plain x ≡ plain y → IsTrue (Self.eq x y) };
+
+    ghost holds_no_reference: { (x : Self) → HasNoReference (plain x) };
 }
 
 /// The value that the environment's registry has under this index: BadStaticIndex where there is none.
