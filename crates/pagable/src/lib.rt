@@ -15,12 +15,12 @@ pub use pagable_model::{
     ArcRef, HandleNumber, Identity, Kind, LoadNumber, NodeNumber, PagableCursor, WorkerNumber,
 };
 pub use pagable_traits::{
-    Carried, EagerlyCarried, Env, ForTag, HasStaticValueRegistry, HasTypetagRegistry, InNode,
-    KeyHash, NodeSet, OneMeaning, PagableDeserialize, PagableDeserializer, PagableEagerDeserialize,
-    PagableEagerSerialize, PagableRegisteredFor, PagableSerialize, PagableSerializer,
-    PagableTagged, Reader, SessionContext, SessionMap, StaticBytes, StaticStr, StaticValue,
-    StaticValueEntry, StaticValueRegistry, TagReader, TypetagRegistration, TypetagRegistry,
-    serialize_slice,
+    Canonical, Carried, EagerlyCarried, Env, ForTag, HasStaticValueRegistry, HasTypetagRegistry,
+    InNode, KeyHash, NodeSet, OneMeaning, PagableDeserialize, PagableDeserializer,
+    PagableEagerDeserialize, PagableEagerSerialize, PagableKey, PagableOrdKey,
+    PagableRegisteredFor, PagableSerialize, PagableSerializer, PagableTagged, Reader,
+    SessionContext, SessionMap, StaticBytes, StaticStr, StaticValue, StaticValueEntry,
+    StaticValueRegistry, TagReader, TypetagRegistration, TypetagRegistry, serialize_slice,
 };
 pub use pagable_world::{Beginning, Mode, Owner, Pinning};
 pub use storage::in_memory::InMemoryBlobs;
