@@ -2,10 +2,7 @@
 //! content, drops them from memory when no handle pins them, and reads them back on demand.
 #![tactic(auto)]
 
-pub mod pagable_arc;
-pub mod storage;
-
-pub use pagable_arc::pager::{Pager, Want};
+pub use pagable_blobs::InMemoryBlobs;
 pub use pagable_core::{
     NoReferences, PagableData, PagableDeserializerImpl, PagableKeys, PagableSerializerImpl,
     PagableStorage, References, SerializedData, SerializerForPaging, WeighHash,
@@ -14,13 +11,14 @@ pub use pagable_flavors::{DataKey, Error, OptionalDataKey, PagableSlice, Pagable
 pub use pagable_model::{
     ArcRef, HandleNumber, Identity, Kind, LoadNumber, NodeNumber, PagableCursor, WorkerNumber,
 };
-pub use pagable_traits::{
-    Canonical, Carried, EagerlyCarried, Env, ForTag, HasStaticValueRegistry, HasTypetagRegistry,
-    InNode, KeyHash, NodeSet, OneMeaning, PagableDeserialize, PagableDeserializer,
-    PagableEagerDeserialize, PagableEagerSerialize, PagableKey, PagableOrdKey,
-    PagableRegisteredFor, PagableSerialize, PagableSerializer, PagableTagged, Reader,
+pub use pagable_pager::{Beginning, Mode, Owner, Pager, Pinning, Want};
+pub use pagable_registries::{
+    ForTag, HasStaticValueRegistry, HasTypetagRegistry, PagableRegisteredFor, PagableTagged,
     SessionContext, SessionMap, StaticBytes, StaticStr, StaticValue, StaticValueEntry,
-    StaticValueRegistry, TagReader, TypetagRegistration, TypetagRegistry, serialize_slice,
+    StaticValueRegistry, TagReader, TypetagRegistration, TypetagRegistry,
 };
-pub use pagable_world::{Beginning, Mode, Owner, Pinning};
-pub use storage::in_memory::InMemoryBlobs;
+pub use pagable_traits::{
+    Canonical, Carried, EagerlyCarried, Env, InNode, KeyHash, NodeSet, OneMeaning,
+    PagableDeserialize, PagableDeserializer, PagableEagerDeserialize, PagableEagerSerialize,
+    PagableKey, PagableOrdKey, PagableSerialize, PagableSerializer, Reader, serialize_slice,
+};

@@ -23,3 +23,12 @@ pub mod Canonical
 pub mod Deep
 pub mod Merkle
 pub mod Json
+pub mod Causes
+pub mod Collected
+pub mod Keyed
+pub mod OneForm
+pub mod Statics
+pub mod Tagged
+pub mod Session
+pub mod References
+pub mod ByteArrays

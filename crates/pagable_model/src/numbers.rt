@@ -14,11 +14,11 @@ pub struct NodeNumber(pub u64);
 pub struct HandleNumber(pub u64);
 
 /// The number of a load, from 1 on, never used again.
-#[derive(Clone, Copy, Debug, PartialEq, Eq, Hash, PartialOrd, Ord)]
+#[derive(Clone, Copy, Debug, PartialEq, Eq)]
 pub struct LoadNumber(pub u64);
 
 /// The number of a page-out worker, from 1 on, never used again.
-#[derive(Clone, Copy, Debug, PartialEq, Eq, Hash, PartialOrd, Ord)]
+#[derive(Clone, Copy, Debug, PartialEq, Eq)]
 pub struct WorkerNumber(pub u64);
 
 /// What page-out counts as one node of its walk: a kind with a node.

@@ -13,9 +13,9 @@ use Rattle.pagable_model.specs.Form.{none-form, some-form, both-form, nested-for
 use Rattle.pagable_model.specs.Reading.{Rest, deepest, read, read_with, below, bytes_of}
 use Rattle.pagable_model.specs.Standing.{Answer, handles_at, Is}
 use Rattle.pagable_model.specs.Writing.{Out, Nesting, nesting, Writes, WritesSome, Grows, added, NoForm, Refused, IsRefusal}
-use Rattle.pagable_traits.proofs.Writing.{grows_refl, grows_trans, grows_writes, grows_same, then, writes_is, only_memory}
-use Rattle.pagable_traits.proofs.Parts.{grows_added_bytes}
-use Rattle.pagable_traits.proofs.Reading.{moves_trans, moves_refl}
+use Rattle.pagable_codec.proofs.Writing.{grows_refl, grows_trans, grows_writes, grows_same, then, writes_is, only_memory}
+use Rattle.pagable_codec.proofs.Adding.{grows_added_bytes}
+use Rattle.pagable_codec.proofs.Reading.{moves_trans, moves_refl}
 use Rattle.pagable_samples.specs.Cells.{cell, cells, NoFormWhere}
 
 -- ---- writing

@@ -12,7 +12,7 @@ use pagable::{
     Carried, Env, Error, OneMeaning, PagableDeserialize, PagableDeserializer, PagableSerialize,
     PagableSerializer, WeighHash,
 };
-use pagable_traits::impls::parts::{read_flag, write_flag};
+use pagable_codec::parts::{read_flag, write_flag};
 use std::alloc::Global;
 
 /// Lists of lists, in cells: nothing, or a first list and the rest. Each of the two is one level further down, and at
@@ -156,7 +156,7 @@ impl OneMeaning<NestedEnv> for Nested {
 
 impl PagableSerialize<NestedEnv> for Nested {
     ghost use Rattle.pagable_model.specs.Gives.{memory};
-    ghost use Rattle.pagable_traits.specs.Causes.{memory_is_own_writing};
+    ghost use Rattle.pagable_model.specs.Causes.{memory_is_own_writing};
 
     ghost write_causes = { memory };
 
@@ -173,13 +173,13 @@ impl PagableSerialize<NestedEnv> for Nested {
 
 impl<'de> PagableDeserialize<'de, NestedEnv> for Nested {
     ghost use Rattle.pagable_model.specs.Gives.{memory};
-    ghost use Rattle.pagable_traits.specs.Causes.{memory_is_own_reading};
+    ghost use Rattle.pagable_model.specs.Causes.{memory_is_own_reading};
 
     ghost read_causes = { memory };
 
     ghost read_causes_are_own = { memory_is_own_reading };
 
-    #[tactic(auto, using(pagable_traits::proofs::Reading::parts))]
+    #[tactic(auto, using(pagable_codec::proofs::Reading::parts))]
     fn pagable_deserialize<D: PagableDeserializer<NestedEnv>>(
         alloc: Global,
         deserializer: &mut D,

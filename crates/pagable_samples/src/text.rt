@@ -51,8 +51,8 @@ impl<H: KeyHash> NodeSet<TextEnv<H>> for TextNode {
     ghost use Rattle.std.specs.Prelude.{◌≡◌, [], refl};
     ghost use Rattle.pagable_model.specs.Gives.{memory};
     ghost use Rattle.pagable_model.specs.Shape.{text as text_shape};
-    ghost use Rattle.pagable_traits.specs.Causes.{memory_is_own_reading, memory_is_own_writing};
-    ghost use Rattle.pagable_samples.specs.Texts.{shape_of, text_of};
+    ghost use Rattle.pagable_model.specs.Causes.{memory_is_own_reading, memory_is_own_writing};
+    ghost use Rattle.pagable_samples.specs.Texts.{shape_of, text_of, texts_refer};
 
     ghost type_of = { λ n. 0 };
 
@@ -71,6 +71,10 @@ impl<H: KeyHash> NodeSet<TextEnv<H>> for TextNode {
     ghost write_causes_are_own = { memory_is_own_writing };
 
     ghost read_causes_are_own = { memory_is_own_reading };
+
+    ghost has_meaning = { λ n. (text_of n, refl) };
+
+    ghost refers = { texts_refer };
 
     ghost has_shape = { λ e n. refl };
 

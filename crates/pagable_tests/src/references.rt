@@ -5,7 +5,7 @@ ghost use Rattle.pagable_model.specs.Gives.{memory, never};
 ghost use Rattle.pagable_model.specs.Meaning.{reference as reference_meaning};
 ghost use Rattle.pagable_model.specs.Shape.{reference, nothing};
 ghost use Rattle.pagable_model.specs.Standing.{Is};
-ghost use Rattle.pagable_traits.specs.Causes.{memory_is_own_writing, never_is_own_reading};
+ghost use Rattle.pagable_model.specs.Causes.{memory_is_own_writing, never_is_own_reading};
 
 use pagable::{
     ArcRef, Carried, DataKey, Env, Error, HandleNumber, Kind, NodeNumber, PagableDeserialize,
@@ -51,7 +51,7 @@ impl PagableSerialize<TestEnv> for Held {
 
     ghost write_causes_are_own = { memory_is_own_writing };
 
-    #[tactic(auto, using(pagable_traits::proofs::Writing::parts, pagable_traits::proofs::Writing::references))]
+    #[tactic(auto, using(pagable_codec::proofs::Writing::parts, pagable_codec::proofs::Writing::references))]
     fn pagable_serialize<S: PagableSerializer<TestEnv>>(
         &self,
         serializer: &mut S,
@@ -65,7 +65,7 @@ impl<'de> PagableDeserialize<'de, TestEnv> for Held {
 
     ghost read_causes_are_own = { never_is_own_reading };
 
-    #[tactic(auto, unfolding(pagable_model::specs::Reading::read, pagable_model::specs::Reading::read_with), using(pagable_traits::proofs::Reading::parts))]
+    #[tactic(auto, unfolding(pagable_model::specs::Reading::read, pagable_model::specs::Reading::read_with), using(pagable_codec::proofs::Reading::parts))]
     fn pagable_deserialize<D: PagableDeserializer<TestEnv>>(
         _alloc: Global,
         deserializer: &mut D,

@@ -9,7 +9,7 @@ use Rattle.pagable_model.specs.Shape.{Shape, list}
 use Rattle.pagable_model.specs.Reading.{Rest, Context, items, bytes_of, read, read_with}
 use Rattle.pagable_model.specs.Standing.{Gave}
 use Rattle.pagable_model.specs.Lifted.{MeanAll, mean-none, MeansList}
-use Rattle.pagable_traits.specs.Collected.{Collected}
+use Rattle.pagable_model.specs.Collected.{Collected}
 use Rattle.pagable_traits.proofs.Items.{mean_last}
 
 pub collected_none : {T : Type 0} (M : T → Meaning ArcRef → Type 0) (put : List T → T → List T) (now : List T) → now ≡ [] → Collected M put now []

@@ -15,7 +15,7 @@ use Rattle.pagable_model.specs.Reading.{Rest, Gets, Context, items, bytes_of, re
 use Rattle.pagable_model.specs.Writing.{Out, Nesting, FormAt, FormsAt, WritesSome, WritesSomeAll, Grows, added, kind_of_arc, NoForm, NoForms, NoFormOfSome, NoFormsOfSome, Refused, RefusedAll}
 use Rattle.pagable_model.specs.Standing.{Gave, SomeMeaning}
 use Rattle.pagable_model.specs.Lifted.{MeanAll, mean-none, mean-more, MeansList, items_have_meanings}
-use Rattle.pagable_traits.proofs.Writing.{out_is, grows_refl, grows_trans, grows_some, then, memory_refuses}
+use Rattle.pagable_codec.proofs.Writing.{out_is, grows_refl, grows_trans, grows_some, then, memory_refuses}
 
 -- ---- what items mean
 

@@ -1,11 +1,7 @@
-pub mod Writing
-pub mod Reading
 pub mod Parts
 pub mod Items
 pub mod Slices
 pub mod Collecting
-pub mod Statics
-pub mod Tagged
 pub mod Maps
 pub mod Placed
 pub mod Sets

@@ -23,9 +23,9 @@ use Rattle.pagable_model.specs.Form.{Form, Forms, Entries, no-forms, more-forms,
 use Rattle.pagable_model.specs.Reading.{Rest, Gets, Context, items, bytes_of, two, read, read_with}
 use Rattle.pagable_model.specs.Writing.{Out, Nesting, FormAt, FormsAt, EntriesAt, WritesSome, WritesSomeAll, added, kind_of_arc, NoForm, NoForms, NoFormOfSome, NoFormsOfSome, Refused, RefusedAll, Grows}
 use Rattle.pagable_model.specs.Standing.{Gave, SomeMeaning}
-use Rattle.pagable_traits.specs.Collected.{Collected}
+use Rattle.pagable_model.specs.Collected.{Collected}
 use Rattle.pagable_model.specs.Lifted.{MeanAll, mean-none, mean-more, MeansList, MeansPair, items_have_meanings}
-use Rattle.pagable_traits.proofs.Writing.{then, memory_refuses}
+use Rattle.pagable_codec.proofs.Writing.{then, memory_refuses}
 use Rattle.pagable_traits.proofs.Items.{mean-length, mean_last, sequence-same, forms-last, no-head, no-tail, writes_no_items, grows_some_all}
 use Rattle.pagable_traits.proofs.Parts.{writes_pair}
 

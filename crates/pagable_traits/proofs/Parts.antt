@@ -15,17 +15,7 @@ use Rattle.pagable_model.specs.Form.{none-form, some-form, both-form}
 use Rattle.pagable_model.specs.Writing.{Out, Nesting, WritesSome, Grows, added, NoForm, Refused, IsRefusal}
 use Rattle.pagable_model.specs.Standing.{Gave, SomeMeaning}
 use Rattle.pagable_model.specs.Lifted.{MeansOption, means-none, means-some, MeansPair}
-use Rattle.pagable_traits.proofs.Writing.{out_is, then}
-
--- ---- bytes, added
-
-pub added_bytes : (old : Out) (w b : List ℕ) → w ≡ old.bytes ++ b → (let new : Out = record old { bytes = w } in new) ≡ added old b []
-added_bytes old w b e = out_is _ _ _ _ e (sym (append-nil old.refs))
-
-pub grows_added_bytes : (old new : Out) (b : List ℕ) → new ≡ added old b [] → Grows old new
-grows_added_bytes old new b e = record { bytes = b; refs = []; grown = e }
-
-pub ruleset steps = (added_bytes, grows_added_bytes)
+use Rattle.pagable_codec.proofs.Writing.{out_is, then}
 
 -- ---- causes
 

@@ -17,9 +17,9 @@ use Rattle.pagable_model.specs.Form.{placed-map-form}
 use Rattle.pagable_model.specs.Reading.{Rest, Context, items, bytes_of, read, read_with}
 use Rattle.pagable_model.specs.Writing.{Out, Nesting, FormAt, FormsAt, WritesSome, WritesSomeAll, added, Refused, RefusedAll}
 use Rattle.pagable_model.specs.Standing.{Gave}
-use Rattle.pagable_traits.specs.Collected.{Collected}
+use Rattle.pagable_model.specs.Collected.{Collected}
 use Rattle.pagable_model.specs.Lifted.{MeanAll, MeansList, MeansPair}
-use Rattle.pagable_traits.proofs.Writing.{then as and_then}
+use Rattle.pagable_codec.proofs.Writing.{then as and_then}
 use Rattle.pagable_traits.proofs.Items.{mean-length, sequence-same}
 use Rattle.pagable_traits.proofs.Maps.{EntriesMean, entries-of-pairs, pairs-of-entries, same-entries, entries-of-forms, forms-of-entries, read-entries, entries-refused, Splits, refuses-items}
 

@@ -18,9 +18,9 @@ use Rattle.pagable_model.specs.Form.{sorted-set-form, placed-set-form}
 use Rattle.pagable_model.specs.Reading.{Rest, Context, items, bytes_of, read, read_with}
 use Rattle.pagable_model.specs.Writing.{Out, Nesting, FormAt, FormsAt, WritesSome, WritesSomeAll, added, Refused, RefusedAll}
 use Rattle.pagable_model.specs.Standing.{Gave}
-use Rattle.pagable_traits.specs.Collected.{Collected}
+use Rattle.pagable_model.specs.Collected.{Collected}
 use Rattle.pagable_model.specs.Lifted.{MeanAll, mean-none, mean-more, MeansList}
-use Rattle.pagable_traits.proofs.Writing.{then as and_then}
+use Rattle.pagable_codec.proofs.Writing.{then as and_then}
 use Rattle.pagable_traits.proofs.Items.{mean-length, sequence-same}
 use Rattle.pagable_traits.proofs.Maps.{Splits, refuses-items, IsOrderOf}
 use Rattle.pagable_traits.proofs.Placed.{IsSameOf}

@@ -11,9 +11,9 @@ ghost use Rattle.pagable_model.specs.Writing.{nesting, WritesSome, Refused, IsRe
 ghost use Rattle.pagable_model.specs.declared.error.Error.{Error as Refusal};
 ghost use Rattle.pagable_model.specs.declared.numbers.ArcRef.{ArcRef as Reference};
 
-use crate::deserializer::PagableDeserializer;
-use crate::env::Env;
-use crate::serializer::PagableSerializer;
+use pagable_codec::deserializer::PagableDeserializer;
+use pagable_codec::env::Env;
+use pagable_codec::serializer::PagableSerializer;
 use pagable_flavors::Error;
 use std::alloc::Global;
 

@@ -4,9 +4,9 @@ ghost use Rattle.std.specs.Prelude.{◌≡◌};
 ghost use Rattle.std.specs.String.{string_bytes};
 ghost use Rattle.pagable_model.specs.Keys.{KeyOrder, same_key, ordered, number_order, text_order};
 ghost use Rattle.std.specs.Int.{w8, w16, w32, w64, w128};
-ghost use Rattle.pagable_traits.specs.Keyed.{RefersToNothing, unsigned_refers_to_nothing, text_refers_to_nothing, letter_refers_to_nothing, number_is_same, text_is_same, number_is_ordered, text_is_ordered};
+ghost use Rattle.pagable_model.specs.Keyed.{RefersToNothing, unsigned_refers_to_nothing, text_refers_to_nothing, letter_refers_to_nothing, number_is_same, text_is_same, number_is_ordered, text_is_ordered};
 
-use crate::env::Env;
+use pagable_codec::env::Env;
 use crate::traits::OneMeaning;
 
 /// A type whose values may be keys of a map or items of a set: two values are equal exactly if they mean the same, and

@@ -14,18 +14,8 @@ ghost use Rattle.pagable_model.specs.Lifted.{MeansOption, MeansList, MeansPair};
 ghost use Rattle.std.specs.Box.{boxed_slice_items};
 ghost use Rattle.pagable_model.specs.declared.error.Error.{Error as Refusal};
 ghost use Rattle.pagable_model.specs.declared.numbers.ArcRef.{ArcRef as Reference};
-ghost use Rattle.std.specs.Prelude.{Some, Ok};
-ghost use Rattle.std.specs.Borrow.{Bor};
-ghost use Rattle.std.specs.List.{slice_get};
-ghost use Rattle.pagable_model.specs.Canonical.{IsReadable};
-ghost use Rattle.pagable_model.specs.Meaning.{lifted};
-ghost use Rattle.pagable_model.specs.Reading.{registered};
-ghost use Rattle.pagable_model.specs.Shape.{static_value};
-ghost use Rattle.pagable_traits.specs.Statics.{meanings_of, unregistered};
-ghost use Rattle.pagable_traits.specs.declared.impls.static_value.StaticValue.{StaticValue as Static};
 
-use crate::env::Env;
-use crate::impls::static_value::{HasStaticValueRegistry, StaticValue};
+use pagable_codec::env::Env;
 use crate::keys::{PagableKey, PagableOrdKey};
 use crate::traits::{Carried, PagableDeserialize, PagableSerialize};
 use indexmap::{IndexMap, IndexSet};
@@ -207,15 +197,6 @@ pub fn list_is_carried<E: Env, T: PagableSerialize<E> + PagableDeserialize<'stat
     ensures reads { (e : Refusal) → ⟦<Vec<T> as PagableDeserialize<'static, E>>⟧.read_causes e ↔ memory_or T.read_causes e }
 {}
 
-/// A static value is spelled as an index into the environment's registry, means its value whatever its index, and is
-/// refused by want of memory or where it isn't registered; reading it is never refused for a cause of its own.
-pub fn static_value_is_carried<E: Env, T: HasStaticValueRegistry<'static, E> + 'static>()
-    ensures shape { (e : E) → ⟦<StaticValue<'static, T> as Carried<E>>⟧.shape e ≡ static_value (meanings_of T.plain (T.known e)) }
-    ensures means { (v : Static T) (m : Meaning Reference) → ⟦<StaticValue<'static, T> as Carried<E>>⟧.means v m ↔ (m ≡ lifted (T.plain v.0.value.now)) }
-    ensures writes { (e : Refusal) → ⟦<StaticValue<'static, T> as PagableSerialize<E>>⟧.write_causes e ↔ memory_or unregistered e }
-    ensures reads { (e : Refusal) → ⟦<StaticValue<'static, T> as PagableDeserialize<'static, E>>⟧.read_causes e ↔ never e }
-{}
-
 /// A boxed slice is a list.
 pub fn boxed_slice_is_carried<
     E: Env,
@@ -295,10 +276,4 @@ pub fn placed_set_is_carried<
     ensures means { (x : _) (m : Meaning Reference) → ⟦<IndexSet<T> as Carried<E>>⟧.means x m ↔ MeansList T.Carried.means x.keys m }
     ensures writes { (e : Refusal) → ⟦<IndexSet<T> as PagableSerialize<E>>⟧.write_causes e ↔ memory_or T.write_causes e }
     ensures reads { (e : Refusal) → ⟦<IndexSet<T> as PagableDeserialize<'static, E>>⟧.read_causes e ↔ memory_or T.read_causes e }
-{}
-
-/// The forms of static values are read again: each index of a registered value as that value.
-pub fn static_values_are_read_again<E: Env, T: HasStaticValueRegistry<'static, E> + 'static>()
-    ensures readable { (e : E) → IsReadable (static_value (meanings_of T.plain (T.known e))) }
-    ensures value { (e : E) (i : ℕ) (known : Bor T) → slice_get (T.known e) i ≡ Some known → registered (meanings_of T.plain (T.known e)) i ≡ Ok (T.plain known.now) }
 {}

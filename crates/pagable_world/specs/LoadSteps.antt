@@ -23,7 +23,8 @@ use Rattle.pagable_world.specs.declared.events.LoadReply.{LoadReply}
 use Rattle.pagable_world.specs.World.{greatest}
 use Rattle.pagable_world.specs.Words.{changed}
 use Rattle.pagable_world.specs.Whole.{Whole, Root, of_cell, of_type, of_key, Frame, OpenLoad, is_open_load, HasRowOf}
-use Rattle.pagable_world.specs.Seen.{Seen, references_in, SameHandles}
+use Rattle.pagable_world.specs.Seen.{Seen}
+use Rattle.pagable_model.specs.References.{references_in, SameHandles}
 use Rattle.pagable_world.specs.Causes.{Refuses, IsFull, IsNotOpen, IsForeignLoad, OwnsLoad}
 use Rattle.pagable_world.specs.Loads.{from_cache, from_store, AskCall, AdoptCall, EndCall, HandOverCall, LoadCloses, LoadIs}
 

@@ -1,11 +1,11 @@
 -- How the caller's values, the storage's blobs and what is written of a value are seen.
-use Rattle.std.specs.Prelude.{ℕ, ◌≡◌, ◌++◌, Bool, List, [], ◌∷◌, ◌==◌, Result, Ok, Err}
+use Rattle.std.specs.Prelude.{ℕ, ◌≡◌, List, Result, Ok, Err}
 use Rattle.pagable_model.specs.declared.error.Error.{Error}
 use Rattle.pagable_model.specs.declared.numbers.ArcRef.{ArcRef}
-use Rattle.pagable_model.specs.Meaning.{Meaning, number, integer, text, pattern, none, pair, variant, reference, followed}
+use Rattle.pagable_model.specs.Meaning.{Meaning}
 use Rattle.pagable_model.specs.Blob.{Blob, key_of}
 use Rattle.pagable_model.specs.Trees.{Types}
-use Rattle.pagable_world.specs.Words.{times}
+use Rattle.pagable_model.specs.References.{references_in, SameHandles}
 use Rattle.pagable_world.specs.Whole.{Written}
 
 -- What the environment and the storage say of values of the type N, blobs of the type B and what is written, of the type W:
@@ -29,22 +29,6 @@ digest m b = key_of m.hash b
 abbrev pub seen_blob : {B : Type 0} → (B → Blob) → Result B Error → Result Blob Error
 seen_blob f (Ok b) = Ok (f b)
 seen_blob f (Err e) = Err e
-
--- the references in a meaning, from the front
-unfoldable pub references_in : {A : Type 0} → Meaning A → List A
-references_in (number n) = []
-references_in (integer z) = []
-references_in (text t) = []
-references_in (pattern t) = []
-references_in none = []
-references_in (pair a b) = references_in a ++ references_in b
-references_in (variant n a) = references_in a
-references_in (reference a) = a ∷ []
-references_in (followed kind a) = references_in a
-
--- The same handles are named, each as often, in any order: a hash map is written in an order of its own.
-abbrev pub SameHandles : List ArcRef → List ArcRef → Type 0
-SameHandles rs ss = (q : ℕ) → times (λ (r : ArcRef). r.handle.0 == q) rs ≡ times (λ (r : ArcRef). r.handle.0 == q) ss
 
 -- the laws of values that are asked of the caller: a value means something, and refers to what it means to
 pub record IsLawful {N B W : Type 0} (m : Seen N B W) : Type 0 where

@@ -21,7 +21,7 @@ pub enum Beginning {
 }
 
 /// Why a load couldn't end, and whether it was closed by that.
-#[derive(Debug, Drop)]
+#[derive(Drop)]
 pub struct EndRefusal {
     pub error: Error,
     pub closed: bool,

@@ -3,7 +3,7 @@
 use pagable_model::{DataKey, HandleNumber, Kind};
 
 /// One entry of the cache: the handle that it keeps under a kind and a key.
-#[derive(Clone, Copy, Debug, PartialEq)]
+#[derive(Clone, Copy, PartialEq)]
 pub struct CacheRow {
     pub kind: Kind,
     pub key: DataKey,

@@ -13,7 +13,7 @@ pub enum Want {
 }
 
 /// One call of the pager.
-#[derive(Debug, Drop)]
+#[derive(Drop)]
 pub enum Call<N: Drop, B: Drop> {
     /// A node of this value with one Pinned handle.
     NewPinned(N),
@@ -86,7 +86,7 @@ pub enum Call<N: Drop, B: Drop> {
 }
 
 /// What a load's asking gives.
-#[derive(Debug, Drop)]
+#[derive(Drop)]
 pub enum Found<B: Drop> {
     /// A clone of the cached handle, which the load owns.
     Cached(HandleNumber),
@@ -95,7 +95,7 @@ pub enum Found<B: Drop> {
 }
 
 /// What a call answers, by the type of its answer.
-#[derive(Debug, Drop)]
+#[derive(Drop)]
 pub enum Reply<N: Drop, B: Drop> {
     /// Of the calls that make a node of a value: the new handle, or why not and the value.
     Made(Result<HandleNumber, (Error, N)>),

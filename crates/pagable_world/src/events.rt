@@ -10,7 +10,7 @@ use pagable_model::{DataKey, Error, HandleNumber, Identity, LoadNumber, WorkerNu
 pub struct TableNumber(pub u64);
 
 /// One event: a call, or a step of a load or of a page-out worker.
-#[derive(Debug, Drop)]
+#[derive(Drop)]
 pub enum Event<N: Drop, B: Drop, W: Drop> {
     /// One call of the pager.
     Call(Call<N, B>),
@@ -31,7 +31,7 @@ pub enum Event<N: Drop, B: Drop, W: Drop> {
 }
 
 /// What ends a load.
-#[derive(Debug, Drop)]
+#[derive(Drop)]
 pub enum LoadAnswer<N: Drop> {
     /// The cell's value is in memory, and this is the new Pinned handle.
     Pinned(HandleNumber),
@@ -42,7 +42,7 @@ pub enum LoadAnswer<N: Drop> {
 }
 
 /// What a step of a load answers: what ended it, or None while there is more; and how many steps it has made.
-#[derive(Debug, Drop)]
+#[derive(Drop)]
 pub struct LoadReply<N: Drop> {
     pub ended: Option<LoadAnswer<N>>,
     pub steps: u64,
@@ -73,7 +73,7 @@ pub enum PinStep {
 }
 
 /// A step of a worker, by its kind, with what its call answered.
-#[derive(Debug, Drop)]
+#[derive(Drop)]
 pub enum Took<W: Drop> {
     /// Claims an identity.
     Claim(Identity, Result<Claim, Error>),
@@ -94,7 +94,7 @@ pub enum Took<W: Drop> {
 }
 
 /// What a worker answers in the end.
-#[derive(Debug, Drop)]
+#[derive(Drop)]
 pub enum WorkerAnswer {
     /// The key of its item or listed cell.
     Key(DataKey),
@@ -106,7 +106,7 @@ pub enum WorkerAnswer {
 
 /// What a step of a worker answers: what it was, the worker's answer if it was the last, and how many steps the worker
 /// has made.
-#[derive(Debug, Drop)]
+#[derive(Drop)]
 pub struct WorkerReply<W: Drop> {
     pub took: Took<W>,
     pub answer: Option<WorkerAnswer>,
@@ -114,7 +114,7 @@ pub struct WorkerReply<W: Drop> {
 }
 
 /// What an event answers.
-#[derive(Debug, Drop)]
+#[derive(Drop)]
 pub enum EventReply<N: Drop, B: Drop, W: Drop> {
     /// What the call answered.
     CallReply(Reply<N, B>),

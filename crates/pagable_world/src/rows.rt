@@ -33,7 +33,7 @@ pub enum Owner {
 }
 
 /// One live node.
-#[derive(Clone, Copy, Debug, PartialEq)]
+#[derive(Clone, Copy, PartialEq)]
 pub struct NodeRow {
     /// From 1 on, never used again.
     pub number: NodeNumber,
@@ -46,7 +46,7 @@ pub struct NodeRow {
 }
 
 /// One live handle.
-#[derive(Clone, Copy, Debug, PartialEq)]
+#[derive(Clone, Copy, PartialEq)]
 pub struct HandleRow {
     /// From 1 on, never used again.
     pub number: HandleNumber,
@@ -59,7 +59,7 @@ pub struct HandleRow {
 }
 
 /// One open load.
-#[derive(Clone, Copy, Debug, PartialEq)]
+#[derive(Clone, Copy, PartialEq)]
 pub struct LoadRow {
     /// From 1 on, never used again.
     pub number: LoadNumber,

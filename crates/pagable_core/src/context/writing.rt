@@ -4,7 +4,7 @@ ghost use Rattle.std.specs.Prelude.{◌≡◌, refl, [], length, IsOk, IfOk};
 ghost use Rattle.pagable_core.specs.Context.{nothing, out_of};
 
 use pagable_flavors::{Error, PagableVecFlavor};
-use pagable_traits::{ArcRef, Env, PagableCursor, PagableSerializer};
+use pagable_codec::{ArcRef, Env, PagableCursor, PagableSerializer};
 use std::alloc::Global;
 
 /// A value in bytes, with its references in the order in which they were written.

@@ -5,7 +5,7 @@ ghost use Rattle.pagable_model.specs.Blob.{key_of, number_of_hash};
 ghost use Rattle.pagable_core.specs.Data.{blob_of};
 
 use pagable_flavors::DataKey;
-use pagable_traits::KeyHash;
+use pagable_codec::KeyHash;
 
 /// A value as it is stored: its bytes, and the keys of what it refers to, in the order of the references.
 #[derive(Debug, PartialEq, Drop)]

@@ -4,7 +4,7 @@ ghost use Rattle.std.specs.Prelude.{◌≡◌, refl};
 ghost use Rattle.pagable_core.specs.Context.{nothing, pair_out};
 
 use pagable_flavors::{Error, PagableVecFlavor};
-use pagable_traits::{ArcRef, Env, PagableCursor, PagableSerializer};
+use pagable_codec::{ArcRef, Env, PagableCursor, PagableSerializer};
 use std::alloc::Global;
 
 /// The serializer that page-out writes a value to. It is lent the environment, and its writing takes no lock.

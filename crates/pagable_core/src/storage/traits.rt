@@ -8,7 +8,7 @@ ghost use Rattle.pagable_model.specs.Stored.{Adds, RefusesFetch, RefusesStore, R
 
 use crate::storage::data::PagableData;
 use pagable_flavors::{DataKey, Error};
-use pagable_traits::Env;
+use pagable_codec::Env;
 use std::alloc::Global;
 use std::sync::Arc;
 

@@ -4,7 +4,7 @@ ghost use Rattle.std.specs.Prelude.{◌≡◌, ◌%◌, ◌^◌, ◌+◌, List, 
 ghost use Rattle.pagable_model.specs.Blob.{weigh_hash};
 ghost use Rattle.pagable_core.specs.Data.{IsWeighed};
 
-use pagable_traits::KeyHash;
+use pagable_codec::KeyHash;
 
 /// The sum of each byte times its place, from 1 on, modulo 2^128: a hash for tests, which anyone can compute by hand
 /// and which has collisions.

@@ -1,8 +1,9 @@
-//! Flags, lengths and texts are read.
+//! Flags, lengths, texts and byte arrays are read.
 
 ghost use Rattle.std.specs.Prelude.{◌≡◌};
 ghost use Rattle.pagable_model.specs.Track.{left, GoesOn};
 ghost use Rattle.pagable_model.specs.Gives.{Gives, never};
+ghost use Rattle.pagable_model.specs.ByteArrays.{byte_array_at};
 ghost use Rattle.pagable_model.specs.Basic.{bool_at, length_at, text_at, char_at};
 
 use super::PagableSlice;
@@ -48,6 +49,17 @@ impl<'de> PagableSlice<'de> {
             Ok(text) => Ok(text),
             Err(_) => Err(Error::BadUtf8),
         }
+    }
+
+    /// A byte array, which stays where it is among the bytes. `TooLong`, then `UnexpectedEnd`.
+    #[tactic(auto, unfolding(pagable_model::specs::ByteArrays::byte_array_at))]
+    pub fn read_bytes(&mut self) -> Result<&'de [u8], Error>
+        ensures gives { Gives never (λ b. (b.now, left self.new)) result (byte_array_at (left self.old)) }
+        ensures goes { GoesOn self.old self.new }
+    {
+        let count = self.read_len()?;
+        let array = self.try_take_n(count)?;
+        Ok(array)
     }
 
     /// A character, which is the text of that character alone. The refusals of a text come first, and then `BadChar`.

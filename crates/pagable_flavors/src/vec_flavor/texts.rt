@@ -1,8 +1,9 @@
-//! Flags, lengths and texts are written.
+//! Flags, lengths, texts and byte arrays are written.
 
 ghost use Rattle.std.specs.Prelude.{◌≡◌, ◌≤◌, ◌<◌, ◌++◌, length, OnOk, IfErr};
 ghost use Rattle.pagable_model.specs.Gives.{memory, Extends};
 ghost use Rattle.pagable_model.specs.Basic.{longest, bool_form, length_form, text_form, char_form};
+ghost use Rattle.pagable_model.specs.ByteArrays.{byte_array_form};
 ghost use Rattle.pagable_model.specs.Lengths.{long_or_memory};
 
 use super::{LONGEST, PagableVecFlavor};
@@ -44,6 +45,19 @@ impl PagableVecFlavor {
     {
         self.write_len(text.len())?;
         self.try_extend(text.as_bytes())
+    }
+
+    /// A byte array: its length, and its bytes. `TooLong` above 4,294,967,295 bytes, and nothing is written then;
+    /// `OutOfMemory` where the writer can't grow.
+    pub fn write_bytes(&mut self, bytes: &[u8]) -> Result<(), Error>
+        ensures ok { OnOk result (self.new ≡ self.old ++ byte_array_form bytes.now) }
+        ensures fits { OnOk result (length bytes.now ≤ longest) }
+        ensures only { IfErr result (long_or_memory (length bytes.now)) }
+        ensures err { Extends self.old self.new }
+        ensures unwritten { longest < length bytes.now → self.new ≡ self.old }
+    {
+        self.write_len(bytes.len())?;
+        self.try_extend(bytes)
     }
 
     /// A character, as the text of that character. `OutOfMemory` where the writer can't grow.

@@ -5,12 +5,12 @@ ghost use Rattle.pagable_model.specs.Gives.{never, memory};
 ghost use Rattle.pagable_model.specs.Meaning.{number, none, flag as flag_meaning};
 ghost use Rattle.pagable_model.specs.Shape.{flag, letter, nothing};
 ghost use Rattle.pagable_model.specs.Standing.{Is};
-ghost use Rattle.pagable_traits.specs.Causes.{never_is_own_reading, never_is_own_writing, memory_is_own_writing};
+ghost use Rattle.pagable_model.specs.Causes.{never_is_own_reading, never_is_own_writing, memory_is_own_writing};
 
-use crate::deserializer::PagableDeserializer;
-use crate::env::Env;
-use crate::reader::Reader;
-use crate::serializer::PagableSerializer;
+use pagable_codec::deserializer::PagableDeserializer;
+use pagable_codec::env::Env;
+use pagable_codec::reader::Reader;
+use pagable_codec::serializer::PagableSerializer;
 use crate::traits::{Carried, OneMeaning, PagableDeserialize, PagableSerialize};
 use pagable_flavors::Error;
 use std::alloc::Global;
@@ -36,7 +36,7 @@ impl<E: Env> PagableSerialize<E> for bool {
 
     ghost write_causes_are_own = { memory_is_own_writing };
 
-    #[tactic(auto, using(crate::proofs::Writing::parts))]
+    #[tactic(auto, using(pagable_codec::proofs::Writing::parts))]
     fn pagable_serialize<S: PagableSerializer<E>>(&self, serializer: &mut S) -> Result<(), Error> {
         serializer.serde().write_bool(*self)
     }
@@ -47,7 +47,7 @@ impl<'de, E: Env> PagableDeserialize<'de, E> for bool {
 
     ghost read_causes_are_own = { never_is_own_reading };
 
-    #[tactic(auto, unfolding(pagable_model::specs::Reading::read, pagable_model::specs::Reading::read_with), using(crate::proofs::Reading::parts))]
+    #[tactic(auto, unfolding(pagable_model::specs::Reading::read, pagable_model::specs::Reading::read_with), using(pagable_codec::proofs::Reading::parts))]
     fn pagable_deserialize<D: PagableDeserializer<E>>(
         _alloc: Global,
         deserializer: &mut D,
@@ -77,7 +77,7 @@ impl<E: Env> PagableSerialize<E> for char {
 
     ghost write_causes_are_own = { memory_is_own_writing };
 
-    #[tactic(auto, using(crate::proofs::Writing::parts))]
+    #[tactic(auto, using(pagable_codec::proofs::Writing::parts))]
     fn pagable_serialize<S: PagableSerializer<E>>(&self, serializer: &mut S) -> Result<(), Error> {
         serializer.serde().write_char(*self)
     }
@@ -88,7 +88,7 @@ impl<'de, E: Env> PagableDeserialize<'de, E> for char {
 
     ghost read_causes_are_own = { never_is_own_reading };
 
-    #[tactic(auto, unfolding(pagable_model::specs::Reading::read, pagable_model::specs::Reading::read_with), using(crate::proofs::Reading::parts))]
+    #[tactic(auto, unfolding(pagable_model::specs::Reading::read, pagable_model::specs::Reading::read_with), using(pagable_codec::proofs::Reading::parts))]
     fn pagable_deserialize<D: PagableDeserializer<E>>(
         _alloc: Global,
         deserializer: &mut D,
@@ -118,7 +118,7 @@ impl<E: Env> PagableSerialize<E> for () {
 
     ghost write_causes_are_own = { never_is_own_writing };
 
-    #[tactic(auto, using(crate::proofs::Writing::parts))]
+    #[tactic(auto, using(pagable_codec::proofs::Writing::parts))]
     fn pagable_serialize<S: PagableSerializer<E>>(&self, _serializer: &mut S) -> Result<(), Error> {
         Ok(())
     }
@@ -129,7 +129,7 @@ impl<'de, E: Env> PagableDeserialize<'de, E> for () {
 
     ghost read_causes_are_own = { never_is_own_reading };
 
-    #[tactic(auto, unfolding(pagable_model::specs::Reading::read, pagable_model::specs::Reading::read_with), using(crate::proofs::Reading::parts))]
+    #[tactic(auto, unfolding(pagable_model::specs::Reading::read, pagable_model::specs::Reading::read_with), using(pagable_codec::proofs::Reading::parts))]
     fn pagable_deserialize<D: PagableDeserializer<E>>(
         _alloc: Global,
         _deserializer: &mut D,

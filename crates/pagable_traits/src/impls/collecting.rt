@@ -4,11 +4,11 @@ ghost use Rattle.std.specs.Prelude.{◌≡◌, List, [], OnOk, IfOk, IfErr};
 ghost use Rattle.pagable_model.specs.Gives.{memory, memory_or};
 ghost use Rattle.pagable_model.specs.Reading.{items, read};
 ghost use Rattle.pagable_model.specs.Standing.{handles_at, MovesOn, GivesSome};
-ghost use Rattle.pagable_traits.specs.Collected.{Collected};
+ghost use Rattle.pagable_model.specs.Collected.{Collected};
 
-use crate::deserializer::PagableDeserializer;
-use crate::env::Env;
-use crate::impls::lists::places_for;
+use pagable_codec::deserializer::PagableDeserializer;
+use pagable_codec::env::Env;
+use pagable_codec::parts::places_for;
 use crate::traits::PagableDeserialize;
 use pagable_flavors::Error;
 use std::alloc::Global;

@@ -4,13 +4,13 @@ ghost use Rattle.pagable_model.specs.Carried.{of_option};
 ghost use Rattle.pagable_model.specs.Gives.{memory_or, either};
 ghost use Rattle.pagable_model.specs.Meaning.{pair};
 ghost use Rattle.pagable_model.specs.Shape.{optional, both};
-ghost use Rattle.pagable_traits.specs.Causes.{memory_or_is_own_reading, memory_or_is_own_writing, either_is_own_reading, either_is_own_writing};
+ghost use Rattle.pagable_model.specs.Causes.{memory_or_is_own_reading, memory_or_is_own_writing, either_is_own_reading, either_is_own_writing};
 ghost use Rattle.pagable_model.specs.Lifted.{MeansOption, option_has_meaning, option_is_meaning, option_single, MeansPair, pair_has_meaning, pair_is_meaning, pair_single};
 
-use crate::deserializer::PagableDeserializer;
-use crate::env::Env;
-use crate::impls::parts::{read_flag, write_flag};
-use crate::serializer::PagableSerializer;
+use pagable_codec::deserializer::PagableDeserializer;
+use pagable_codec::env::Env;
+use pagable_codec::parts::{read_flag, write_flag};
+use pagable_codec::serializer::PagableSerializer;
 use crate::traits::{Carried, OneMeaning, PagableDeserialize, PagableSerialize};
 use pagable_flavors::Error;
 use std::alloc::Global;
@@ -36,7 +36,7 @@ impl<E: Env, T: PagableSerialize<E>> PagableSerialize<E> for Option<T> {
 
     ghost write_causes_are_own = { memory_or_is_own_writing T.write_causes T.write_causes_are_own };
 
-    #[tactic(auto, using(crate::proofs::Writing::parts, crate::proofs::Parts::options, crate::proofs::Parts::causes, crate::proofs::Parts::steps))]
+    #[tactic(auto, using(pagable_codec::proofs::Writing::parts, crate::proofs::Parts::options, crate::proofs::Parts::causes, pagable_codec::proofs::Adding::steps))]
     fn pagable_serialize<S: PagableSerializer<E>>(&self, serializer: &mut S) -> Result<(), Error> {
         match self {
             None => write_flag(false, serializer),
@@ -53,7 +53,7 @@ impl<'de, E: Env, T: PagableDeserialize<'de, E>> PagableDeserialize<'de, E> for 
 
     ghost read_causes_are_own = { T.read_causes_are_own };
 
-    #[tactic(auto, unfolding(pagable_model::specs::Reading::read, pagable_model::specs::Reading::read_with), using(crate::proofs::Reading::parts, crate::proofs::Parts::options))]
+    #[tactic(auto, unfolding(pagable_model::specs::Reading::read, pagable_model::specs::Reading::read_with), using(pagable_codec::proofs::Reading::parts, crate::proofs::Parts::options))]
     fn pagable_deserialize<D: PagableDeserializer<E>>(
         alloc: Global,
         deserializer: &mut D,
@@ -127,7 +127,7 @@ impl<E: Env, A: PagableSerialize<E>, B: PagableSerialize<E>> PagableSerialize<E>
 
     ghost write_causes_are_own = { either_is_own_writing A.write_causes B.write_causes A.write_causes_are_own B.write_causes_are_own };
 
-    #[tactic(auto, using(crate::proofs::Writing::parts, crate::proofs::Parts::pairs, crate::proofs::Parts::causes))]
+    #[tactic(auto, using(pagable_codec::proofs::Writing::parts, crate::proofs::Parts::pairs, crate::proofs::Parts::causes))]
     fn pagable_serialize<S: PagableSerializer<E>>(&self, serializer: &mut S) -> Result<(), Error> {
         self.0.pagable_serialize(serializer)?;
         self.1.pagable_serialize(serializer)
@@ -144,7 +144,7 @@ impl<
 
     ghost read_causes_are_own = { either_is_own_reading A.read_causes B.read_causes A.read_causes_are_own B.read_causes_are_own };
 
-    #[tactic(auto, unfolding(pagable_model::specs::Reading::read, pagable_model::specs::Reading::read_with), using(crate::proofs::Reading::parts, crate::proofs::Parts::pairs))]
+    #[tactic(auto, unfolding(pagable_model::specs::Reading::read, pagable_model::specs::Reading::read_with), using(pagable_codec::proofs::Reading::parts, crate::proofs::Parts::pairs))]
     fn pagable_deserialize<D: PagableDeserializer<E>>(
         alloc: Global,
         deserializer: &mut D,

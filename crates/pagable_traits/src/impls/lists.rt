@@ -7,14 +7,14 @@ ghost use Rattle.pagable_model.specs.Shape.{list};
 ghost use Rattle.pagable_model.specs.Reading.{items, read};
 ghost use Rattle.pagable_model.specs.Standing.{handles_at, MovesOn, GivesSome};
 ghost use Rattle.pagable_model.specs.Writing.{nesting, WritesSome, WritesSomeAll, Refused, RefusedAll, IsRefusal, Grows};
-ghost use Rattle.pagable_traits.specs.Causes.{memory_or_is_own_reading, memory_or_is_own_writing};
+ghost use Rattle.pagable_model.specs.Causes.{memory_or_is_own_reading, memory_or_is_own_writing};
 ghost use Rattle.pagable_model.specs.Lifted.{MeanAll, MeansList, list_has_meaning, list_is_meaning, list_single};
 
-use crate::deserializer::PagableDeserializer;
-use crate::env::Env;
-use crate::impls::parts::{read_count, write_count};
-use crate::reader::Reader;
-use crate::serializer::PagableSerializer;
+use pagable_codec::deserializer::PagableDeserializer;
+use pagable_codec::env::Env;
+use pagable_codec::parts::{places_for, read_count, write_count};
+use pagable_codec::reader::Reader;
+use pagable_codec::serializer::PagableSerializer;
 use crate::traits::{Carried, OneMeaning, PagableDeserialize, PagableSerialize};
 use pagable_flavors::Error;
 use std::alloc::Global;
@@ -39,7 +39,7 @@ pub fn write_items<E: Env, T: PagableSerialize<E>, S: PagableSerializer<E>>(
 }
 
 /// Writes the count of the items, and then the items. TooLong above 4,294,967,295 items, before any item.
-#[tactic(auto, using(crate::proofs::Writing::parts, crate::proofs::Items::lists, crate::proofs::Parts::causes))]
+#[tactic(auto, using(pagable_codec::proofs::Writing::parts, crate::proofs::Items::lists, crate::proofs::Parts::causes))]
 pub fn write_list<E: Env, T: PagableSerialize<E>, S: PagableSerializer<E>>(
     values: &[T],
     serializer: &mut S,
@@ -53,18 +53,6 @@ pub fn write_list<E: Env, T: PagableSerialize<E>, S: PagableSerializer<E>>(
 {
     write_count(values.len(), serializer)?;
     write_items(values, serializer)
-}
-
-/// How many places to reserve for so many items: no more than bytes are left, so that a count alone takes no memory.
-#[tactic(auto, using(crate::proofs::Reading::parts))]
-pub fn places_for<E: Env, D: PagableDeserializer<E>>(count: usize, deserializer: &mut D) -> usize
-    ensures few { result ≡ min count (length (D.rest deserializer.old).bytes) }
-    ensures same_rest { D.rest deserializer.new ≡ D.rest deserializer.old }
-    ensures moves { MovesOn (D.standing deserializer.old) (D.standing deserializer.new) }
-    ensures same_env { D.environment deserializer.new ≡ D.environment deserializer.old }
-    ensures same_levels { D.levels deserializer.new ≡ D.levels deserializer.old }
-{
-    count.min(deserializer.serde().size_hint())
 }
 
 /// Reads this many items. A refusal is the first item's that is refused, or want of memory. As many places as bytes are
@@ -121,7 +109,7 @@ impl<'de, E: Env, T: PagableDeserialize<'de, E> + Drop> PagableDeserialize<'de, 
 
     ghost read_causes_are_own = { memory_or_is_own_reading T.read_causes T.read_causes_are_own };
 
-    #[tactic(auto, unfolding(pagable_model::specs::Reading::read, pagable_model::specs::Reading::read_with), using(crate::proofs::Reading::parts, crate::proofs::Items::lists))]
+    #[tactic(auto, unfolding(pagable_model::specs::Reading::read, pagable_model::specs::Reading::read_with), using(pagable_codec::proofs::Reading::parts, crate::proofs::Items::lists))]
     fn pagable_deserialize<D: PagableDeserializer<E>>(
         alloc: Global,
         deserializer: &mut D,

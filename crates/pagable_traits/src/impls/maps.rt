@@ -6,22 +6,22 @@ ghost use Rattle.pagable_model.specs.Gives.{memory_or, either};
 ghost use Rattle.pagable_model.specs.Meaning.{pair, sequence};
 ghost use Rattle.pagable_model.specs.Shape.{both, sorted_map};
 ghost use Rattle.pagable_model.specs.Writing.{nesting, WritesSome, WritesSomeAll, Refused, RefusedAll, IsRefusal, Grows};
-ghost use Rattle.pagable_traits.specs.Causes.{memory_or_is_own_reading, memory_or_is_own_writing, either_is_own_reading, either_is_own_writing};
+ghost use Rattle.pagable_model.specs.Causes.{memory_or_is_own_reading, memory_or_is_own_writing, either_is_own_reading, either_is_own_writing};
 ghost use Rattle.pagable_model.specs.Lifted.{MeanAll, MeansList, MeansPair, list_has_meaning, pair_has_meaning, list_is_meaning, pair_is_meaning, list_single, pair_single};
 
-use crate::deserializer::PagableDeserializer;
-use crate::env::Env;
+use pagable_codec::deserializer::PagableDeserializer;
+use pagable_codec::env::Env;
 use crate::impls::collecting::{Collects, collect_items};
-use crate::impls::parts::{read_count, write_count};
+use pagable_codec::parts::{read_count, write_count};
 use crate::keys::PagableOrdKey;
-use crate::serializer::PagableSerializer;
+use pagable_codec::serializer::PagableSerializer;
 use crate::traits::{Carried, OneMeaning, PagableDeserialize, PagableSerialize};
 use pagable_flavors::Error;
 use std::alloc::Global;
 use std::collections::BTreeMap;
 
 /// Writes a key and its value, one after the other. A refusal is the key's, or else the value's.
-#[tactic(auto, using(crate::proofs::Writing::parts, crate::proofs::Parts::pairs, crate::proofs::Parts::causes, crate::proofs::Maps::entries))]
+#[tactic(auto, using(pagable_codec::proofs::Writing::parts, crate::proofs::Parts::pairs, crate::proofs::Parts::causes, crate::proofs::Maps::entries))]
 pub fn write_entry<E: Env, K: PagableSerialize<E>, V: PagableSerialize<E>, S: PagableSerializer<E>>(
     key: &K,
     value: &V,
@@ -99,7 +99,7 @@ impl<E: Env, K: PagableOrdKey<E> + PagableSerialize<E>, V: PagableSerialize<E>> 
 
     ghost write_causes_are_own = { memory_or_is_own_writing (either K.write_causes V.write_causes) (either_is_own_writing K.write_causes V.write_causes K.write_causes_are_own V.write_causes_are_own) };
 
-    #[tactic(auto, using(crate::proofs::Writing::parts, crate::proofs::Items::lists, crate::proofs::Maps::sorted_maps, crate::proofs::Parts::causes))]
+    #[tactic(auto, using(pagable_codec::proofs::Writing::parts, crate::proofs::Items::lists, crate::proofs::Maps::sorted_maps, crate::proofs::Parts::causes))]
     fn pagable_serialize<S: PagableSerializer<E>>(&self, serializer: &mut S) -> Result<(), Error> {
         write_count(self.len(), serializer)?;
         write_sorted_entries(self, serializer)?;
@@ -117,7 +117,7 @@ impl<
 
     ghost read_causes_are_own = { memory_or_is_own_reading (either K.read_causes V.read_causes) (either_is_own_reading K.read_causes V.read_causes K.read_causes_are_own V.read_causes_are_own) };
 
-    #[tactic(auto, unfolding(pagable_model::specs::Reading::read, pagable_model::specs::Reading::read_with), using(crate::proofs::Reading::parts))]
+    #[tactic(auto, unfolding(pagable_model::specs::Reading::read, pagable_model::specs::Reading::read_with), using(pagable_codec::proofs::Reading::parts))]
     fn pagable_deserialize<D: PagableDeserializer<E>>(
         alloc: Global,
         deserializer: &mut D,

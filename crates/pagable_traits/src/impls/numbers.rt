@@ -6,12 +6,12 @@ ghost use Rattle.pagable_model.specs.Gives.{never, memory};
 ghost use Rattle.pagable_model.specs.Meaning.{number};
 ghost use Rattle.pagable_model.specs.Shape.{unsigned};
 ghost use Rattle.pagable_model.specs.Standing.{Is};
-ghost use Rattle.pagable_traits.specs.Causes.{never_is_own_reading, memory_is_own_writing};
+ghost use Rattle.pagable_model.specs.Causes.{never_is_own_reading, memory_is_own_writing};
 
-use crate::deserializer::PagableDeserializer;
-use crate::env::Env;
-use crate::reader::Reader;
-use crate::serializer::PagableSerializer;
+use pagable_codec::deserializer::PagableDeserializer;
+use pagable_codec::env::Env;
+use pagable_codec::reader::Reader;
+use pagable_codec::serializer::PagableSerializer;
 use crate::traits::{Carried, OneMeaning, PagableDeserialize, PagableSerialize};
 use pagable_flavors::Error;
 use std::alloc::Global;
@@ -37,7 +37,7 @@ impl<E: Env> PagableSerialize<E> for u8 {
 
     ghost write_causes_are_own = { memory_is_own_writing };
 
-    #[tactic(auto, using(crate::proofs::Writing::parts))]
+    #[tactic(auto, using(pagable_codec::proofs::Writing::parts))]
     fn pagable_serialize<S: PagableSerializer<E>>(&self, serializer: &mut S) -> Result<(), Error> {
         serializer.serde().write_u8(*self)
     }
@@ -48,7 +48,7 @@ impl<'de, E: Env> PagableDeserialize<'de, E> for u8 {
 
     ghost read_causes_are_own = { never_is_own_reading };
 
-    #[tactic(auto, unfolding(pagable_model::specs::Reading::read, pagable_model::specs::Reading::read_with), using(crate::proofs::Reading::parts))]
+    #[tactic(auto, unfolding(pagable_model::specs::Reading::read, pagable_model::specs::Reading::read_with), using(pagable_codec::proofs::Reading::parts))]
     fn pagable_deserialize<D: PagableDeserializer<E>>(
         _alloc: Global,
         deserializer: &mut D,
@@ -78,7 +78,7 @@ impl<E: Env> PagableSerialize<E> for u16 {
 
     ghost write_causes_are_own = { memory_is_own_writing };
 
-    #[tactic(auto, using(crate::proofs::Writing::parts))]
+    #[tactic(auto, using(pagable_codec::proofs::Writing::parts))]
     fn pagable_serialize<S: PagableSerializer<E>>(&self, serializer: &mut S) -> Result<(), Error> {
         serializer.serde().write_u16(*self)
     }
@@ -89,7 +89,7 @@ impl<'de, E: Env> PagableDeserialize<'de, E> for u16 {
 
     ghost read_causes_are_own = { never_is_own_reading };
 
-    #[tactic(auto, unfolding(pagable_model::specs::Reading::read, pagable_model::specs::Reading::read_with), using(crate::proofs::Reading::parts))]
+    #[tactic(auto, unfolding(pagable_model::specs::Reading::read, pagable_model::specs::Reading::read_with), using(pagable_codec::proofs::Reading::parts))]
     fn pagable_deserialize<D: PagableDeserializer<E>>(
         _alloc: Global,
         deserializer: &mut D,
@@ -119,7 +119,7 @@ impl<E: Env> PagableSerialize<E> for u32 {
 
     ghost write_causes_are_own = { memory_is_own_writing };
 
-    #[tactic(auto, using(crate::proofs::Writing::parts))]
+    #[tactic(auto, using(pagable_codec::proofs::Writing::parts))]
     fn pagable_serialize<S: PagableSerializer<E>>(&self, serializer: &mut S) -> Result<(), Error> {
         serializer.serde().write_u32(*self)
     }
@@ -130,7 +130,7 @@ impl<'de, E: Env> PagableDeserialize<'de, E> for u32 {
 
     ghost read_causes_are_own = { never_is_own_reading };
 
-    #[tactic(auto, unfolding(pagable_model::specs::Reading::read, pagable_model::specs::Reading::read_with), using(crate::proofs::Reading::parts))]
+    #[tactic(auto, unfolding(pagable_model::specs::Reading::read, pagable_model::specs::Reading::read_with), using(pagable_codec::proofs::Reading::parts))]
     fn pagable_deserialize<D: PagableDeserializer<E>>(
         _alloc: Global,
         deserializer: &mut D,
@@ -160,7 +160,7 @@ impl<E: Env> PagableSerialize<E> for u64 {
 
     ghost write_causes_are_own = { memory_is_own_writing };
 
-    #[tactic(auto, using(crate::proofs::Writing::parts))]
+    #[tactic(auto, using(pagable_codec::proofs::Writing::parts))]
     fn pagable_serialize<S: PagableSerializer<E>>(&self, serializer: &mut S) -> Result<(), Error> {
         serializer.serde().write_u64(*self)
     }
@@ -171,7 +171,7 @@ impl<'de, E: Env> PagableDeserialize<'de, E> for u64 {
 
     ghost read_causes_are_own = { never_is_own_reading };
 
-    #[tactic(auto, unfolding(pagable_model::specs::Reading::read, pagable_model::specs::Reading::read_with), using(crate::proofs::Reading::parts))]
+    #[tactic(auto, unfolding(pagable_model::specs::Reading::read, pagable_model::specs::Reading::read_with), using(pagable_codec::proofs::Reading::parts))]
     fn pagable_deserialize<D: PagableDeserializer<E>>(
         _alloc: Global,
         deserializer: &mut D,
@@ -201,7 +201,7 @@ impl<E: Env> PagableSerialize<E> for u128 {
 
     ghost write_causes_are_own = { memory_is_own_writing };
 
-    #[tactic(auto, using(crate::proofs::Writing::parts))]
+    #[tactic(auto, using(pagable_codec::proofs::Writing::parts))]
     fn pagable_serialize<S: PagableSerializer<E>>(&self, serializer: &mut S) -> Result<(), Error> {
         serializer.serde().write_u128(*self)
     }
@@ -212,7 +212,7 @@ impl<'de, E: Env> PagableDeserialize<'de, E> for u128 {
 
     ghost read_causes_are_own = { never_is_own_reading };
 
-    #[tactic(auto, unfolding(pagable_model::specs::Reading::read, pagable_model::specs::Reading::read_with), using(crate::proofs::Reading::parts))]
+    #[tactic(auto, unfolding(pagable_model::specs::Reading::read, pagable_model::specs::Reading::read_with), using(pagable_codec::proofs::Reading::parts))]
     fn pagable_deserialize<D: PagableDeserializer<E>>(
         _alloc: Global,
         deserializer: &mut D,
@@ -242,7 +242,7 @@ impl<E: Env> PagableSerialize<E> for usize {
 
     ghost write_causes_are_own = { memory_is_own_writing };
 
-    #[tactic(auto, using(crate::proofs::Writing::parts))]
+    #[tactic(auto, using(pagable_codec::proofs::Writing::parts))]
     fn pagable_serialize<S: PagableSerializer<E>>(&self, serializer: &mut S) -> Result<(), Error> {
         serializer.serde().write_usize(*self)
     }
@@ -253,7 +253,7 @@ impl<'de, E: Env> PagableDeserialize<'de, E> for usize {
 
     ghost read_causes_are_own = { never_is_own_reading };
 
-    #[tactic(auto, unfolding(pagable_model::specs::Reading::read, pagable_model::specs::Reading::read_with), using(crate::proofs::Reading::parts))]
+    #[tactic(auto, unfolding(pagable_model::specs::Reading::read, pagable_model::specs::Reading::read_with), using(pagable_codec::proofs::Reading::parts))]
     fn pagable_deserialize<D: PagableDeserializer<E>>(
         _alloc: Global,
         deserializer: &mut D,

@@ -7,16 +7,16 @@ ghost use Rattle.pagable_model.specs.Gives.{memory_or};
 ghost use Rattle.pagable_model.specs.Meaning.{sequence};
 ghost use Rattle.pagable_model.specs.Shape.{sorted_set, placed_set};
 ghost use Rattle.pagable_model.specs.Writing.{nesting, WritesSomeAll, RefusedAll, IsRefusal, Grows};
-ghost use Rattle.pagable_traits.specs.Causes.{memory_or_is_own_reading, memory_or_is_own_writing};
+ghost use Rattle.pagable_model.specs.Causes.{memory_or_is_own_reading, memory_or_is_own_writing};
 ghost use Rattle.pagable_model.specs.Lifted.{MeanAll, MeansList, list_has_meaning, list_is_meaning, list_single};
 
-use crate::deserializer::PagableDeserializer;
-use crate::env::Env;
+use pagable_codec::deserializer::PagableDeserializer;
+use pagable_codec::env::Env;
 use crate::impls::collecting::{Collects, collect_items};
 use crate::impls::lists::write_items;
-use crate::impls::parts::{read_count, write_count};
+use pagable_codec::parts::{read_count, write_count};
 use crate::keys::{PagableKey, PagableOrdKey};
-use crate::serializer::PagableSerializer;
+use pagable_codec::serializer::PagableSerializer;
 use crate::traits::{Carried, OneMeaning, PagableDeserialize, PagableSerialize};
 use indexmap::IndexSet;
 use pagable_flavors::Error;
@@ -79,7 +79,7 @@ impl<E: Env, T: PagableOrdKey<E> + PagableSerialize<E>> PagableSerialize<E> for 
 
     ghost write_causes_are_own = { memory_or_is_own_writing T.write_causes T.write_causes_are_own };
 
-    #[tactic(auto, using(crate::proofs::Writing::parts, crate::proofs::Items::lists, crate::proofs::Sets::sorted_sets, crate::proofs::Parts::causes))]
+    #[tactic(auto, using(pagable_codec::proofs::Writing::parts, crate::proofs::Items::lists, crate::proofs::Sets::sorted_sets, crate::proofs::Parts::causes))]
     fn pagable_serialize<S: PagableSerializer<E>>(&self, serializer: &mut S) -> Result<(), Error> {
         write_count(self.len(), serializer)?;
         write_sorted_items(self, serializer)?;
@@ -95,7 +95,7 @@ impl<'de, E: Env, T: PagableOrdKey<E> + PagableDeserialize<'de, E> + Drop> Pagab
 
     ghost read_causes_are_own = { memory_or_is_own_reading T.read_causes T.read_causes_are_own };
 
-    #[tactic(auto, unfolding(pagable_model::specs::Reading::read, pagable_model::specs::Reading::read_with), using(crate::proofs::Reading::parts))]
+    #[tactic(auto, unfolding(pagable_model::specs::Reading::read, pagable_model::specs::Reading::read_with), using(pagable_codec::proofs::Reading::parts))]
     fn pagable_deserialize<D: PagableDeserializer<E>>(
         alloc: Global,
         deserializer: &mut D,
@@ -143,7 +143,7 @@ impl<E: Env, T: PagableKey<E> + Hash + PagableSerialize<E>> PagableSerialize<E> 
 
     ghost write_causes_are_own = { memory_or_is_own_writing T.write_causes T.write_causes_are_own };
 
-    #[tactic(auto, using(crate::proofs::Writing::parts, crate::proofs::Items::lists, crate::proofs::Sets::placed_sets, crate::proofs::Parts::causes))]
+    #[tactic(auto, using(pagable_codec::proofs::Writing::parts, crate::proofs::Items::lists, crate::proofs::Sets::placed_sets, crate::proofs::Parts::causes))]
     fn pagable_serialize<S: PagableSerializer<E>>(&self, serializer: &mut S) -> Result<(), Error> {
         write_count(self.len(), serializer)?;
         write_items(self.as_slice(), serializer)?;
@@ -159,7 +159,7 @@ impl<'de, E: Env, T: PagableKey<E> + Hash + PagableDeserialize<'de, E> + Drop> P
 
     ghost read_causes_are_own = { memory_or_is_own_reading T.read_causes T.read_causes_are_own };
 
-    #[tactic(auto, unfolding(pagable_model::specs::Reading::read, pagable_model::specs::Reading::read_with), using(crate::proofs::Reading::parts))]
+    #[tactic(auto, unfolding(pagable_model::specs::Reading::read, pagable_model::specs::Reading::read_with), using(pagable_codec::proofs::Reading::parts))]
     fn pagable_deserialize<D: PagableDeserializer<E>>(
         alloc: Global,
         deserializer: &mut D,

@@ -6,13 +6,13 @@ ghost use Rattle.pagable_model.specs.Gives.{memory_or};
 ghost use Rattle.pagable_model.specs.Meaning.{sequence};
 ghost use Rattle.pagable_model.specs.Shape.{list, run};
 ghost use Rattle.pagable_model.specs.Writing.{nesting, WritesSome, Refused, IsRefusal, Grows};
-ghost use Rattle.pagable_traits.specs.Causes.{memory_or_is_own_reading, memory_or_is_own_writing};
+ghost use Rattle.pagable_model.specs.Causes.{memory_or_is_own_reading, memory_or_is_own_writing};
 ghost use Rattle.pagable_model.specs.Lifted.{MeansList, list_has_meaning, list_is_meaning, list_single};
 
-use crate::deserializer::PagableDeserializer;
-use crate::env::Env;
+use pagable_codec::deserializer::PagableDeserializer;
+use pagable_codec::env::Env;
 use crate::impls::lists::{write_items, write_list};
-use crate::serializer::PagableSerializer;
+use pagable_codec::serializer::PagableSerializer;
 use crate::traits::{Carried, OneMeaning, PagableDeserialize, PagableSerialize};
 use pagable_flavors::Error;
 use std::alloc::Global;
@@ -60,7 +60,7 @@ impl<'a, E: Env, T: PagableSerialize<E>> PagableSerialize<E> for &'a [T] {
 
     ghost write_causes_are_own = { T.write_causes_are_own };
 
-    #[tactic(auto, using(crate::proofs::Writing::parts, crate::proofs::Slices::runs))]
+    #[tactic(auto, using(pagable_codec::proofs::Writing::parts, crate::proofs::Slices::runs))]
     fn pagable_serialize<S: PagableSerializer<E>>(&self, serializer: &mut S) -> Result<(), Error> {
         if self.len() > LONGEST {
             return Err(Error::TooLong);

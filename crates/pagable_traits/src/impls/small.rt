@@ -4,15 +4,15 @@ ghost use Rattle.std.specs.Prelude.{◌++◌, ◌∷◌, [], map};
 ghost use Rattle.pagable_model.specs.Gives.{memory_or};
 ghost use Rattle.pagable_model.specs.Meaning.{sequence};
 ghost use Rattle.pagable_model.specs.Shape.{list};
-ghost use Rattle.pagable_traits.specs.Causes.{memory_or_is_own_reading, memory_or_is_own_writing};
+ghost use Rattle.pagable_model.specs.Causes.{memory_or_is_own_reading, memory_or_is_own_writing};
 ghost use Rattle.pagable_model.specs.Lifted.{MeansList, list_has_meaning, list_is_meaning, list_single};
 
-use crate::deserializer::PagableDeserializer;
-use crate::env::Env;
+use pagable_codec::deserializer::PagableDeserializer;
+use pagable_codec::env::Env;
 use crate::impls::collecting::{Collects, collect_items};
 use crate::impls::lists::write_list;
-use crate::impls::parts::read_count;
-use crate::serializer::PagableSerializer;
+use pagable_codec::parts::read_count;
+use pagable_codec::serializer::PagableSerializer;
 use crate::traits::{Carried, OneMeaning, PagableDeserialize, PagableSerialize};
 use pagable_flavors::Error;
 use smallvec::SmallVec;
@@ -70,7 +70,7 @@ impl<
 
     ghost read_causes_are_own = { memory_or_is_own_reading T.read_causes T.read_causes_are_own };
 
-    #[tactic(auto, unfolding(pagable_model::specs::Reading::read, pagable_model::specs::Reading::read_with), using(crate::proofs::Reading::parts))]
+    #[tactic(auto, unfolding(pagable_model::specs::Reading::read, pagable_model::specs::Reading::read_with), using(pagable_codec::proofs::Reading::parts))]
     fn pagable_deserialize<D: PagableDeserializer<E>>(
         alloc: Global,
         deserializer: &mut D,

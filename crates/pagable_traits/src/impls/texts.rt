@@ -6,12 +6,12 @@ ghost use Rattle.pagable_model.specs.Gives.{memory};
 ghost use Rattle.pagable_model.specs.Shape.{text};
 ghost use Rattle.pagable_model.specs.Meaning.{text as text_meaning};
 ghost use Rattle.pagable_model.specs.Standing.{Is};
-ghost use Rattle.pagable_traits.specs.Causes.{memory_is_own_reading, memory_is_own_writing};
+ghost use Rattle.pagable_model.specs.Causes.{memory_is_own_reading, memory_is_own_writing};
 
-use crate::deserializer::PagableDeserializer;
-use crate::env::Env;
-use crate::reader::Reader;
-use crate::serializer::PagableSerializer;
+use pagable_codec::deserializer::PagableDeserializer;
+use pagable_codec::env::Env;
+use pagable_codec::reader::Reader;
+use pagable_codec::serializer::PagableSerializer;
 use crate::traits::{Carried, OneMeaning, PagableDeserialize, PagableSerialize};
 use pagable_flavors::Error;
 use std::alloc::Global;
@@ -37,7 +37,7 @@ impl<E: Env> PagableSerialize<E> for String {
 
     ghost write_causes_are_own = { memory_is_own_writing };
 
-    #[tactic(auto, using(crate::proofs::Writing::parts))]
+    #[tactic(auto, using(pagable_codec::proofs::Writing::parts))]
     fn pagable_serialize<S: PagableSerializer<E>>(&self, serializer: &mut S) -> Result<(), Error> {
         serializer.serde().write_str(self.as_str())
     }
@@ -48,7 +48,7 @@ impl<'de, E: Env> PagableDeserialize<'de, E> for String {
 
     ghost read_causes_are_own = { memory_is_own_reading };
 
-    #[tactic(auto, unfolding(pagable_model::specs::Reading::read, pagable_model::specs::Reading::read_with), using(crate::proofs::Reading::parts))]
+    #[tactic(auto, unfolding(pagable_model::specs::Reading::read, pagable_model::specs::Reading::read_with), using(pagable_codec::proofs::Reading::parts))]
     fn pagable_deserialize<D: PagableDeserializer<E>>(
         alloc: Global,
         deserializer: &mut D,

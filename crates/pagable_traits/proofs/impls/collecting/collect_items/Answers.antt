@@ -4,7 +4,7 @@ use Rattle.pagable_model.specs.Reading.{read}
 use Rattle.pagable_model.specs.Standing.{handles_at}
 use Rattle.pagable_traits.proofs.Items.{starts, goes_on, ends, is_done}
 use Rattle.pagable_traits.proofs.Collecting.{collected_none, collected_more}
-use Rattle.pagable_traits.proofs.Reading.{moves_trans}
+use Rattle.pagable_codec.proofs.Reading.{moves_trans}
 use Rattle.pagable_traits.proofs.impls.collecting.collect_items.Goals as goal
 
 pub loop-index-init : goal.loop-index-init

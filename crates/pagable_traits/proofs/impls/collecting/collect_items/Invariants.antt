@@ -3,7 +3,7 @@ use Rattle.pagable_model.specs.declared.numbers.ArcRef.{ArcRef}
 use Rattle.pagable_model.specs.Meaning.{Meaning}
 use Rattle.pagable_model.specs.Reading.{items, read}
 use Rattle.pagable_model.specs.Standing.{handles_at, MovesOn}
-use Rattle.pagable_traits.specs.Collected.{Collected}
+use Rattle.pagable_model.specs.Collected.{Collected}
 use Rattle.pagable_traits.proofs.Items.{with_front}
 use Rattle.pagable_traits.proofs.impls.collecting.collect_items.Given as goal
 

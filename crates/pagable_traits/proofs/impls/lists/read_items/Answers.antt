@@ -4,7 +4,7 @@ use Rattle.pagable_model.specs.Reading.{items, read}
 use Rattle.pagable_model.specs.Standing.{handles_at}
 use Rattle.pagable_model.specs.Lifted.{mean-none}
 use Rattle.pagable_traits.proofs.Items.{mean_last, starts, goes_on, ends, is_done}
-use Rattle.pagable_traits.proofs.Reading.{moves_trans}
+use Rattle.pagable_codec.proofs.Reading.{moves_trans}
 use Rattle.pagable_traits.proofs.impls.lists.read_items.Goals as goal
 
 pub loop-index-init : goal.loop-index-init

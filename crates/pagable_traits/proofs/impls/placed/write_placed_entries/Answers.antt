@@ -3,7 +3,7 @@ use Rattle.std.proofs.lemmas.Result.{err_from_is_err_and}
 use Rattle.pagable_model.specs.Shape.{both}
 use Rattle.pagable_model.specs.Writing.{nesting}
 use Rattle.pagable_model.specs.Lifted.{MeansPair, pair_has_meaning}
-use Rattle.pagable_traits.proofs.Writing.{grows_trans}
+use Rattle.pagable_codec.proofs.Writing.{grows_trans}
 use Rattle.pagable_traits.proofs.Maps.{written-none, written-more, written-all, written-refused, written-grows}
 use Rattle.pagable_traits.proofs.impls.placed.write_placed_entries.Goals as goal
 

@@ -1,7 +1,7 @@
 use Rattle.std.proofs.Common.{sym, ◌∙◌}
 use Rattle.std.proofs.lemmas.Result.{err_from_is_err_and}
 use Rattle.pagable_model.specs.Writing.{nesting}
-use Rattle.pagable_traits.proofs.Writing.{grows_trans}
+use Rattle.pagable_codec.proofs.Writing.{grows_trans}
 use Rattle.pagable_traits.proofs.Maps.{written-none, written-more, written-all, written-refused, written-grows}
 use Rattle.pagable_traits.proofs.impls.sets.write_sorted_items.Goals as goal
 

@@ -1,4 +1,0 @@
-pub mod Adding
-pub mod Keeping
-pub mod Ending
-pub mod Kept

@@ -1,3 +1,0 @@
-//! Storages.
-
-pub mod in_memory;

@@ -1,0 +1,21 @@
+//! What values are written to and read from: the traits of environments, of their nodes, of hashes, of serializers and
+//! deserializers, and the parts that values of many types have in common.
+#![tactic(auto)]
+
+pub mod deserializer;
+pub mod env;
+pub mod hash;
+pub mod nodes;
+pub mod parts;
+pub mod reader;
+pub mod serializer;
+
+pub use deserializer::PagableDeserializer;
+pub use env::Env;
+pub use hash::KeyHash;
+pub use nodes::NodeSet;
+pub use pagable_model::{
+    ArcRef, HandleNumber, Identity, Kind, LoadNumber, NodeNumber, PagableCursor, WorkerNumber,
+};
+pub use reader::Reader;
+pub use serializer::PagableSerializer;

@@ -1,0 +1,88 @@
+//! The values of nodes: one case for each value type of an environment.
+
+ghost use Rattle.std.specs.Prelude.{◌≡◌, ◌<◌, ◌^◌, ◌++◌, ℕ, List, Option, Some, OnOk, IfOk, IfErr, false};
+ghost use Rattle.pagable_model.specs.Refusals.{is_reading_fault, is_writing_fault};
+ghost use Rattle.pagable_model.specs.Shape.{Shape};
+ghost use Rattle.pagable_model.specs.Meaning.{Meaning};
+ghost use Rattle.pagable_model.specs.Writing.{nesting, WritesSome, Refused, IsRefusal, Grows};
+ghost use Rattle.pagable_model.specs.Reading.{read_typed};
+ghost use Rattle.pagable_model.specs.References.{references_in, SameHandles};
+ghost use Rattle.pagable_model.specs.Standing.{handles_at, MovesOn, GivesSome, SomeMeaning};
+ghost use Rattle.pagable_model.specs.declared.numbers.ArcRef.{ArcRef as Reference};
+ghost use Rattle.pagable_model.specs.declared.error.Error.{Error as Refusal};
+
+use crate::deserializer::PagableDeserializer;
+use crate::env::Env;
+use crate::serializer::PagableSerializer;
+use pagable_flavors::Error;
+use pagable_model::ArcRef;
+use std::alloc::Global;
+
+/// A type with one case for each value type of an environment.
+pub trait NodeSet<E: Env>: Sized {
+    // The number of the node's value type.
+    ghost type_of: { Self → ℕ };
+
+    // How the values of a type are spelled, or None where there is no such type.
+    ghost shape_of: { E → ℕ → Option Shape };
+
+    // How the node's own value is spelled.
+    ghost own_shape: { E → Self → Shape };
+
+    // What the node's value may mean.
+    ghost means: { Self → Meaning Reference → Type 0 };
+
+    // The references in the value, in the order in which they are written.
+    ghost refs_of: { Self → List Reference };
+
+    // The refusals beside the faults of a value, of the input and of references.
+    ghost write_causes: { Refusal → Type 0 };
+
+    ghost read_causes: { Refusal → Type 0 };
+
+    /// The number of the node's value type, below 2^30.
+    fn node_type(&self) -> u32
+        ensures value { result ≡ type_of self.now }
+        ensures small { result < 2 ^ 30 };
+
+    /// The references in the value, in the order in which they are written. Refused by want of memory alone.
+    fn refs(&self, alloc: Global) -> Result<Vec<ArcRef>, Error>
+        ensures ok { IfOk result (λ v. v.items ≡ refs_of self.now) }
+        ensures only { IfErr result (λ e. e ≡ Error.OutOfMemory) };
+
+    /// Writes the value as its type's `pagable_serialize` does.
+    fn write<S: PagableSerializer<E>>(&self, serializer: &mut S) -> Result<(), Error>
+        ensures ok { OnOk result (WritesSome (means self.now) (nesting (S.levels serializer.old) (E.parts (S.environment serializer.old)))
+            (own_shape (S.environment serializer.old) self.now) (S.out serializer.old) (S.out serializer.new)) }
+        ensures listed { OnOk result ((S.out serializer.new).refs ≡ (S.out serializer.old).refs ++ refs_of self.now) }
+        ensures refused { IfErr result (Refused (means self.now) (nesting (S.levels serializer.old) (E.parts (S.environment serializer.old))) (own_shape (S.environment serializer.old) self.now)) }
+        ensures only { IfErr result (IsRefusal write_causes) }
+        ensures err { Grows (S.out serializer.old) (S.out serializer.new) }
+        ensures same_env { S.environment serializer.new ≡ S.environment serializer.old }
+        ensures same_levels { S.levels serializer.new ≡ S.levels serializer.old };
+
+    /// Reads a value of this type, as the type's `pagable_deserialize` does. WrongKind where there is no such type.
+    fn read<D: PagableDeserializer<E>>(
+        node_type: u32,
+        alloc: Global,
+        deserializer: &mut D,
+    ) -> Result<Self, Error>
+        ensures gives { GivesSome read_causes means (D.rest deserializer.new) result
+            (read_typed (handles_at (D.levels deserializer.old) (E.parts (D.environment deserializer.old))) (shape_of (D.environment deserializer.old) node_type) (D.rest deserializer.old)) }
+        ensures asked { IfOk result (λ x. type_of x ≡ node_type) }
+        ensures moves { MovesOn (D.standing deserializer.old) (D.standing deserializer.new) }
+        ensures same_env { D.environment deserializer.new ≡ D.environment deserializer.old }
+        ensures same_levels { D.levels deserializer.new ≡ D.levels deserializer.old };
+
+    ghost write_causes_are_own: { (e : Refusal) → write_causes e → is_writing_fault e ≡ false };
+
+    ghost read_causes_are_own: { (e : Refusal) → read_causes e → is_reading_fault e ≡ false };
+
+    // A value means something, and refers to what it means to.
+    ghost has_meaning: { (n : Self) → SomeMeaning (means n) };
+
+    ghost refers: { (n : Self) (m : Meaning Reference) → means n m → SameHandles (refs_of n) (references_in m) };
+
+    // A node's own type is there.
+    ghost has_shape: { (e : E) (n : Self) → shape_of e (type_of n) ≡ Some (own_shape e n) };
+}

@@ -1,0 +1,80 @@
+//! The parts of values that hold others: flags and counts. Each later type is written and read by these.
+
+ghost use Rattle.std.specs.Prelude.{◌≡◌, ◌≤◌, [], length, min, OnOk, IfErr};
+ghost use Rattle.pagable_model.specs.Basic.{bool_form, bool_at, length_form, length_at, longest};
+ghost use Rattle.pagable_model.specs.Gives.{Gives, never, memory};
+ghost use Rattle.pagable_model.specs.Reading.{bytes_of};
+ghost use Rattle.pagable_model.specs.Standing.{MovesOn};
+ghost use Rattle.pagable_model.specs.Writing.{added, Grows};
+ghost use Rattle.pagable_model.specs.Lengths.{long_or_memory};
+
+use crate::deserializer::PagableDeserializer;
+use crate::env::Env;
+use crate::reader::Reader;
+use crate::serializer::PagableSerializer;
+use pagable_flavors::Error;
+
+/// Writes the flag that stands before a part that may be absent. Refused by want of memory alone.
+#[tactic(auto, using(crate::proofs::Writing::parts, crate::proofs::Adding::steps))]
+pub fn write_flag<E: Env, S: PagableSerializer<E>>(
+    flag: bool,
+    serializer: &mut S,
+) -> Result<(), Error>
+    ensures ok { OnOk result (S.out serializer.new ≡ added (S.out serializer.old) (bool_form flag) []) }
+    ensures only { IfErr result memory }
+    ensures err { Grows (S.out serializer.old) (S.out serializer.new) }
+    ensures same_env { S.environment serializer.new ≡ S.environment serializer.old }
+    ensures same_levels { S.levels serializer.new ≡ S.levels serializer.old }
+{
+    serializer.serde().write_bool(flag)
+}
+
+/// Writes how many items follow. TooLong above 4,294,967,295; else refused by want of memory alone.
+#[tactic(auto, using(crate::proofs::Writing::parts, crate::proofs::Adding::steps))]
+pub fn write_count<E: Env, S: PagableSerializer<E>>(
+    count: usize,
+    serializer: &mut S,
+) -> Result<(), Error>
+    ensures ok { OnOk result (S.out serializer.new ≡ added (S.out serializer.old) (length_form count) []) }
+    ensures within { OnOk result (count ≤ longest) }
+    ensures only { IfErr result (long_or_memory count) }
+    ensures err { Grows (S.out serializer.old) (S.out serializer.new) }
+    ensures same_env { S.environment serializer.new ≡ S.environment serializer.old }
+    ensures same_levels { S.levels serializer.new ≡ S.levels serializer.old }
+{
+    serializer.serde().write_len(count)
+}
+
+/// Reads a flag: BadBool where the byte is neither 0 nor 1.
+#[tactic(auto, using(crate::proofs::Reading::parts))]
+pub fn read_flag<E: Env, D: PagableDeserializer<E>>(deserializer: &mut D) -> Result<bool, Error>
+    ensures gives { Gives never (λ b. (b, D.rest deserializer.new)) result (bytes_of bool_at (λ b. b) (D.rest deserializer.old)) }
+    ensures moves { MovesOn (D.standing deserializer.old) (D.standing deserializer.new) }
+    ensures same_env { D.environment deserializer.new ≡ D.environment deserializer.old }
+    ensures same_levels { D.levels deserializer.new ≡ D.levels deserializer.old }
+{
+    deserializer.serde().read_bool()
+}
+
+/// Reads how many items follow: TooLong above 4,294,967,295.
+#[tactic(auto, using(crate::proofs::Reading::parts))]
+pub fn read_count<E: Env, D: PagableDeserializer<E>>(deserializer: &mut D) -> Result<usize, Error>
+    ensures gives { Gives never (λ n. (n, D.rest deserializer.new)) result (bytes_of length_at (λ n. n) (D.rest deserializer.old)) }
+    ensures moves { MovesOn (D.standing deserializer.old) (D.standing deserializer.new) }
+    ensures same_env { D.environment deserializer.new ≡ D.environment deserializer.old }
+    ensures same_levels { D.levels deserializer.new ≡ D.levels deserializer.old }
+{
+    deserializer.serde().read_len()
+}
+
+/// How many places to reserve for so many items: no more than bytes are left, so that a count alone takes no memory.
+#[tactic(auto, using(crate::proofs::Reading::parts))]
+pub fn places_for<E: Env, D: PagableDeserializer<E>>(count: usize, deserializer: &mut D) -> usize
+    ensures few { result ≡ min count (length (D.rest deserializer.old).bytes) }
+    ensures same_rest { D.rest deserializer.new ≡ D.rest deserializer.old }
+    ensures moves { MovesOn (D.standing deserializer.old) (D.standing deserializer.new) }
+    ensures same_env { D.environment deserializer.new ≡ D.environment deserializer.old }
+    ensures same_levels { D.levels deserializer.new ≡ D.levels deserializer.old }
+{
+    count.min(deserializer.serde().size_hint())
+}

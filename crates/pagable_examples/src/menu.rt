@@ -1,0 +1,172 @@
+//! An environment with two value types: dishes and portions.
+
+use crate::dish::Dish;
+use crate::portion::Portion;
+use pagable::{
+    ArcRef, Env, Error, InNode, KeyHash, NodeSet, PagableDeserialize, PagableDeserializer,
+    PagableSerialize, PagableSerializer,
+};
+use std::alloc::Global;
+use std::marker::PhantomData;
+use std::sync::Arc;
+
+/// The environment of a menu, whose keys are made by the hash `H`. Dishes have the type number 0, portions 1.
+#[derive(Drop)]
+pub struct Menu<H> {
+    hash: PhantomData<H>,
+}
+
+impl<H: KeyHash> Menu<H> {
+    pub fn new() -> Menu<H> {
+        Menu { hash: PhantomData }
+    }
+}
+
+impl<H: KeyHash> Env for Menu<H> {
+    type Node = MenuNode;
+
+    type Hash = H;
+
+    ghost use Rattle.pagable_model.specs.Shape.{nothing};
+
+    ghost parts = { λ e number. nothing };
+}
+
+/// What a node of a menu may hold.
+#[derive(Drop)]
+pub enum MenuNode {
+    Dish(Arc<Dish>),
+    Portion(Arc<Portion>),
+}
+
+impl<H: KeyHash> NodeSet<Menu<H>> for MenuNode {
+    ghost use Rattle.std.specs.Prelude.{[]};
+    ghost use Rattle.pagable_model.specs.Causes.{memory_is_own_reading, memory_is_own_writing};
+    ghost use Rattle.pagable_model.specs.Gives.{memory};
+    ghost use Rattle.pagable_examples.specs.Menus.{type_of, shape_of, own_shape, means, has_meaning, refers_to_nothing, has_shape};
+
+    ghost type_of = { type_of };
+
+    ghost shape_of = { λ e t. shape_of t };
+
+    ghost own_shape = { λ e n. own_shape n };
+
+    ghost means = { means };
+
+    ghost refs_of = { λ n. [] };
+
+    ghost write_causes = { memory };
+
+    ghost read_causes = { memory };
+
+    ghost write_causes_are_own = { memory_is_own_writing };
+
+    ghost read_causes_are_own = { memory_is_own_reading };
+
+    ghost has_meaning = { has_meaning };
+
+    ghost refers = { refers_to_nothing };
+
+    ghost has_shape = { λ e n. has_shape n };
+
+    fn node_type(&self) -> u32 {
+        match self {
+            MenuNode::Dish(_) => 0,
+            MenuNode::Portion(_) => 1,
+        }
+    }
+
+    fn refs(&self, alloc: Global) -> Result<Vec<ArcRef>, Error> {
+        Ok(Vec::new(alloc))
+    }
+
+    #[tactic(auto, using(crate::proofs::Menus::writing))]
+    fn write<S: PagableSerializer<Menu<H>>>(&self, serializer: &mut S) -> Result<(), Error> {
+        match self {
+            MenuNode::Dish(dish) => dish.as_ref().pagable_serialize(serializer),
+            MenuNode::Portion(portion) => portion.as_ref().pagable_serialize(serializer),
+        }
+    }
+
+    fn read<D: PagableDeserializer<Menu<H>>>(
+        node_type: u32,
+        alloc: Global,
+        deserializer: &mut D,
+    ) -> Result<MenuNode, Error> {
+        match node_type {
+            0 => {
+                let dish = Dish::pagable_deserialize(alloc, deserializer)?;
+                Ok(MenuNode::Dish(Arc::new(alloc, dish)?))
+            }
+            1 => {
+                let portion = Portion::pagable_deserialize(alloc, deserializer)?;
+                Ok(MenuNode::Portion(Arc::new(alloc, portion)?))
+            }
+            _ => Err(Error::WrongKind),
+        }
+    }
+}
+
+impl<H: KeyHash> InNode<Menu<H>> for Dish {
+    ghost use Rattle.std.specs.Prelude.{refl};
+    ghost use Rattle.pagable_examples.specs.Menus.{dish_in, dish_type, no_dish_type, dish_meaning, dish_meaning_back};
+
+    ghost TYPE = { 0 };
+
+    ghost held = { dish_in };
+
+    const TYPE: u32 = 0;
+
+    fn into_node(value: Arc<Dish>) -> MenuNode {
+        MenuNode::Dish(value)
+    }
+
+    fn from_node(alloc: Global, node: &MenuNode) -> Result<Option<Arc<Dish>>, Error> {
+        match node {
+            MenuNode::Dish(dish) => Ok(Some(dish.clone()?)),
+            MenuNode::Portion(_) => Ok(None),
+        }
+    }
+
+    ghost shape_is = { λ e. refl };
+
+    ghost in_type = { dish_type };
+
+    ghost other_type = { no_dish_type };
+
+    ghost same_meaning = { dish_meaning };
+
+    ghost meaning_back = { dish_meaning_back };
+}
+
+impl<H: KeyHash> InNode<Menu<H>> for Portion {
+    ghost use Rattle.std.specs.Prelude.{refl};
+    ghost use Rattle.pagable_examples.specs.Menus.{portion_in, portion_type, no_portion_type, portion_meaning, portion_meaning_back};
+
+    ghost TYPE = { 1 };
+
+    ghost held = { portion_in };
+
+    const TYPE: u32 = 1;
+
+    fn into_node(value: Arc<Portion>) -> MenuNode {
+        MenuNode::Portion(value)
+    }
+
+    fn from_node(alloc: Global, node: &MenuNode) -> Result<Option<Arc<Portion>>, Error> {
+        match node {
+            MenuNode::Dish(_) => Ok(None),
+            MenuNode::Portion(portion) => Ok(Some(portion.clone()?)),
+        }
+    }
+
+    ghost shape_is = { λ e. refl };
+
+    ghost in_type = { portion_type };
+
+    ghost other_type = { no_portion_type };
+
+    ghost same_meaning = { portion_meaning };
+
+    ghost meaning_back = { portion_meaning_back };
+}

@@ -1,0 +1,87 @@
+-- Why no meaning of a carried type has two forms.
+use Rattle.std.specs.Prelude.{ℕ, zero, suc}
+use Rattle.std.specs.Int.{Width}
+use Rattle.pagable_model.specs.Keys.{KeyOrder}
+use Rattle.pagable_model.specs.Shape.{Shape, unsigned, signed, optional, list, run, both, sorted_map, placed_map, sorted_set, placed_set}
+use Rattle.pagable_model.specs.Shape as shapes
+use Rattle.pagable_model.specs.Canonical.{IsCanonical, LiesIn, Within, Throughout}
+use Rattle.pagable_model.specs.Keyed.{throughout-alone}
+
+-- no meaning of the shape, or of any part of its values in one blob, has two forms
+abbrev pub HasOneFormThroughout : (ℕ → Shape) → Shape → Type 0
+HasOneFormThroughout parts s = Throughout IsCanonical parts s
+
+-- a shape over one other
+throughout-over : (P : Shape → Type 0) (parts : ℕ → Shape) (s whole : Shape) → (P s → P whole) → ((those : ℕ → Type 0) → LiesIn (λ n. Unit {0}) those s → LiesIn (λ n. Unit {0}) those whole) → Throughout P parts s → Throughout P parts whole
+unfolding Within
+throughout-over P parts s whole f lies t = record { within = within }
+  where
+    within : (steps : ℕ) → Within P parts steps whole
+    within zero = f (t.within zero)
+    within (suc steps) = (f (t.within (suc steps)).0, lies (λ n. Within P parts steps (parts n)) (t.within (suc steps)).1)
+
+-- a shape over two others
+throughout-two : (P : Shape → Type 0) (parts : ℕ → Shape) (s t whole : Shape) → (P s → P t → P whole) → ((those : ℕ → Type 0) → LiesIn (λ n. Unit {0}) those s → LiesIn (λ n. Unit {0}) those t → LiesIn (λ n. Unit {0}) those whole)
+    → Throughout P parts s → Throughout P parts t → Throughout P parts whole
+unfolding Within
+throughout-two P parts s t whole f lies u v = record { within = within }
+  where
+    within : (steps : ℕ) → Within P parts steps whole
+    within zero = f (u.within zero) (v.within zero)
+    within (suc steps) = (f (u.within (suc steps)).0 (v.within (suc steps)).0, lies (λ n. Within P parts steps (parts n)) (u.within (suc steps)).1 (v.within (suc steps)).1)
+
+pub nothing_has_one_form : (parts : ℕ → Shape) → HasOneFormThroughout parts shapes.nothing
+unfolding IsCanonical LiesIn
+nothing_has_one_form parts = throughout-alone IsCanonical parts shapes.nothing tt (λ those. tt)
+
+pub unsigned_has_one_form : (parts : ℕ → Shape) (w : Width) → HasOneFormThroughout parts (unsigned w)
+unfolding IsCanonical LiesIn
+unsigned_has_one_form parts w = throughout-alone IsCanonical parts (unsigned w) tt (λ those. tt)
+
+pub signed_has_one_form : (parts : ℕ → Shape) (w : Width) → HasOneFormThroughout parts (signed w)
+unfolding IsCanonical LiesIn
+signed_has_one_form parts w = throughout-alone IsCanonical parts (signed w) tt (λ those. tt)
+
+pub flag_has_one_form : (parts : ℕ → Shape) → HasOneFormThroughout parts shapes.flag
+unfolding IsCanonical LiesIn
+flag_has_one_form parts = throughout-alone IsCanonical parts shapes.flag tt (λ those. tt)
+
+pub text_has_one_form : (parts : ℕ → Shape) → HasOneFormThroughout parts shapes.text
+unfolding IsCanonical LiesIn
+text_has_one_form parts = throughout-alone IsCanonical parts shapes.text tt (λ those. tt)
+
+pub letter_has_one_form : (parts : ℕ → Shape) → HasOneFormThroughout parts shapes.letter
+unfolding IsCanonical LiesIn
+letter_has_one_form parts = throughout-alone IsCanonical parts shapes.letter tt (λ those. tt)
+
+pub optional_has_one_form : (parts : ℕ → Shape) (s : Shape) → HasOneFormThroughout parts s → HasOneFormThroughout parts (optional s)
+unfolding IsCanonical LiesIn
+optional_has_one_form parts s t = throughout-over IsCanonical parts s (optional s) (λ h. h) (λ those h. h) t
+
+pub list_has_one_form : (parts : ℕ → Shape) (s : Shape) → HasOneFormThroughout parts s → HasOneFormThroughout parts (list s)
+unfolding IsCanonical LiesIn
+list_has_one_form parts s t = throughout-over IsCanonical parts s (list s) (λ h. h) (λ those h. h) t
+
+pub run_has_one_form : (parts : ℕ → Shape) (s : Shape) → HasOneFormThroughout parts s → HasOneFormThroughout parts (run s)
+unfolding IsCanonical LiesIn
+run_has_one_form parts s t = throughout-over IsCanonical parts s (run s) (λ h. h) (λ those h. h) t
+
+pub sorted_set_has_one_form : (parts : ℕ → Shape) (order : KeyOrder) (s : Shape) → HasOneFormThroughout parts s → HasOneFormThroughout parts (sorted_set order s)
+unfolding IsCanonical LiesIn
+sorted_set_has_one_form parts order s t = throughout-over IsCanonical parts s (sorted_set order s) (λ h. h) (λ those h. h) t
+
+pub placed_set_has_one_form : (parts : ℕ → Shape) (s : Shape) → HasOneFormThroughout parts s → HasOneFormThroughout parts (placed_set s)
+unfolding IsCanonical LiesIn
+placed_set_has_one_form parts s t = throughout-over IsCanonical parts s (placed_set s) (λ h. h) (λ those h. h) t
+
+pub both_has_one_form : (parts : ℕ → Shape) (s t : Shape) → HasOneFormThroughout parts s → HasOneFormThroughout parts t → HasOneFormThroughout parts (both s t)
+unfolding IsCanonical LiesIn
+both_has_one_form parts s t u v = throughout-two IsCanonical parts s t (both s t) (λ h k. (h, k)) (λ those h k. (h, k)) u v
+
+pub sorted_map_has_one_form : (parts : ℕ → Shape) (order : KeyOrder) (s t : Shape) → HasOneFormThroughout parts s → HasOneFormThroughout parts t → HasOneFormThroughout parts (sorted_map order s t)
+unfolding IsCanonical LiesIn
+sorted_map_has_one_form parts order s t u v = throughout-two IsCanonical parts s t (sorted_map order s t) (λ h k. (h, k)) (λ those h k. (h, k)) u v
+
+pub placed_map_has_one_form : (parts : ℕ → Shape) (s t : Shape) → HasOneFormThroughout parts s → HasOneFormThroughout parts t → HasOneFormThroughout parts (placed_map s t)
+unfolding IsCanonical LiesIn
+placed_map_has_one_form parts s t u v = throughout-two IsCanonical parts s t (placed_map s t) (λ h k. (h, k)) (λ those h k. (h, k)) u v

@@ -1,0 +1,20 @@
+-- The references in a value.
+use Rattle.std.specs.Prelude.{ℕ, ◌≡◌, ◌++◌, ◌==◌, if◌then◌else◌, List, [], ◌∷◌, sum_by}
+use Rattle.pagable_model.specs.declared.numbers.ArcRef.{ArcRef}
+use Rattle.pagable_model.specs.Meaning.{Meaning, number, integer, text, pattern, none, pair, variant, reference, followed}
+
+-- the references in a meaning, from the front
+unfoldable pub references_in : {A : Type 0} → Meaning A → List A
+references_in (number n) = []
+references_in (integer z) = []
+references_in (text t) = []
+references_in (pattern t) = []
+references_in none = []
+references_in (pair a b) = references_in a ++ references_in b
+references_in (variant n a) = references_in a
+references_in (reference a) = a ∷ []
+references_in (followed kind a) = references_in a
+
+-- The same handles are named, each as often, in any order: a hash map is written in an order of its own.
+abbrev pub SameHandles : List ArcRef → List ArcRef → Type 0
+SameHandles rs ss = (q : ℕ) → sum_by (λ (r : ArcRef). if r.handle.0 == q then 1 else 0) rs ≡ sum_by (λ (r : ArcRef). if r.handle.0 == q then 1 else 0) ss

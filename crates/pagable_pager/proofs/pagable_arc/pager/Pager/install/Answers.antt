@@ -1,0 +1,33 @@
+use Rattle.std.proofs.Common.{◌≡◌, ◌++◌, ◌∷◌, [], map, arith, inl, refl}
+use Rattle.std.proofs.lemmas.Grind.{common_steps}
+use Rattle.pagable_pager.specs.Shown.{value_of}
+use Rattle.pagable_pager.proofs.Keeping.{in-kept, in-comes, values-push}
+use Rattle.pagable_pager.proofs.Ending.{installed, closed-step}
+use Rattle.pagable_pager.proofs.pagable_arc.pager.Pager.install.Goals as goal
+
+pub invariant_of-self-in-Ok : goal.invariant_of-self-in-Ok
+invariant_of-self-in-Ok g c =
+    let known = rw (← c.self.view_is) at c.requires in
+    let old = c.self.inside.values.items in
+    let comes = installed g.E.Node.NodeSet.type_of c.args.load c.args.node c.self.inside.book c.load_end.new.self c.args.cell known.fits known.away c.in-Ok.ensures.comes in
+    let pushed : c.push.new.self.items ≡ old ++ record { node = c.args.cell; value = c.args.node } ∷ [] = grind arith in
+    rw (values-push old c.push.new.self.items c.args.cell c.args.node pushed) (in-comes g.E.Node.NodeSet.type_of c.self.inside.book c.load_end.new.self (map value_of old) c.args.cell.0 _ c.args.node c.self.invariant refl comes)
+
+pub returns-in-Ok-clause-installs : goal.returns-in-Ok-clause-installs
+returns-in-Ok-clause-installs g c =
+    let known = rw (← c.self.view_is) at c.requires in
+    let old = c.self.inside.values.items in
+    let pushed : c.push.new.self.items ≡ old ++ record { node = c.args.cell; value = c.args.node } ∷ [] = grind arith in
+    rw (← c.self.view_is) (c.args.cell, known.fits, inl (known.away, values-push old c.push.new.self.items c.args.cell c.args.node pushed))
+
+pub invariant_of-self-in-Err-load_end : goal.invariant_of-self-in-Err-load_end
+invariant_of-self-in-Err-load_end g c =
+    let old = c.self.inside.values.items in
+    let back : c.pop.new.self.items ≡ old = grind (arith, common_steps) in
+    rw (c.sweep.ensures, back) (in-kept g.E.Node.NodeSet.type_of c.self.inside.book c.load_end.new.self (map value_of old) c.self.invariant c.in-Err-load_end.ensures.goes.each)
+
+pub returns-else-not-refusal-clause-closed : goal.returns-else-not-refusal-clause-closed
+returns-else-not-refusal-clause-closed g c =
+    let old = c.self.inside.values.items in
+    let back : c.pop.new.self.items ≡ old = grind (arith, common_steps) in
+    rw (← c.self.view_is) (closed-step _ _ c.args.load c.in-Err-load_end.refusal c.if-not-refusal.false c.in-Err-load_end.ensures.step, rw back at c.sweep.ensures)

@@ -1,0 +1,11 @@
+use Rattle.std.proofs.Common.{map, refl}
+use Rattle.pagable_pager.specs.Shown.{value_of}
+use Rattle.pagable_pager.proofs.Keeping.{in-kept}
+use Rattle.pagable_pager.proofs.Kept.{keeps-keyed}
+use Rattle.pagable_pager.proofs.pagable_arc.pager.Pager.set_data_key.Goals as goal
+
+pub invariant_of-self : goal.invariant_of-self
+invariant_of-self g c = rw c.sweep.ensures (in-kept g.E.Node.NodeSet.type_of c.self.inside.book c.set_data_key-outcome.new.self (map value_of c.self.inside.values.items) c.self.invariant c.set_data_key-outcome.ensures.values.each)
+
+pub returns-clause-trees : goal.returns-clause-trees
+returns-clause-trees g c = rw (← c.self.view_is) (keeps-keyed _ _ _ c.args.handle c.args.key c.set_data_key-outcome.result c.set_data_key-outcome.ensures.step c.sweep.ensures refl refl)

@@ -1,0 +1,38 @@
+//! The values in memory, by node.
+
+ghost use Rattle.std.specs.Prelude.{◌≡◌, ◌<◌, ◌==◌, IfNone, IfSome, length, map, nat_lt, slice_index_or, sum_by};
+ghost use Rattle.pagable_world.specs.State.{one};
+ghost use Rattle.pagable_pager.specs.InStep.{kept};
+ghost use Rattle.pagable_pager.specs.Shown.{value_of};
+ghost use Rattle.pagable_pager.specs.declared.pagable_arc.values.ValueRow.{ValueRow};
+
+use pagable_book::Book;
+use pagable_model::NodeNumber;
+
+/// The value of a node that is in memory.
+#[derive(Drop)]
+pub struct ValueRow<N> {
+    pub node: NodeNumber,
+    pub value: N,
+}
+
+/// Where the value of a node stands.
+pub fn place_of<N>(values: &Vec<ValueRow<N>>, node: NodeNumber) -> Option<usize>
+    ensures none { IfNone result (sum_by (λ row. one (row.node.0 == node.0)) values.now.items ≡ 0) }
+    ensures within { IfSome result (λ place. place < length values.now.items) }
+    ensures found { IfSome result (λ place. (row : ValueRow N) → (slice_index_or values.now.items place row).node.0 ≡ node.0) }
+{
+    for place in 0..values.len() {
+        if values[place].node.0 == node.0 {
+            return Some(place);
+        }
+    }
+    None
+}
+
+/// Lets go the values of nodes that have none any more, by the book.
+pub fn sweep<N: Drop>(book: &Book, values: &mut Vec<ValueRow<N>>)
+    ensures { map value_of values.new.items ≡ kept book.now (map value_of values.old.items) }
+{
+    values.retain(|row| book.has_value(row.node));
+}

@@ -1,0 +1,2 @@
+pub mod Statics
+pub mod Tagged

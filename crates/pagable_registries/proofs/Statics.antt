@@ -1,0 +1,87 @@
+-- Values in a registry, by their index.
+use Rattle.std.proofs.Common.{◌≡◌, ℕ, zero, suc, ◌+◌, ◌<◌, ◌≤◌, Bool, false, List, [], ◌∷◌, ◌++◌, length, get_or, map, Some, Ok, Err, refl, sym, subst, ◌∙◌, arith, inl, inr}
+use Rattle.std.specs.Prelude.{IsTrue, ◌⊎◌, take}
+use Rattle.std.proofs.lemmas.List.{take_more, map-append}
+use Rattle.std.specs.Int.{w32}
+use Rattle.std.specs.Borrow.{Bor}
+use Rattle.std.specs.List.{slice_get, AllByRecursion}
+use Rattle.std.proofs.lemmas.Bool.{cases_lt}
+use Rattle.std.proofs.lemmas.Option.{slice_get_read, get_or_from_slice_get}
+use Rattle.pagable_model.specs.declared.error.Error.TheVariants as errors
+use Rattle.pagable_model.specs.declared.numbers.ArcRef.{ArcRef}
+use Rattle.pagable_model.specs.Canonical.{HasNoReference, IsReadable}
+use Rattle.pagable_model.specs.Numbers.{bound, unsigned_form}
+use Rattle.pagable_model.specs.Meaning.{Meaning, lifted}
+use Rattle.pagable_model.specs.Shape.{static_value}
+use Rattle.pagable_model.specs.Reading.{registered}
+use Rattle.pagable_model.specs.Form.{static-form}
+use Rattle.pagable_model.specs.Standing.{Is}
+use Rattle.pagable_model.specs.Writing.{Out, Nesting, WritesSome}
+use Rattle.pagable_model.specs.Statics.{HasEqual, NoEqualBelow, meanings_of}
+use Rattle.pagable_codec.proofs.Writing.{writes_is, writes_bytes}
+
+-- ---- the values of entries
+
+pub values_more : {X Y : Type 0} (f : X → Y) (vs : List Y) (xs : List X) (i : ℕ) (x : X) → i < length xs → x ≡ get_or xs i x → vs ≡ map f (take i xs) → vs ++ f x ∷ [] ≡ map f (take (i + 1) xs)
+values_more f vs xs i x lt e so_far =
+    let last : take (i + 1) xs ≡ take i xs ++ x ∷ [] = rw (take_more xs i x lt, ← e) refl in
+    rw (last, map-append f (take i xs) (x ∷ []), so_far) refl
+
+pub ruleset values = (values_more)
+
+-- ---- the least index of an equal value
+
+pub none_below : {T : Type 0} (same : T → T → Bool) (value : T) (xs : List (Bor T)) → NoEqualBelow same value xs 0
+none_below same value xs j known lt stands = absurd (omega (arith, lt))
+
+pub below_more : {T : Type 0} (same : T → T → Bool) (value : T) (xs : List (Bor T)) (i : ℕ) (x : Bor T) → x ≡ get_or xs i x → same value x.now ≡ false → NoEqualBelow same value xs i → NoEqualBelow same value xs (i + 1)
+below_more {T} same value xs i x e differs below j known lt stands = go (cases_lt j i)
+  where
+    go : (j < i) ⊎ (i ≤ j) → same value known.now ≡ false
+    go (inl less) = below j known less stands
+    go (inr le) =
+        let here : j ≡ i = omega (arith, lt, le) in
+        let at_i : slice_get xs i ≡ Some known = rw (sym here) stands in
+        let is : x ≡ known = e ∙ get_or_from_slice_get xs i known x at_i in
+        let P : Bor T → Type 0 = λ y. same value y.now ≡ false in
+        subst P is differs
+
+pub is_equal : {T : Type 0} (same : T → T → Bool) (value : T) (xs : List (Bor T)) (i : ℕ) (x : Bor T) → i < length xs → x ≡ get_or xs i x → IsTrue (same value x.now) → HasEqual same value xs i
+is_equal same value xs i x lt e equal = record { known = x; stands = slice_get_read xs (length xs) i x refl lt e; equal = equal }
+
+pub none_at_all : {T : Type 0} (same : T → T → Bool) (value : T) (xs : List (Bor T)) (i : ℕ) → length xs ≤ i → NoEqualBelow same value xs i → NoEqualBelow same value xs (length xs)
+none_at_all same value xs i le below j known lt stands = below j known (omega (arith, lt, le)) stands
+
+pub ruleset finding = (none_below, below_more, is_equal, none_at_all)
+
+-- ---- what stands under an index
+
+pub registered_at : {X : Type 0} (f : X → Meaning ⊥) (xs : List X) (i : ℕ) (x : X) → slice_get xs i ≡ Some x → registered (map f xs) i ≡ Ok (f x)
+registered_at f [] i x e = absurd cc
+registered_at f (y ∷ ys) zero x e = let same : y ≡ x = cc in rw same refl
+registered_at f (y ∷ ys) (suc i) x e = registered_at f ys i x e
+
+pub unregistered_at : {X : Type 0} (f : X → Meaning ⊥) (xs : List X) (i : ℕ) → length xs ≤ i → registered (map f xs) i ≡ Err errors.BadStaticIndex
+unregistered_at f [] i le = refl
+unregistered_at f (y ∷ ys) zero le = absurd (omega (arith, le))
+unregistered_at f (y ∷ ys) (suc i) le = unregistered_at f ys i (omega (arith, le))
+
+pub ruleset steps = (registered_at, unregistered_at)
+
+-- the index of a value that stands there is a form of it
+pub writes_static : {X : Type 0} (meaning : X → Meaning ArcRef) (x : X) (registry : List (Meaning ⊥)) (i : ℕ) (m : Meaning ⊥) (n : Nesting) (old : Out) (w : List ℕ) → meaning x ≡ lifted m → registered registry i ≡ Ok m → i < bound w32 → w ≡ old.bytes ++ unsigned_form w32 i
+    → WritesSome (Is meaning x) n (static_value registry) old (record old { bytes = w })
+writes_static meaning x registry i m n old w is e lt grown =
+    record { m = meaning x; is = refl; wrote = rw is (writes_bytes n (static_value registry) (lifted m) old w (unsigned_form w32 i) grown (static-form _ registry i m lt e)) }
+
+pub ruleset writing = (writes_static)
+
+-- ---- reading again
+
+all-plain : {T : Type 0} (plain : T → Meaning ⊥) → ((x : T) → HasNoReference (plain x)) → (registry : List (Bor T)) → AllByRecursion HasNoReference (meanings_of plain registry)
+all-plain plain none [] = tt
+all-plain plain none (v ∷ vs) = (none v.now, all-plain plain none vs)
+
+pub static_is_readable : {T : Type 0} (plain : T → Meaning ⊥) → ((x : T) → HasNoReference (plain x)) → (registry : List (Bor T)) → IsReadable (static_value (meanings_of plain registry))
+unfolding IsReadable
+static_is_readable plain none registry = all-plain plain none registry

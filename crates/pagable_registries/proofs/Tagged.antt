@@ -1,0 +1,223 @@
+-- Tagged values: what writing a tag and a body adds, and what reading by the registered reader gives.
+use Rattle.std.proofs.Common.{◌≡◌, ℕ, zero, suc, ◌+◌, ◌<◌, ◌≤◌, Bool, true, false, List, [], ◌∷◌, ◌++◌, length, get_or, map, Result, Some, None, Ok, Err, refl, sym, ap, subst, ◌∙◌, arith, inl, inr}
+use Rattle.std.specs.Prelude.{IfErr, IfOk, ◌⊎◌, ◌-◌, option_map}
+use Rattle.std.specs.Str.{IsUtf8, bytes_eq}
+use Rattle.pagable_model.specs.declared.error.Error.{Error}
+use Rattle.pagable_model.specs.declared.numbers.ArcRef.{ArcRef}
+use Rattle.std.specs.List.{slice_get}
+use Rattle.std.proofs.lemmas.Bool.{cases_lt}
+use Rattle.std.proofs.lemmas.Option.{slice_get_read, slice_get_past, slice_get-map}
+use Rattle.std.proofs.lemmas.Slice.Eq.{bytes_eq-Decides}
+use Rattle.pagable_model.specs.declared.error.Error.TheVariants as errors
+use Rattle.pagable_model.specs.Steps.{◌>>=◌}
+use Rattle.pagable_model.specs.Basic.{longest, text_form, text_at}
+use Rattle.pagable_model.specs.Canonical.{HasNoCase, IsReadable}
+use Rattle.pagable_model.specs.Gives.{memory, memory_or}
+use Rattle.pagable_model.specs.Reading.{Rest, Context, read, read_with, bytes_of}
+use Rattle.pagable_model.specs.Carried.{of_tagged, is_registered, body_of, tagged_by}
+use Rattle.pagable_model.specs.Meaning.{Meaning}
+use Rattle.pagable_model.specs.Shape.{Shape, tagged}
+use Rattle.pagable_model.specs.Form.{tagged-form}
+use Rattle.pagable_model.specs.Standing.{SomeMeaning, Gave, GivesSome}
+use Rattle.pagable_model.specs.Writing.{Out, Nesting, FormAt, WritesSome, NoForm, Refused, added}
+use Rattle.pagable_model.specs.Lengths.{long_or_memory}
+use Rattle.pagable_model.specs.Tagged.{MeansTagged, IsLastFor, NoneFor, grammars, HasDistinctTags, ReadsWhatIsWritten}
+use Rattle.pagable_codec.proofs.Writing.{then, memory_refuses}
+
+-- ---- writing
+
+pub writes_tagged : (M : Meaning ArcRef → Type 0) (tag : List ℕ) (n : Nesting) (written : List ℕ → Shape) (known : List ℕ → Bool) (body : List ℕ → Shape) (old mid new : Out) → IsUtf8 tag → length tag ≤ longest → mid ≡ added old (text_form tag) [] → WritesSome M n (written tag) mid new
+    → WritesSome (MeansTagged tag M) n (tagged written known body) old new
+writes_tagged M tag n written known body old mid new u le e w = record {
+  m = of_tagged tag w.m;
+  is = record { body = w.m; is_body = w.is; is = refl };
+  wrote = record {
+    bytes = text_form tag ++ w.wrote.bytes;
+    refs = w.wrote.refs;
+    form = tagged-form _ written known body tag w.m _ _ u le w.wrote.form;
+    grown = then old mid new _ _ _ _ e w.wrote.grown;
+  };
+}
+
+-- a form of a tagged value has a tag that fits, and a form of the body
+tagged-parts : (n : Nesting) (written : List ℕ → Shape) (known : List ℕ → Bool) (body : List ℕ → Shape) (tag : List ℕ) (x : Meaning ArcRef) {m : Meaning ArcRef} {b : List ℕ} {k : List ArcRef} → FormAt n (tagged written known body) m b k → m ≡ of_tagged tag x
+    → (length tag ≤ longest) × ((c : List ℕ) × FormAt n (written tag) x c k)
+tagged-parts n written known body tag x (tagged-form l w' k' b' t y c k u le f) e =
+    let tags : t ≡ tag = cc in
+    let bodies : y ≡ x = cc in (
+      let P : List ℕ → Type 0 = λ z. length z ≤ longest in subst P tags le,
+      (c, rw (← tags, ← bodies) f),
+    )
+
+no-body : (n : Nesting) (written : List ℕ → Shape) (known : List ℕ → Bool) (body : List ℕ → Shape) (tag : List ℕ) (x : Meaning ArcRef) → NoForm n (written tag) x → NoForm n (tagged written known body) (of_tagged tag x)
+no-body n written known body tag x h b k f = let p = (tagged-parts n written known body tag x f refl).1 in h p.0 k p.1
+
+no-tag : (n : Nesting) (written : List ℕ → Shape) (known : List ℕ → Bool) (body : List ℕ → Shape) (tag : List ℕ) (x : Meaning ArcRef) → longest < length tag → NoForm n (tagged written known body) (of_tagged tag x)
+no-tag n written known body tag x lt b k f = omega (arith, lt, (tagged-parts n written known body tag x f refl).0)
+
+pub refused_body : {X : Type 0} (r : Result X Error) (M : Meaning ArcRef → Type 0) (tag : List ℕ) (n : Nesting) (written : List ℕ → Shape) (known : List ℕ → Bool) (body : List ℕ → Shape) → IfErr r (Refused M n (written tag)) → IfErr r (Refused (MeansTagged tag M) n (tagged written known body))
+refused_body (Ok x) M tag n written known body h = tt
+refused_body (Err e) M tag n written known body h = λ fault.
+    let no = h fault in record { m = of_tagged tag no.m; is = record { body = no.m; is_body = no.is; is = refl }; no_form = no-body n written known body tag no.m no.no_form }
+
+refuses-tag : (M : Meaning ArcRef → Type 0) (has : SomeMeaning M) (tag : List ℕ) (n : Nesting) (written : List ℕ → Shape) (known : List ℕ → Bool) (body : List ℕ → Shape) (e : Error) → long_or_memory (length tag) e → Refused (MeansTagged tag M) n (tagged written known body) e
+refuses-tag M has tag n written known body e (inl h) = λ fault. record { m = of_tagged tag has.0; is = record { body = has.0; is_body = has.1; is = refl }; no_form = no-tag n written known body tag has.0 h.0 }
+refuses-tag M has tag n written known body e (inr h) = memory_refuses e (MeansTagged tag M) n (tagged written known body) h.1
+
+pub refused_tag : {X : Type 0} (r : Result X Error) (M : Meaning ArcRef → Type 0) (has : SomeMeaning M) (tag : List ℕ) (n : Nesting) (written : List ℕ → Shape) (known : List ℕ → Bool) (body : List ℕ → Shape) → IfErr r (long_or_memory (length tag)) → IfErr r (Refused (MeansTagged tag M) n (tagged written known body))
+refused_tag (Ok x) M has tag n written known body h = tt
+refused_tag (Err e) M has tag n written known body h = refuses-tag M has tag n written known body e h
+
+pub ruleset writing = (writes_tagged, refused_body, refused_tag)
+
+-- ---- the last registration of a tag
+
+-- no reader of this tag from this place on
+abbrev pub NoneFrom : {F : Type 0} → List ℕ → List (List ℕ × F) → ℕ → Type 0
+NoneFrom {F} tag readers i = (j : ℕ) (r : List ℕ × F) → i ≤ j → slice_get readers j ≡ Some r → bytes_eq tag r.0 ≡ false
+
+some-none : {X : Type 0} {x : X} → Some x ≡ None → ⊥
+some-none e = cc
+
+pub none_at_end : {R F : Type 0} (view : R → List ℕ × F) (tag : List ℕ) (xs : List R) (i : ℕ) → length xs ≤ i → NoneFrom tag (map view xs) i
+none_at_end view tag xs i le j r h stands =
+    let past : slice_get (map view xs) j ≡ None = slice_get-map view xs j ∙ rw (slice_get_past xs j (omega (arith, le, h))) refl in
+    absurd (some-none (sym stands ∙ past))
+
+at_place : {R F : Type 0} (view : R → List ℕ × F) (xs : List R) (i : ℕ) (x : R) → i < length xs → x ≡ get_or xs i x → slice_get (map view xs) i ≡ Some (view x)
+at_place view xs i x lt e = slice_get-map view xs i ∙ rw (slice_get_read xs (length xs) i x refl lt e) refl
+
+some-same : {X : Type 0} {x y : X} → Some x ≡ Some y → x ≡ y
+some-same e = cc
+
+pub none_from_less : {R F : Type 0} (view : R → List ℕ × F) (tag : List ℕ) (xs : List R) (i k : ℕ) (x : R) → k + 1 ≡ i → k < length xs → x ≡ get_or xs k x → bytes_eq tag (view x).0 ≡ false → NoneFrom tag (map view xs) i → NoneFrom tag (map view xs) k
+none_from_less {R} {F} view tag xs i k x s lt e differs from j r le stands = go (cases_lt k j)
+  where
+    go : (k < j) ⊎ (j ≤ k) → bytes_eq tag r.0 ≡ false
+    go (inl less) = from j r (omega (arith, s, less)) stands
+    go (inr more) =
+        let here : j ≡ k = omega (arith, le, more) in
+        let at_k : slice_get (map view xs) k ≡ Some r = rw (sym here) stands in
+        let is : view x ≡ r = some-same (sym (at_place view xs k x lt e) ∙ at_k) in
+        let P : List ℕ × F → Type 0 = λ y. bytes_eq tag y.0 ≡ false in
+        subst P is differs
+
+pub is_last : {R F : Type 0} (view : R → List ℕ × F) (tag : List ℕ) (xs : List R) (i k : ℕ) (x : R) → k + 1 ≡ i → k < length xs → x ≡ get_or xs k x → bytes_eq tag (view x).0 ≡ true → NoneFrom tag (map view xs) i → IsLastFor tag (map view xs) (view x).1
+is_last {R} {F} view tag xs i k x s lt e equal from =
+    let same : tag ≡ (view x).0 = (bytes_eq-Decides tag (view x).0).0 equal in
+    let P : List ℕ → Type 0 = λ t. slice_get (map view xs) k ≡ Some (t, (view x).1) in
+    record { place = k; stands = subst P (sym same) (at_place view xs k x lt e); last = λ j r less stands. from j r (omega (arith, s, less)) stands }
+
+-- ---- what the model makes of registrations
+
+is-same : (tag : List ℕ) → bytes_eq tag tag ≡ true
+is-same tag = (bytes_eq-Decides tag tag).1 refl
+
+not-registered : (rs : List (List ℕ × Shape)) (tag : List ℕ) → ((j : ℕ) (r : List ℕ × Shape) → slice_get rs j ≡ Some r → bytes_eq tag r.0 ≡ false) → is_registered rs tag ≡ false
+not-registered [] tag h = refl
+not-registered (r ∷ rs) tag h = rw (not-registered rs tag (λ j x e. h (suc j) x e)) (h 0 r refl)
+
+is-last : (rs : List (List ℕ × Shape)) (tag : List ℕ) (s : Shape) (place : ℕ) → slice_get rs place ≡ Some (tag, s) → ((j : ℕ) (r : List ℕ × Shape) → place < j → slice_get rs j ≡ Some r → bytes_eq tag r.0 ≡ false) → (is_registered rs tag ≡ true) × (body_of rs tag ≡ s)
+is-last [] tag s place e last = absurd (some-none (sym e))
+is-last (r ∷ rs) tag s zero e last =
+    let same : r ≡ (tag, s) = some-same e in
+    let none = not-registered rs tag (λ j x stands. last (suc j) x (omega arith) stands) in
+    (rw (none, same) (is-same tag), rw (none, same) refl)
+is-last (r ∷ rs) tag s (suc place) e last =
+    let p = is-last rs tag s place e (λ j x less stands. last (suc j) x (omega (arith, less)) stands) in
+    (rw p.0 refl, rw p.0 p.1)
+
+-- the same of readers and what each reads
+grammar-at : {F V : Type 0} (grammar : F → V → Shape) (e : V) (readers : List (List ℕ × F)) (j : ℕ) (tag : List ℕ) (s : Shape) → slice_get (grammars grammar e readers) j ≡ Some (tag, s) → (f : F) × ((slice_get readers j ≡ Some (tag, f)) × (grammar f e ≡ s))
+grammar-at grammar e [] j tag s h = absurd (some-none (sym h))
+grammar-at {F} grammar e (r ∷ rs) zero tag s h =
+    let same : (r.0, grammar r.1 e) ≡ (tag, s) = some-same h in
+    let tags : r.0 ≡ tag = ap (λ (p : List ℕ × Shape). p.0) same in
+    let P : List ℕ → Type 0 = λ t. (slice_get (r ∷ rs) 0 ≡ Some (t, r.1)) in
+    (r.1, (subst P tags refl, ap (λ (p : List ℕ × Shape). p.1) same))
+grammar-at grammar e (r ∷ rs) (suc j) tag s h = grammar-at grammar e rs j tag s h
+
+pub unknown_tag : {F V : Type 0} (grammar : F → V → Shape) (e : V) (readers : List (List ℕ × F)) (tag : List ℕ) → NoneFor tag readers → is_registered (grammars grammar e readers) tag ≡ false
+unknown_tag grammar e readers tag none = not-registered (grammars grammar e readers) tag (λ j r stands. let p = grammar-at grammar e readers j r.0 r.1 stands in none j (r.0, p.0) p.1.0)
+
+pub known_tag : {F V : Type 0} (grammar : F → V → Shape) (e : V) (readers : List (List ℕ × F)) (tag : List ℕ) (f : F) → IsLastFor tag readers f → (is_registered (grammars grammar e readers) tag ≡ true) × (body_of (grammars grammar e readers) tag ≡ grammar f e)
+known_tag {F} grammar e readers tag f l =
+    let at : slice_get (grammars grammar e readers) l.place ≡ Some (tag, grammar f e) = slice_get-map (λ r. (r.0, grammar r.1 e)) readers l.place ∙ rw l.stands refl in
+    is-last (grammars grammar e readers) tag (grammar f e) l.place at (λ j r less stands. let p = grammar-at grammar e readers j r.0 r.1 stands in l.last j (r.0, p.0) less p.1.0)
+
+-- ---- reading
+
+read-known : {A B : Type 0} (context : Context A B) (written : List ℕ → Shape) (rs : List (List ℕ × Shape)) (tag : List ℕ) (s : Shape) (rest mid : Rest A) → bytes_of text_at (λ t. t) rest ≡ Ok (tag, mid) → is_registered rs tag ≡ true → body_of rs tag ≡ s
+    → read context (tagged_by written rs) rest ≡ (read context s mid >>= λ y. Ok (of_tagged tag y.0, y.1))
+unfolding read read_with
+read-known context written rs tag s rest mid e known body = rw (e, known, body) refl
+
+read-unknown : {A B : Type 0} (context : Context A B) (written : List ℕ → Shape) (rs : List (List ℕ × Shape)) (tag : List ℕ) (rest mid : Rest A) → bytes_of text_at (λ t. t) rest ≡ Ok (tag, mid) → is_registered rs tag ≡ false → read context (tagged_by written rs) rest ≡ Err errors.UnknownTag
+unfolding read read_with
+read-unknown context written rs tag rest mid e known = rw (e, known) refl
+
+-- the tag is refused
+pub no_tag_read : {A B : Type 0} (own : Error → Type 0) (context : Context A B) (written : List ℕ → Shape) (rs : List (List ℕ × Shape)) (e : Error) (rest : Rest A) → (bytes_of text_at (λ t. t) rest ≡ Err e) ⊎ memory e → (read context (tagged_by written rs) rest ≡ Err e) ⊎ memory_or own e
+unfolding read read_with
+no_tag_read own context written rs e rest (inl h) = inl (rw h refl)
+no_tag_read own context written rs e rest (inr h) = inr (inl h)
+
+-- no reader is registered
+pub unknown_read : {A B F V : Type 0} (own : Error → Type 0) (context : Context A B) (written : List ℕ → Shape) (grammar : F → V → Shape) (env : V) (readers : List (List ℕ × F)) (tag : List ℕ) (rest mid : Rest A) → bytes_of text_at (λ t. t) rest ≡ Ok (tag, mid) → NoneFor tag readers
+    → (read context (tagged_by written (grammars grammar env readers)) rest ≡ Err errors.UnknownTag) ⊎ memory_or own errors.UnknownTag
+unknown_read own context written grammar env readers tag rest mid e none = inl (read-unknown context written (grammars grammar env readers) tag rest mid e (unknown_tag grammar env readers tag none))
+
+-- the body is refused
+pub no_body_read : {A B F V : Type 0} (own : Error → Type 0) (context : Context A B) (written : List ℕ → Shape) (grammar : F → V → Shape) (env : V) (readers : List (List ℕ × F)) (tag : List ℕ) (f : F) (e : Error) (rest mid : Rest A) → bytes_of text_at (λ t. t) rest ≡ Ok (tag, mid) → IsLastFor tag readers f
+    → (read context (grammar f env) mid ≡ Err e) ⊎ own e → (read context (tagged_by written (grammars grammar env readers)) rest ≡ Err e) ⊎ memory_or own e
+no_body_read own context written grammar env readers tag f e rest mid h last (inl b) =
+    let p = known_tag grammar env readers tag f last in
+    inl (read-known context written (grammars grammar env readers) tag (grammar f env) rest mid h p.0 p.1 ∙ rw b refl)
+no_body_read own context written grammar env readers tag f e rest mid h last (inr b) = inr (inr b)
+
+-- the body is read
+pub tagged_read : {T A F V : Type 0} (M : T → Meaning ArcRef → Type 0) (tag_of : T → List ℕ) (context : Context A ArcRef) (written : List ℕ → Shape) (grammar : F → V → Shape) (env : V) (readers : List (List ℕ × F)) (tag : List ℕ) (f : F) (x : T) (rest mid after : Rest A)
+    → bytes_of text_at (λ t. t) rest ≡ Ok (tag, mid) → IsLastFor tag readers f → tag_of x ≡ tag → Gave (M x) after (read context (grammar f env) mid)
+    → Gave (MeansTagged (tag_of x) (M x)) after (read context (tagged_by written (grammars grammar env readers)) rest)
+tagged_read M tag_of context written grammar env readers tag f x rest mid after h last same g =
+    let p = known_tag grammar env readers tag f last in
+    record {
+      m = of_tagged tag g.m;
+      is = record { body = g.m; is_body = g.is; is = ap (λ (t : List ℕ). of_tagged t g.m) (sym same) };
+      gave = read-known context written (grammars grammar env readers) tag (grammar f env) rest mid h p.0 p.1 ∙ rw g.gave refl;
+    }
+
+pub ruleset reading = (no_tag_read, unknown_read, no_body_read, tagged_read)
+
+-- ---- distinct tags
+
+-- a registered tag is read by its own registration
+own-registration : (rs : List (List ℕ × Shape)) (i : ℕ) (tag : List ℕ) (s : Shape) → HasDistinctTags rs → slice_get rs i ≡ Some (tag, s) → (is_registered rs tag ≡ true) × (body_of rs tag ≡ s)
+own-registration rs i tag s distinct stands = is-last rs tag s i stands (λ j r less there. differs j r less there (bytes_eq tag r.0) refl)
+  where
+    differs : (j : ℕ) (r : List ℕ × Shape) → i < j → slice_get rs j ≡ Some r → (b : Bool) → bytes_eq tag r.0 ≡ b → bytes_eq tag r.0 ≡ false
+    differs j r less there true e = let same = distinct i j (tag, s) r stands there e in absurd (omega (arith, less, same))
+    differs j r less there false e = e
+
+registered-place : (rs : List (List ℕ × Shape)) (tag : List ℕ) → is_registered rs tag ≡ true → (i : ℕ) × (slice_get rs i ≡ Some (tag, body_of rs tag))
+registered-place [] tag e = absurd cc
+registered-place (r ∷ rs) tag e = go (is_registered rs tag) refl (λ known. registered-place rs tag known)
+  where
+    go : (b : Bool) → is_registered rs tag ≡ b → (is_registered rs tag ≡ true → (i : ℕ) × (slice_get rs i ≡ Some (tag, body_of rs tag))) → (i : ℕ) × (slice_get (r ∷ rs) i ≡ Some (tag, body_of (r ∷ rs) tag))
+    go true known later = let p = later known in (suc p.0, rw known p.1)
+    go false unknown later =
+        let here : bytes_eq tag r.0 ≡ true = rw unknown at e in
+        let same : tag ≡ r.0 = (bytes_eq-Decides tag r.0).0 here in
+        (0, rw unknown (let P : List ℕ → Type 0 = λ t. slice_get (r ∷ rs) 0 ≡ Some (t, r.1) in subst P (sym same) refl))
+
+pub distinct_is_readable : (written : List ℕ → Shape) (rs : List (List ℕ × Shape)) → HasDistinctTags rs → ReadsWhatIsWritten written rs → IsReadable (tagged_by written rs)
+unfolding IsReadable
+distinct_is_readable written rs distinct reads = (
+  λ tag. elim (reads.all tag) [
+    | inl none ↦ inl none
+    | inr p ↦ inr (own-registration rs p.0 tag (written tag) distinct p.1)
+  ],
+  λ tag known. let p = registered-place rs tag known in (reads.each p.0 tag (body_of rs tag) p.1).1,
+)
+
+pub ruleset laws = (distinct_is_readable)

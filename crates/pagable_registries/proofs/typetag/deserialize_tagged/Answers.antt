@@ -1,0 +1,32 @@
+use Rattle.std.proofs.lemmas.Result.{err_from_is_err_and}
+use Rattle.pagable_model.specs.Standing.{handles_at}
+use Rattle.pagable_model.specs.Tagged.{grammars}
+use Rattle.pagable_registries.proofs.Tagged.{no_tag_read, unknown_read, no_body_read}
+use Rattle.pagable_registries.proofs.typetag.deserialize_tagged.Goals as goal
+
+pub returns-in_err-tag-clause-gives : goal.returns-in_err-tag-clause-gives
+returns-in_err-tag-clause-gives g c = λ written.
+    let p = err_from_is_err_and c.from_residual.result c.from_residual.ensures.1 in
+    let env = g.D.PagableDeserializer.environment c.args.deserializer.now in
+    let context = handles_at (g.D.PagableDeserializer.levels c.args.deserializer.now) (g.E.Env.parts env) in
+    rw (p.1, p.2) (no_tag_read g.T.Reader.TagReader.read_causes context written (grammars g.T.Reader.TagReader.grammar env (g.T.HasTypetagRegistry.readers env)) _ (g.D.PagableDeserializer.rest c.args.deserializer.now) c.in_err-tag.ensures.gives)
+
+pub returns-in_err-reader-clause-gives : goal.returns-in_err-reader-clause-gives
+returns-in_err-reader-clause-gives g c = λ written.
+    let p = err_from_is_err_and c.from_residual-in_err-reader.result c.from_residual-in_err-reader.ensures.1 in
+    let env = g.D.PagableDeserializer.environment c.args.deserializer.now in
+    let context = handles_at (g.D.PagableDeserializer.levels c.args.deserializer.now) (g.E.Env.parts env) in
+    let u = c.in_err-reader.ensures.unknown in
+    rw (p.1, p.2, u.0)
+    (unknown_read g.T.Reader.TagReader.read_causes context written g.T.Reader.TagReader.grammar env (g.T.HasTypetagRegistry.readers env) _ (g.D.PagableDeserializer.rest c.args.deserializer.now) _ c.in_ok-tag.ensures.gives
+    (rw (c.as_str.ensures.value, c.env.ensures, c.in_ok-tag.ensures.same_env) at u.1))
+
+pub returns-in_err-value-clause-gives : goal.returns-in_err-value-clause-gives
+returns-in_err-value-clause-gives g c = λ written.
+    let p = err_from_is_err_and c.from_residual-in_err-value.result c.from_residual-in_err-value.ensures.1 in
+    let env = g.D.PagableDeserializer.environment c.args.deserializer.now in
+    let context = handles_at (g.D.PagableDeserializer.levels c.args.deserializer.now) (g.E.Env.parts env) in
+    rw (p.1, p.2)
+    (no_body_read g.T.Reader.TagReader.read_causes context written g.T.Reader.TagReader.grammar env (g.T.HasTypetagRegistry.readers env) _ _ _ (g.D.PagableDeserializer.rest c.args.deserializer.now) _ c.in_ok-tag.ensures.gives
+    (rw (c.as_str.ensures.value, c.env.ensures, c.in_ok-tag.ensures.same_env) at c.in_ok-reader.ensures.found)
+    (rw (c.in_ok-tag.ensures.same_levels, c.in_ok-tag.ensures.same_env) at c.in_err-value.ensures.gives))

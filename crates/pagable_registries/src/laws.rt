@@ -1,0 +1,34 @@
+//! What static values mean and how they are spelled, as laws that callers can cite: each is a function that does
+//! nothing, whose contract holds for every environment and every value.
+
+ghost use Rattle.std.specs.Prelude.{◌≡◌, ◌↔◌, ℕ, Some, Ok};
+ghost use Rattle.std.specs.Borrow.{Bor};
+ghost use Rattle.std.specs.List.{slice_get};
+ghost use Rattle.pagable_model.specs.Canonical.{IsReadable};
+ghost use Rattle.pagable_model.specs.Gives.{never, memory_or};
+ghost use Rattle.pagable_model.specs.Meaning.{Meaning, lifted};
+ghost use Rattle.pagable_model.specs.Reading.{registered};
+ghost use Rattle.pagable_model.specs.Shape.{static_value};
+ghost use Rattle.pagable_model.specs.Statics.{meanings_of, unregistered};
+ghost use Rattle.pagable_model.specs.declared.error.Error.{Error as Refusal};
+ghost use Rattle.pagable_model.specs.declared.numbers.ArcRef.{ArcRef as Reference};
+ghost use Rattle.pagable_registries.specs.declared.static_value.StaticValue.{StaticValue as Static};
+
+use crate::static_value::{HasStaticValueRegistry, StaticValue};
+use pagable_codec::Env;
+use pagable_traits::{Carried, PagableDeserialize, PagableSerialize};
+
+/// A static value is spelled as an index into the environment's registry, means its value whatever its index, and is
+/// refused by want of memory or where it isn't registered; reading it is never refused for a cause of its own.
+pub fn static_value_is_carried<E: Env, T: HasStaticValueRegistry<'static, E> + 'static>()
+    ensures shape { (e : E) → ⟦<StaticValue<'static, T> as Carried<E>>⟧.shape e ≡ static_value (meanings_of T.plain (T.known e)) }
+    ensures means { (v : Static T) (m : Meaning Reference) → ⟦<StaticValue<'static, T> as Carried<E>>⟧.means v m ↔ (m ≡ lifted (T.plain v.0.value.now)) }
+    ensures writes { (e : Refusal) → ⟦<StaticValue<'static, T> as PagableSerialize<E>>⟧.write_causes e ↔ memory_or unregistered e }
+    ensures reads { (e : Refusal) → ⟦<StaticValue<'static, T> as PagableDeserialize<'static, E>>⟧.read_causes e ↔ never e }
+{}
+
+/// The forms of static values are read again: each index of a registered value as that value.
+pub fn static_values_are_read_again<E: Env, T: HasStaticValueRegistry<'static, E> + 'static>()
+    ensures readable { (e : E) → IsReadable (static_value (meanings_of T.plain (T.known e))) }
+    ensures value { (e : E) (i : ℕ) (known : Bor T) → slice_get (T.known e) i ≡ Some known → registered (meanings_of T.plain (T.known e)) i ≡ Ok (T.plain known.now) }
+{}

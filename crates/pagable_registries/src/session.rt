@@ -1,0 +1,118 @@
+//! What one session of reading and writing shares among its values: a map under a lock.
+
+ghost use Rattle.std.specs.Prelude.{◌≡◌, None, Some, IfOk, IfErr, OnOk, OnErr};
+ghost use Rattle.std.specs.BTreeMap.{IsEmpty, IsUnchanged, Updates, get};
+ghost use Rattle.pagable_model.specs.Gives.{memory};
+ghost use Rattle.pagable_model.specs.Session.{IsCloneOf};
+
+use pagable_flavors::Error;
+use std::alloc::Global;
+use std::collections::BTreeMap;
+use std::sync::{Mutex, Wait};
+
+/// The values of a session by their keys. Answers are clones of the values.
+#[derive(Drop)]
+pub struct SessionMap<K: Ord, V> {
+    pub values: BTreeMap<K, V>,
+}
+
+impl<K: Ord + Drop, V: Clone> SessionMap<K, V> {
+    /// A map without values.
+    pub fn new(alloc: Global) -> Self
+        ensures { IsEmpty result.values }
+    {
+        SessionMap {
+            values: BTreeMap::new(alloc),
+        }
+    }
+
+    /// A clone of the key's value, or None where there is none. Refused by want of memory alone.
+    pub fn get(&self, key: &K) -> Result<Option<V>, Error>
+        ensures value { IfOk result (IsCloneOf V.is_clone (get K.cmp self.now.values key.now)) }
+        ensures only { IfErr result memory }
+    {
+        match self.values.get(key) {
+            None => Ok(None),
+            Some(value) => Ok(Some(value.clone()?)),
+        }
+    }
+
+    /// Gives the key this value, in place of the one that it had. Refused by want of memory alone; then nothing changes.
+    pub fn set(&mut self, key: K, value: V) -> Result<(), Error>
+        ensures ok { OnOk result (Updates K.cmp self.old.values self.new.values key (Some value)) }
+        ensures err { OnErr result (IsUnchanged self.old.values self.new.values) }
+        ensures only { IfErr result memory }
+    {
+        self.values.insert(key, value)?;
+        Ok(())
+    }
+
+    /// A clone of the key's value, which is made where there is none. Refused by want of memory alone; then nothing
+    /// changes.
+    pub fn get_or_insert_with<F: FnOnce() -> V>(&mut self, key: K, make: F) -> Result<V, Error>
+        requires { F.pre make }
+        ensures kept { IfOk result (λ y. (x : V) → get K.cmp self.old.values key ≡ Some x → V.is_clone x y × IsUnchanged self.old.values self.new.values) }
+        ensures made { IfOk result (λ y. get K.cmp self.old.values key ≡ None → (x : V) × F.post make x × V.is_clone x y × Updates K.cmp self.old.values self.new.values key (Some x)) }
+        ensures err { OnErr result (IsUnchanged self.old.values self.new.values) }
+        ensures only { IfErr result memory }
+    {
+        if let Some(value) = self.get(&key)? {
+            return Ok(value);
+        }
+        let value = make();
+        let answer = value.clone()?;
+        self.set(key, value)?;
+        Ok(answer)
+    }
+}
+
+/// A session's map under a lock, which the values of one session of reading or writing share. Each call waits for the
+/// lock; what is said of the map is said of `SessionMap`, which the lock lends.
+#[derive(Drop)]
+pub struct SessionContext<K: Ord, V> {
+    map: Mutex<SessionMap<K, V>>,
+}
+
+impl<K: Ord + Drop, V: Clone> SessionContext<K, V> {
+    /// A context without values.
+    pub fn new(alloc: Global) -> Self {
+        SessionContext {
+            map: Mutex::new(SessionMap::new(alloc)),
+        }
+    }
+
+    /// The same as `new`.
+    pub fn default(alloc: Global) -> Self {
+        Self::new(alloc)
+    }
+
+    /// `SessionMap::get` on the lent map.
+    pub fn get<R: Wait>(&self, rt: &R, key: &K) -> Result<Option<V>, Error>
+        ensures only { IfErr result memory }
+    {
+        let map = self.map.lock(rt);
+        map.get(key)
+    }
+
+    /// `SessionMap::set` on the lent map.
+    pub fn set<R: Wait>(&self, rt: &R, key: K, value: V) -> Result<(), Error>
+        ensures only { IfErr result memory }
+    {
+        let mut map = self.map.lock(rt);
+        map.set(key, value)
+    }
+
+    /// `SessionMap::get_or_insert_with` on the lent map; the value is made under the lock.
+    pub fn get_or_insert_with<R: Wait, F: FnOnce() -> V>(
+        &self,
+        rt: &R,
+        key: K,
+        make: F,
+    ) -> Result<V, Error>
+        requires { F.pre make }
+        ensures only { IfErr result memory }
+    {
+        let mut map = self.map.lock(rt);
+        map.get_or_insert_with(key, make)
+    }
+}
