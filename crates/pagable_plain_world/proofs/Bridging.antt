@@ -332,23 +332,22 @@ module _ (w : Whole) (whole : IsWhole w) (h : HandleNumber) (i : ℕ) (row : Han
         rest = refl;
       }
 
-  with-pin : (loads : List LoadRow) (r : Result (Unit {0}) Error) (mid v : World) → OwnsNothing w.rows → w.closed ≡ false → is_pinning row.mode ≡ true → v.last_handle ≤ greatest
+  with-pin : (loads : List LoadRow) (r : Result (Unit {0}) Error) (mid v : World) → OwnsNothing w.rows → w.closed ≡ false → is_pinning row.mode ≡ true
       → Prepared (today loads w) row r mid → Leaves mid i row v → (w' : Whole) × (today loads w' ≡ v) × Falls w w (only_handle h) r w'
-  with-pin loads (Ok u) mid v nothing stands mode within (inl (needs, is)) leaves =
+  with-pin loads (Ok u) mid v nothing stands mode (inl (needs, is, room)) leaves =
       let gone : Leaves (enlisted (today loads w) row.node) i row v = subst (λ m. Leaves m i row v) is leaves in
-      let last : v.last_handle ≡ w.last.handle + 1 = ap (λ x. x.last_handle) gone.rest in
       (listed, listed-today loads v gone, leaves-listed loads nothing needs mode stands (omega arith))
-  with-pin loads (Ok u) mid v nothing stands mode within (inr (none, is)) leaves =
+  with-pin loads (Ok u) mid v nothing stands mode (inr (none, is)) leaves =
       let gone : Leaves (today loads w) i row v = subst (λ m. Leaves m i row v) is leaves in
       (left, left-today loads v gone, leaves-alone nothing (none-needed loads none))
-  with-pin loads (Err e) mid v nothing stands mode within (needs, why, is) leaves =
+  with-pin loads (Err e) mid v nothing stands mode (needs, why, is) leaves =
       let gone : Leaves (today loads w) i row v = subst (λ m. Leaves m i row v) is leaves in
       (refused, left-today loads v gone, leaves-refused loads e nothing needs why mode stands)
 
-  pub released-at : (loads : List LoadRow) (r : Result (Unit {0}) Error) (v : World) → OwnsNothing w.rows → w.closed ≡ false → v.last_handle ≤ greatest → ReleasedAt (today loads w) i row r v → (w' : Whole) × (today loads w' ≡ v) × Falls w w (only_handle h) r w'
-  released-at loads r v nothing stands within (inl (unpinned, is, leaves)) =
+  pub released-at : (loads : List LoadRow) (r : Result (Unit {0}) Error) (v : World) → OwnsNothing w.rows → w.closed ≡ false → ReleasedAt (today loads w) i row r v → (w' : Whole) × (today loads w' ≡ v) × Falls w w (only_handle h) r w'
+  released-at loads r v nothing stands (inl (unpinned, is, leaves)) =
       (left, left-today loads v leaves, subst (λ x. Falls w w (only_handle h) x left) (sym is) (leaves-alone nothing (not-pinning unpinned)))
-  released-at loads r v nothing stands within (inr (mode, (mid, prepared, leaves))) = with-pin loads r mid v nothing stands mode within prepared leaves
+  released-at loads r v nothing stands (inr (mode, (mid, prepared, leaves))) = with-pin loads r mid v nothing stands mode prepared leaves
 
 -- a refusal of today's is one of the whole world
 refuses : (w : Whole) (loads : List LoadRow) (h : HandleNumber) (e : Error) → RefusesOwn (today loads w) h e → RefusesHandle w owners.Caller h AnyMode e
@@ -358,7 +357,7 @@ refuses w loads h errors.NotYours (i, row, (at, number), other) =
 refuses w loads h _ why = absurd why
 
 pub releases-today : ReleasesToday
-releases-today w loads h r v whole nothing stands within (inl (e, is, why, same)) = (w, sym same, inl (e, refuses w loads h e why, (is, refl)))
-releases-today w loads h r v whole nothing stands within (inr (i, row, own, at)) =
-    let found = released-at w whole h i row own.there (ap (λ x. x.0) own.number) own.owner loads r v nothing stands within at in
+releases-today w loads h r v whole nothing stands (inl (e, is, why, same)) = (w, sym same, inl (e, refuses w loads h e why, (is, refl)))
+releases-today w loads h r v whole nothing stands (inr (i, row, own, at)) =
+    let found = released-at w whole h i row own.there (ap (λ x. x.0) own.number) own.owner loads r v nothing stands at in
     (found.0, found.1, inr (row, (((i, own.there), own.number), own.owner, tt), found.2))

@@ -7,3 +7,4 @@ mod Missing
 mod Places
 mod Bridging
 mod Keeping
+mod Turning
