@@ -8,3 +8,6 @@ mod Places
 mod Bridging
 mod Keeping
 mod Turning
+mod Filters
+mod Dropping
+mod Calls
