@@ -11,3 +11,4 @@ mod Turning
 mod Filters
 mod Dropping
 mod Calls
+mod Looks
