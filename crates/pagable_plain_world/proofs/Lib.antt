@@ -12,3 +12,4 @@ mod Filters
 mod Dropping
 mod Calls
 mod Looks
+mod Unpinning

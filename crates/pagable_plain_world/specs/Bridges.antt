@@ -5,10 +5,10 @@ use Rattle.pagable_model.specs.declared.numbers.HandleNumber.{HandleNumber}
 use Rattle.pagable_world.specs.declared.rows.Owner.TheVariants as owners
 use Rattle.pagable_world.specs.declared.rows.LoadRow.{LoadRow}
 use Rattle.pagable_world.specs.World.{World}
-use Rattle.pagable_world.specs.Calls.{Released}
+use Rattle.pagable_world.specs.Calls.{Released, Unpinned}
 use Rattle.pagable_world.specs.Whole.{Whole}
 use Rattle.pagable_world.specs.Pages.{IsWhole}
-use Rattle.pagable_world.specs.Handles.{ReleaseCall}
+use Rattle.pagable_world.specs.Handles.{ReleaseCall, UnpinCall}
 use Rattle.pagable_plain_world.specs.FallLaws.{OwnsNothing}
 
 -- what today's tables have of the whole world, beside these rows of loads
@@ -21,3 +21,10 @@ ReleasesToday =
     (w : Whole) (loads : List LoadRow) (h : HandleNumber) (r : Result (Unit {0}) Error) (v : World)
     → IsWhole w → OwnsNothing w.rows → w.closed ≡ false → Released (today loads w) h r v
     → (w' : Whole) × (today loads w' ≡ v) × ReleaseCall w owners.Caller h r w'
+
+-- So is an unpin, with its listing or its refusal.
+abbrev pub UnpinsToday : Type 0
+UnpinsToday =
+    (w : Whole) (loads : List LoadRow) (h : HandleNumber) (r : Result (Unit {0}) Error) (v : World)
+    → IsWhole w → OwnsNothing w.rows → w.closed ≡ false → Unpinned (today loads w) h r v
+    → (w' : Whole) × (today loads w' ≡ v) × UnpinCall w owners.Caller h r w'
