@@ -1,5 +1,5 @@
 -- What is done for the list before a pin is given up.
-use Rattle.std.proofs.Common.{◌≡◌, ℕ, ◌==◌, ◌&&◌, Bool, true, false, refl, ap, sym, ◌∙◌, arith, Some, Ok, Err, Result, OnOk, OnErr, IfErr, slice_get, inl, inr}
+use Rattle.std.proofs.Common.{◌≡◌, ℕ, ◌<◌, ◌==◌, ◌&&◌, Bool, true, false, refl, ap, sym, ◌∙◌, arith, Some, Ok, Err, Result, OnOk, OnErr, IfErr, slice_get, inl, inr}
 use Rattle.std.specs.Prelude.{not, ◌⊎◌, ◌≢◌}
 use Rattle.std.proofs.lemmas.Bool.Decides.{nat_tests}
 use Rattle.std.proofs.lemmas.Bool.{false≢true}
@@ -10,7 +10,7 @@ use Rattle.pagable_world.specs.declared.rows.Mode.{Mode}
 use Rattle.pagable_world.specs.declared.rows.Mode.TheVariants as modes
 use Rattle.pagable_world.specs.State.{State, has_key, is_shared, pins}
 use Rattle.pagable_world.specs.Cells.{cell_of}
-use Rattle.pagable_world.specs.World.{World, plain, enlisted, CannotMake, HasKey, NeedsListing, NeedsNoListing, Prepared}
+use Rattle.pagable_world.specs.World.{World, plain, greatest, enlisted, CannotMake, HasKey, NeedsListing, NeedsNoListing, Prepared}
 use Rattle.pagable_book.proofs.Sums.{push-there}
 use Rattle.pagable_book.proofs.Settling.{cell-at}
 use Rattle.pagable_world.specs.declared.rows.NodeRow.{NodeRow}
@@ -64,9 +64,9 @@ needs-none s j n row at number count h =
     ]
 
 -- what the listing did is what was to be prepared
-pub prepared : (old new : State) (row : HandleRow) (r : Result (Unit {0}) Error) → NeedsListing (plain old) row → OnOk r (plain new ≡ enlisted (plain old) row.node) → OnErr r (new ≡ old) → IfErr r (CannotMake old.last_handle) → Prepared (plain old) row r (plain new)
-prepared old new row (Ok u) needs world err why = inl (needs, world)
-prepared old new row (Err e) needs world err why = (needs, why, ap plain err)
+pub prepared : (old new : State) (row : HandleRow) (r : Result (Unit {0}) Error) → NeedsListing (plain old) row → OnOk r (plain new ≡ enlisted (plain old) row.node) → OnOk r (old.last_handle < greatest) → OnErr r (new ≡ old) → IfErr r (CannotMake old.last_handle) → Prepared (plain old) row r (plain new)
+prepared old new row (Ok u) needs world room err why = inl (needs, world, room)
+prepared old new row (Err e) needs world room err why = (needs, why, ap plain err)
 
 -- the handle stays in its place
 pub prepared-place : (old new : State) (i : ℕ) (row : HandleRow) (r : Result (Unit {0}) Error) → slice_get old.handles i ≡ Some row → OnOk r (plain new ≡ enlisted (plain old) row.node) → OnErr r (new ≡ old) → slice_get new.handles i ≡ Some row

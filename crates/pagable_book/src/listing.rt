@@ -2,7 +2,7 @@
 
 ghost use Rattle.std.specs.Prelude.{◌≡◌, ℕ, ◌<◌, ◌==◌, ◌&&◌, slice_get, Some, IfErr, OnOk, OnErr, false, not};
 ghost use Rattle.pagable_world.specs.State.{WellFormed, held, has_key, is_shared, is_aside};
-ghost use Rattle.pagable_world.specs.World.{plain, enlisted, Prepared, CannotMake};
+ghost use Rattle.pagable_world.specs.World.{plain, enlisted, greatest, Prepared, CannotMake};
 ghost use Rattle.pagable_world.specs.Calls.{UnpinnedAt, ReleasedAt, Took};
 ghost use Rattle.pagable_book.specs.Shape.{state_of};
 
@@ -19,6 +19,7 @@ pub fn enlist(t: &mut Tables, node: NodeNumber) -> Result<(), Error>
     requires live { 0 < held node.0 t.old.handles.items }
     ensures whole { WellFormed (state_of t.new) }
     ensures world { OnOk result (plain (state_of t.new) ≡ enlisted (plain (state_of t.old)) node) }
+    ensures room { OnOk result (t.old.last_handle < greatest) }
     ensures nodes { t.new.nodes.items ≡ t.old.nodes.items }
     ensures err { OnErr result (state_of t.new ≡ state_of t.old) }
     ensures why { IfErr result (CannotMake t.old.last_handle) }

@@ -32,25 +32,25 @@ use Rattle.pagable_plain_world.proofs.Sums.{sum-le, at-most-sum, sum-zero, count
 use Rattle.pagable_plain_world.proofs.Alone.{given-least}
 use Rattle.pagable_plain_world.proofs.Places.{filter-all, filter-one, unique, sum-remove, sum-less, remove-append}
 
-self-number : (a : ℕ) → (a == a) ≡ true
+pub self-number : (a : ℕ) → (a == a) ≡ true
 self-number a = grind (arith, nat_tests)
 
-same-number : (a b : ℕ) → a ≡ b → (a == b) ≡ true
+pub same-number : (a b : ℕ) → a ≡ b → (a == b) ≡ true
 same-number a b e = grind (arith, nat_tests)
 
-one-true : (b : Bool) → 0 < one b → b ≡ true
+pub one-true : (b : Bool) → 0 < one b → b ≡ true
 one-true true p = refl
 one-true false p = absurd (omega arith)
 
-left-true : (a b : Bool) → (a && b) ≡ true → a ≡ true
+pub left-true : (a b : Bool) → (a && b) ≡ true → a ≡ true
 left-true true b e = refl
 left-true false b e = e
 
-right-true : (a b : Bool) → (a && b) ≡ true → b ≡ true
+pub right-true : (a b : Bool) → (a && b) ≡ true → b ≡ true
 right-true true b e = e
 right-true false b e = absurd (grind (arith, nat_tests))
 
-same-world : (loads : List LoadRow) (r s : List HandleRow) (c d : List Cell) (l m : List HandleNumber) (node a b load : ℕ) → r ≡ s → c ≡ d → l ≡ m → a ≡ b
+pub same-world : (loads : List LoadRow) (r s : List HandleRow) (c d : List Cell) (l m : List HandleNumber) (node a b load : ℕ) → r ≡ s → c ≡ d → l ≡ m → a ≡ b
     → ◌≡◌ {A = World} (record { rows = r; cells = c; list = l; loads = loads; last_node = node; last_handle = a; last_load = load }) (record { rows = s; cells = d; list = m; loads = loads; last_node = node; last_handle = b; last_load = load })
 same-world loads r s c d l m node a b load e f g k = cc
 
@@ -102,7 +102,7 @@ module _ (w : Whole) (whole : IsWhole w) (h : HandleNumber) (i : ℕ) (row : Han
   row-leaves = append-nil _ ∙ row-goes
 
   -- a cell that is there has a handle
-  held-live : (c : Cell) → Among w.cells c → 0 < held c.number w.rows
+  pub held-live : (c : Cell) → Among w.cells c → 0 < held c.number w.rows
   held-live c among =
       let a = at-most-sum (λ x. one (is_cell c.number x)) w.cells c among in
       let b = whole.handles.live c.number in
@@ -241,7 +241,7 @@ module _ (w : Whole) (whole : IsWhole w) (h : HandleNumber) (i : ℕ) (row : Han
       ap (λ qs. qs ++ record { 0 = w.last.handle + 1 } ∷ []) (filter-all (λ q. not (only_handle h q.0)) w.list unlisted) in
       same-world loads _ _ _ _ _ _ w.last.node _ _ w.last.load listed-rows cells list refl ∙ sym leaves.rest
 
-  single-key : (loads : List LoadRow) → NeedsListing (today loads w) row → keyed row.node.0 w.cells ≡ 0
+  pub single-key : (loads : List LoadRow) → NeedsListing (today loads w) row → keyed row.node.0 w.cells ≡ 0
   single-key loads (single, (cell, (j, is, number), has), other) = sum-zero (keyed_at row.node.0) w.cells each
     where
       each : (c : Cell) → Among w.cells c → keyed_at row.node.0 c ≡ 0
@@ -256,7 +256,7 @@ module _ (w : Whole) (whole : IsWhole w) (h : HandleNumber) (i : ℕ) (row : Han
               let bare : has_key c.key ≡ false = ap (λ x. has_key x.key) same ∙ ap has_key has in
               grind (arith, nat_tests)
 
-  no-shares : (loads : List LoadRow) → NeedsListing (today loads w) row → sharing row.node.0 w.rows ≡ 0
+  pub no-shares : (loads : List LoadRow) → NeedsListing (today loads w) row → sharing row.node.0 w.rows ≡ 0
   no-shares loads (single, key, other) = by-form (whole.handles.uniform row.node.0)
     where
       by-form : (sharing row.node.0 w.rows ≡ 0) ⊎ (sharing row.node.0 w.rows ≡ held row.node.0 w.rows) → sharing row.node.0 w.rows ≡ 0
@@ -332,23 +332,22 @@ module _ (w : Whole) (whole : IsWhole w) (h : HandleNumber) (i : ℕ) (row : Han
         rest = refl;
       }
 
-  with-pin : (loads : List LoadRow) (r : Result (Unit {0}) Error) (mid v : World) → OwnsNothing w.rows → w.closed ≡ false → is_pinning row.mode ≡ true → v.last_handle ≤ greatest
+  with-pin : (loads : List LoadRow) (r : Result (Unit {0}) Error) (mid v : World) → OwnsNothing w.rows → w.closed ≡ false → is_pinning row.mode ≡ true
       → Prepared (today loads w) row r mid → Leaves mid i row v → (w' : Whole) × (today loads w' ≡ v) × Falls w w (only_handle h) r w'
-  with-pin loads (Ok u) mid v nothing stands mode within (inl (needs, is)) leaves =
+  with-pin loads (Ok u) mid v nothing stands mode (inl (needs, is, room)) leaves =
       let gone : Leaves (enlisted (today loads w) row.node) i row v = subst (λ m. Leaves m i row v) is leaves in
-      let last : v.last_handle ≡ w.last.handle + 1 = ap (λ x. x.last_handle) gone.rest in
       (listed, listed-today loads v gone, leaves-listed loads nothing needs mode stands (omega arith))
-  with-pin loads (Ok u) mid v nothing stands mode within (inr (none, is)) leaves =
+  with-pin loads (Ok u) mid v nothing stands mode (inr (none, is)) leaves =
       let gone : Leaves (today loads w) i row v = subst (λ m. Leaves m i row v) is leaves in
       (left, left-today loads v gone, leaves-alone nothing (none-needed loads none))
-  with-pin loads (Err e) mid v nothing stands mode within (needs, why, is) leaves =
+  with-pin loads (Err e) mid v nothing stands mode (needs, why, is) leaves =
       let gone : Leaves (today loads w) i row v = subst (λ m. Leaves m i row v) is leaves in
       (refused, left-today loads v gone, leaves-refused loads e nothing needs why mode stands)
 
-  pub released-at : (loads : List LoadRow) (r : Result (Unit {0}) Error) (v : World) → OwnsNothing w.rows → w.closed ≡ false → v.last_handle ≤ greatest → ReleasedAt (today loads w) i row r v → (w' : Whole) × (today loads w' ≡ v) × Falls w w (only_handle h) r w'
-  released-at loads r v nothing stands within (inl (unpinned, is, leaves)) =
+  pub released-at : (loads : List LoadRow) (r : Result (Unit {0}) Error) (v : World) → OwnsNothing w.rows → w.closed ≡ false → ReleasedAt (today loads w) i row r v → (w' : Whole) × (today loads w' ≡ v) × Falls w w (only_handle h) r w'
+  released-at loads r v nothing stands (inl (unpinned, is, leaves)) =
       (left, left-today loads v leaves, subst (λ x. Falls w w (only_handle h) x left) (sym is) (leaves-alone nothing (not-pinning unpinned)))
-  released-at loads r v nothing stands within (inr (mode, (mid, prepared, leaves))) = with-pin loads r mid v nothing stands mode within prepared leaves
+  released-at loads r v nothing stands (inr (mode, (mid, prepared, leaves))) = with-pin loads r mid v nothing stands mode prepared leaves
 
 -- a refusal of today's is one of the whole world
 refuses : (w : Whole) (loads : List LoadRow) (h : HandleNumber) (e : Error) → RefusesOwn (today loads w) h e → RefusesHandle w owners.Caller h AnyMode e
@@ -358,7 +357,7 @@ refuses w loads h errors.NotYours (i, row, (at, number), other) =
 refuses w loads h _ why = absurd why
 
 pub releases-today : ReleasesToday
-releases-today w loads h r v whole nothing stands within (inl (e, is, why, same)) = (w, sym same, inl (e, refuses w loads h e why, (is, refl)))
-releases-today w loads h r v whole nothing stands within (inr (i, row, own, at)) =
-    let found = released-at w whole h i row own.there (ap (λ x. x.0) own.number) own.owner loads r v nothing stands within at in
+releases-today w loads h r v whole nothing stands (inl (e, is, why, same)) = (w, sym same, inl (e, refuses w loads h e why, (is, refl)))
+releases-today w loads h r v whole nothing stands (inr (i, row, own, at)) =
+    let found = released-at w whole h i row own.there (ap (λ x. x.0) own.number) own.owner loads r v nothing stands at in
     (found.0, found.1, inr (row, (((i, own.there), own.number), own.owner, tt), found.2))

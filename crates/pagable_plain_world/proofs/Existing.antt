@@ -98,7 +98,7 @@ module _ (rows : List HandleRow) (cells : List Cell) (entries : List HandleRow) 
   inside s t h within among is = let a = at-most-sum (only_in s t) rows h among in grind (arith, nat_tests)
 
   -- a value that goes with fewer handles goes with more
-  wider : (s t : ℕ → Bool) (n : ℕ) → IsWithin rows s t → lost s n ≡ true → lost t n ≡ true
+  pub wider : (s t : ℕ → Bool) (n : ℕ) → IsWithin rows s t → lost s n ≡ true → lost t n ≡ true
   wider s t n within goes =
       let pins = sum-le (pin_outside t n) (pin_outside s n) rows (λ h among. let a = at-most-sum (only_in s t) rows h among in grind (arith, nat_tests)) in
       let handles = sum-le (held_outside t n) (held_outside s n) rows (λ h among. let a = at-most-sum (only_in s t) rows h among in grind (arith, nat_tests)) in

@@ -1,11 +1,13 @@
--- A clone keeps the world whole.
+-- One more handle of a node that is there keeps the world whole; and so does a call that is refused.
 use Rattle.std.proofs.Common.{◌≡◌, ℕ, suc, zero, ◌+◌, ◌<◌, ◌≤◌, ◌==◌, ◌&&◌, Bool, true, false, List, [], ◌∷◌, ◌++◌, length, get_or, sum_by, refl, ap, sym, ◌∙◌, subst, inl, inr, arith}
-use Rattle.std.specs.Prelude.{◌⊎◌, not, nat_lt, Some, slice_get}
+use Rattle.std.specs.Prelude.{◌⊎◌, not, nat_lt, Option, Some, Ok, Err, slice_get}
 use Rattle.std.specs.List.{AllPairs}
 use Rattle.std.proofs.lemmas.Bool.Decides.{nat_tests}
 use Rattle.std.proofs.lemmas.List.Sums.{sum_by_push}
 use Rattle.std.proofs.lemmas.List.Quantifiers.{all_pairs_push}
+use Rattle.pagable_model.specs.Blob.{Blob}
 use Rattle.pagable_model.specs.declared.numbers.HandleNumber.{HandleNumber}
+use Rattle.pagable_world.specs.declared.rows.Mode.{Mode}
 use Rattle.pagable_world.specs.declared.rows.Mode.TheVariants as modes
 use Rattle.pagable_world.specs.declared.rows.Owner.TheVariants as owners
 use Rattle.pagable_world.specs.declared.rows.HandleRow.{HandleRow}
@@ -14,7 +16,7 @@ use Rattle.pagable_world.specs.State.{one, held, handle_of, is_number, is_entry,
 use Rattle.pagable_world.specs.World.{greatest}
 use Rattle.pagable_world.specs.Words.{Among, times}
 use Rattle.pagable_world.specs.Least.{sharing, share_of}
-use Rattle.pagable_world.specs.Whole.{Whole, is_owner, HasRowOf, HasType}
+use Rattle.pagable_world.specs.Whole.{Whole, is_owner, HasRowOf, HasType, Stays}
 use Rattle.pagable_world.specs.Kinds.{FitsMode}
 use Rattle.pagable_model.specs.Trees.{type_of}
 use Rattle.pagable_world.specs.Pages.{IsWhole, HandlesAreWhole, OwnersAreThere, WorkIsWhole}
@@ -23,13 +25,13 @@ use Rattle.pagable_plain_world.specs.KeepLaws.{CloneKeeps}
 use Rattle.pagable_plain_world.proofs.Sums.{at-most-sum, counted}
 use Rattle.pagable_plain_world.proofs.Places.{sum-less}
 
-among-get : {X : Type 0} (xs : List X) (k : ℕ) (d : X) → k < length xs → slice_get xs k ≡ Some (get_or xs k d)
+pub among-get : {X : Type 0} (xs : List X) (k : ℕ) (d : X) → k < length xs → slice_get xs k ≡ Some (get_or xs k d)
 among-get [] k d lt = absurd (omega arith)
 among-get (x ∷ xs) zero d lt = refl
 among-get (x ∷ xs) (suc k) d lt = among-get xs k d (omega arith)
 
 -- what stands in a list with one more stands in the list, or is the one
-pushed : {X : Type 0} (xs : List X) (y x : X) → Among (xs ++ y ∷ []) x → Among xs x ⊎ (x ≡ y)
+pub pushed : {X : Type 0} (xs : List X) (y x : X) → Among (xs ++ y ∷ []) x → Among xs x ⊎ (x ≡ y)
 pushed [] y x (zero, is) = inr (cc)
 pushed [] y x (suc i, is) = absurd (cc)
 pushed (z ∷ zs) y x (zero, is) = inl (zero, is)
@@ -39,12 +41,12 @@ pushed (z ∷ zs) y x (suc i, is) = later (pushed zs y x (i, is))
     later (inl among) = inl (suc among.0, among.1)
     later (inr e) = inr e
 
-module _ (w : Whole) (whole : IsWhole w) (row : HandleRow) (there : Among w.rows row) (room : w.last.handle < greatest) where
+module _ (w : Whole) (whole : IsWhole w) (row : HandleRow) (there : Among w.rows row) (room : w.last.handle < greatest) (mode : Mode) (share : is_shared mode ≡ is_shared row.mode) where
   abbrev new : HandleRow
-  new = row_of (w.last.handle + 1) row.node row.mode owners.Caller
+  new = row_of (w.last.handle + 1) row.node mode owners.Caller
 
   abbrev after : Whole
-  after = with_handle w row.node row.mode owners.Caller
+  after = with_handle w row.node mode owners.Caller
 
   push : (f : HandleRow → ℕ) → sum_by f after.rows ≡ sum_by f w.rows + f new
   push f = sum_by_push f w.rows new
@@ -64,12 +66,12 @@ module _ (w : Whole) (whole : IsWhole w) (row : HandleRow) (there : Among w.rows
 
   by-form : (n : ℕ) → (sharing n w.rows ≡ 0) ⊎ (sharing n w.rows ≡ held n w.rows) → (sharing n after.rows ≡ 0) ⊎ (sharing n after.rows ≡ held n after.rows)
   by-form n (inl none) =
-      let s = push (share_of n) in let a = at-most-sum (share_of n) w.rows row there in
+      let s = push (share_of n) in let a = at-most-sum (share_of n) w.rows row there in let e = share in
       inl (grind (arith, nat_tests))
   by-form n (inr all) = part (share_of n row == handle_of n row) refl
     where
       part : (b : Bool) → (share_of n row == handle_of n row) ≡ b → (sharing n after.rows ≡ 0) ⊎ (sharing n after.rows ≡ held n after.rows)
-      part true e = let s = push (share_of n) in let t = push (handle_of n) in inr (grind (arith, nat_tests))
+      part true e = let s = push (share_of n) in let t = push (handle_of n) in let same = share in inr (grind (arith, nat_tests))
       part false e =
           let less = sum-less (share_of n) (handle_of n) w.rows there.0 row there.1 (λ y. grind (arith, nat_tests)) (grind (arith, nat_tests)) in
           absurd (omega arith)
@@ -85,7 +87,7 @@ module _ (w : Whole) (whole : IsWhole w) (row : HandleRow) (there : Among w.rows
         within = (omega arith, whole.handles.within.1);
         live = λ n. let s = push (handle_of n) in let a = whole.handles.live n in let b = at-most-sum (handle_of n) w.rows row there in grind (arith, nat_tests);
         uniform = λ n. by-form n (whole.handles.uniform n);
-        unkeyed = λ n some. let s = push (share_of n) in let a = at-most-sum (share_of n) w.rows row there in whole.handles.unkeyed n (grind (arith, nat_tests));
+        unkeyed = λ n some. let s = push (share_of n) in let a = at-most-sum (share_of n) w.rows row there in let e = share in whole.handles.unkeyed n (grind (arith, nat_tests));
       }
 
   waits : (x : HandleRow) → Among after.rows x → x.owner ≡ owners.List → x.mode ≡ modes.LooseUnpinned
@@ -149,5 +151,46 @@ module _ (w : Whole) (whole : IsWhole w) (row : HandleRow) (there : Among w.rows
   pub after-whole : IsWhole after
   after-whole = record { handles = handles-whole; owners_there = owners-there; work = work-whole }
 
+-- how often a growth was refused, the storage failed and what is stored are no part of what is whole
+pub others-whole : (w : Whole) (n m : ℕ) (stored : ℕ → Option Blob) → IsWhole w → IsWhole (record w { refusals = n; failures = m; stored = stored })
+others-whole w n m stored whole =
+    record {
+      handles = record {
+        ordered = whole.handles.ordered;
+        once = whole.handles.once;
+        fresh = whole.handles.fresh;
+        cells_ordered = whole.handles.cells_ordered;
+        node_fresh = whole.handles.node_fresh;
+        within = whole.handles.within;
+        live = whole.handles.live;
+        uniform = whole.handles.uniform;
+        unkeyed = whole.handles.unkeyed;
+      };
+      owners_there = record {
+        listed = whole.owners_there.listed;
+        waiting = whole.owners_there.waiting;
+        cached = whole.owners_there.cached;
+        entries = whole.owners_there.entries;
+        kinds = whole.owners_there.kinds;
+        loads = whole.owners_there.loads;
+        workers = whole.owners_there.workers;
+      };
+      work = record {
+        load_once = whole.work.load_once;
+        load_fresh = whole.work.load_fresh;
+        load_owned = whole.work.load_owned;
+        worker_once = whole.work.worker_once;
+        worker_fresh = whole.work.worker_fresh;
+        tables = whole.work.tables;
+        slot_once = whole.work.slot_once;
+        claimers = whole.work.claimers;
+        open_slots = whole.work.open_slots;
+      };
+    }
+
+pub stays-whole : (w w' : Whole) → IsWhole w → Stays w w' → IsWhole w'
+stays-whole w w' whole stays = subst IsWhole (sym stays.rest) (others-whole w w'.refusals w.failures w.stored whole)
+
 pub clone-keeps : CloneKeeps
-clone-keeps w w' h k whole (row, (there, is), ((number, room), same)) = subst IsWhole (sym same) (after-whole w whole row there room)
+clone-keeps w w' h (Ok k) whole (row, (there, is), ((number, room), same)) = subst IsWhole (sym same) (after-whole w whole row there room row.mode refl)
+clone-keeps w w' h (Err e) whole (stays, why) = stays-whole w w' whole stays

@@ -7,3 +7,9 @@ mod Missing
 mod Places
 mod Bridging
 mod Keeping
+mod Turning
+mod Filters
+mod Dropping
+mod Calls
+mod Looks
+mod Unpinning

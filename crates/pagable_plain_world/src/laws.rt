@@ -3,8 +3,8 @@
 ghost use Rattle.pagable_world.specs.Seen.{Seen};
 ghost use Rattle.pagable_plain_world.specs.FallLaws.{IsThere, IsOne, IsGivenAlone, PinsAreAFilter, TwoLevelsFall, TwoLevelsAreReleased, LoneIsListed};
 ghost use Rattle.pagable_plain_world.specs.RunLaws.{RunsJoin, NewIsWhole};
-ghost use Rattle.pagable_plain_world.specs.Bridges.{ReleasesToday};
-ghost use Rattle.pagable_plain_world.specs.KeepLaws.{CloneKeeps};
+ghost use Rattle.pagable_plain_world.specs.Bridges.{ReleasesToday, UnpinsToday};
+ghost use Rattle.pagable_plain_world.specs.KeepLaws.{CloneKeeps, PinKeeps, UnpinKeeps, ReleaseKeeps, LoosenKeeps, ScheduleKeeps, TakeKeeps, RecallKeeps, FetchKeeps, StoreKeeps, FlushKeeps, LookChangesNothing};
 ghost use Rattle.pagable_plain_world.specs.NearMisses.{NewNodeHasItsValue, NoLoadInMemory, OnlyLooseIsUnfit, ItemIsAtOne, FirstIsTheRoot, NoWaitForFree};
 
 /// How values of this type are seen, with blobs B and what is written W: any values, so that a law is one of all.
@@ -33,9 +33,37 @@ pub fn releases_today()
     ensures { ReleasesToday }
 {}
 
+/// An unpin as today's tables do it is one of the whole world.
+pub fn unpins_today()
+    ensures { UnpinsToday }
+{}
+
 /// A clone keeps the world whole.
 pub fn clone_keeps_whole()
     ensures { CloneKeeps }
+{}
+
+/// So do the other calls that make no node and no load and give nothing up, refusals included.
+pub fn calls_keep_whole()
+    ensures pin { PinKeeps }
+    ensures loosen { LoosenKeeps }
+    ensures schedule { ScheduleKeeps }
+    ensures take { TakeKeeps }
+    ensures recall { RecallKeeps }
+    ensures fetch { FetchKeeps }
+    ensures store { StoreKeeps }
+    ensures flush { FlushKeeps }
+{}
+
+/// A look-up changes nothing.
+pub fn look_changes_nothing<N: SeenAs<B, W>, B, W>()
+    ensures { LookChangesNothing N.seen }
+{}
+
+/// So do an unpin and a release, whatever falls with them.
+pub fn falls_keep_whole()
+    ensures unpin { UnpinKeeps }
+    ensures release { ReleaseKeeps }
 {}
 
 /// The number of pins is the length of the list of the node's pinning handles.

@@ -86,9 +86,10 @@ NeedsListing w row = (pins row.node.0 w.rows ≡ 1) × HasKey w row.node optiona
 abbrev pub NeedsNoListing : World → HandleRow → Type 0
 NeedsNoListing w row = (pins row.node.0 w.rows ≢ 1) ⊎ ((key : ℕ) × HasKey w row.node (optional.Some key)) ⊎ (row.mode ≡ modes.Shared)
 
--- What is done for the list before a pin is given up: a refusal says that an entry was needed and couldn't be made.
+-- What is done for the list before a pin is given up: an entry has a number that was left, and a refusal says that one was
+-- needed and couldn't be made.
 abbrev pub Prepared : World → HandleRow → Result (Unit {0}) Error → World → Type 0
-Prepared w row (Ok u) w' = (NeedsListing w row × (w' ≡ enlisted w row.node)) ⊎ (NeedsNoListing w row × (w' ≡ w))
+Prepared w row (Ok u) w' = (NeedsListing w row × (w' ≡ enlisted w row.node) × (w.last_handle < greatest)) ⊎ (NeedsNoListing w row × (w' ≡ w))
 Prepared w row (Err e) w' = NeedsListing w row × CannotMake w.last_handle e × (w' ≡ w)
 
 -- a new node without a key, with one handle of the caller's

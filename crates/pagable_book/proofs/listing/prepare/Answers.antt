@@ -22,4 +22,4 @@ pub returns-clause-world : goal.returns-clause-world
 returns-clause-world c =
     let node = c.node_of-node.result in
     let needs = needs-listing (state_of c.args.t.now) node.place node.row c.args.at.row c.node_of-node.ensures.place c.node_of-node.ensures.number c.node_of-node.ensures.count (sym c.needs_listing.ensures ∙ c.if-not-needs_listing.false) in
-    prepared (state_of c.args.t.now) (state_of c.enlist.new.t) c.args.at.row c.enlist.result needs c.enlist.ensures.world c.enlist.ensures.err c.enlist.ensures.why
+    prepared (state_of c.args.t.now) (state_of c.enlist.new.t) c.args.at.row c.enlist.result needs c.enlist.ensures.world c.enlist.ensures.room c.enlist.ensures.err c.enlist.ensures.why

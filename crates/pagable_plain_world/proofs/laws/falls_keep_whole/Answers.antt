@@ -1,0 +1,8 @@
+use Rattle.pagable_plain_world.proofs.Calls.{unpin-keeps, release-keeps}
+use Rattle.pagable_plain_world.proofs.laws.falls_keep_whole.Goals as goal
+
+pub returns-clause-unpin : goal.returns-clause-unpin
+returns-clause-unpin c = unpin-keeps
+
+pub returns-clause-release : goal.returns-clause-release
+returns-clause-release c = release-keeps
