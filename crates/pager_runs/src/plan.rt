@@ -80,10 +80,13 @@ impl Plan {
         }
     }
 
-    /// A place of the list, or the one past its end.
+    /// A place of the list, or sometimes the one past its end.
     fn place(&mut self, plain: &PlainPager) -> usize {
-        let length = plain.pending() as u64;
-        self.below(length.saturating_add(1)) as usize
+        let length = plain.pending();
+        if self.below(8) == 0 {
+            return length;
+        }
+        self.below(length as u64) as usize
     }
 
     /// A handle: mostly a live one, and else one that is gone, another's, or none of this pager.
@@ -98,10 +101,16 @@ impl Plan {
         HandleNumber(self.below(end))
     }
 
-    /// A load: one of the last ones, or none of this pager.
+    /// A load: mostly an open one, and else one that is closed, or none of this pager.
     fn load(&mut self, plain: &PlainPager) -> LoadNumber {
-        let end = plain.last_load().saturating_add(1);
-        LoadNumber(end.saturating_sub(self.below(4)))
+        let end = plain.last_load().saturating_add(2);
+        for _ in 0..3 {
+            let load = LoadNumber(self.below(end));
+            if plain.cell_of(load).is_some() {
+                return load;
+            }
+        }
+        LoadNumber(self.below(end))
     }
 
     /// A type.
