@@ -6,6 +6,8 @@ mod causes;
 mod falling;
 pub mod laws;
 pub mod plain_pager;
+pub mod plain_store;
 mod rows;
 
 pub use plain_pager::{PlainPager, PlainValue};
+pub use plain_store::{PlainBlob, PlainFailure, PlainStore};

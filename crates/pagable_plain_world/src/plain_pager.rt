@@ -1,18 +1,20 @@
 //! A plain, slow pager, to compare the real one with: lists alone, counts recomputed at every question, and values that never
-//! leave memory. It has the calls on handles, nodes, the list, the cache and loads; what a storage does isn't its matter.
+//! leave memory. It has the calls on handles, nodes, the list, the cache, the storage and loads.
 
 use crate::causes::{earlier, refused_if, type_of};
+use crate::plain_store::{PlainBlob, PlainStore};
 use crate::rows::{PlainLoad, PlainNode, PlainRows, is_pinning, mode_of, next};
 use pagable_model::{
     ArcRef, DataKey, Error, HandleNumber, Kind, LoadNumber, NodeNumber, OptionalDataKey,
 };
-use pagable_world::{Beginning, CacheRow, Mode, Owner, Pinning};
+use pagable_world::{Beginning, CacheRow, EndRefusal, Found, Mode, Owner, Pinning, Want};
 use std::alloc::Global;
 
 /// The plain pager.
 #[derive(Drop)]
 pub struct PlainPager {
     tables: PlainRows,
+    storage: PlainStore,
 }
 
 /// What a node is made of: the number of its type, its text, and the references in it.
@@ -24,10 +26,11 @@ pub struct PlainValue {
 }
 
 impl PlainPager {
-    /// A pager without nodes.
-    pub fn new(alloc: Global) -> PlainPager {
+    /// A pager without nodes, over a storage.
+    pub fn new(alloc: Global, storage: PlainStore) -> PlainPager {
         PlainPager {
             tables: PlainRows::new(alloc),
+            storage,
         }
     }
 
@@ -166,18 +169,45 @@ impl PlainPager {
         self.tables.node_type(node)
     }
 
-    /// The node's text, through a handle that pins it.
-    pub fn text(&self, handle: HandleNumber) -> Option<&str> {
-        let row = self.tables.row(handle)?;
-        if !is_pinning(row.mode) {
-            return None;
+    /// The node's text, where the handle pins the node, and else None.
+    pub fn value(&self, handle: HandleNumber) -> Result<Option<&str>, Error> {
+        match self.tables.row(handle) {
+            None => Err(Error::NoSuchHandle),
+            Some(row) if is_pinning(row.mode) => Ok(self.tables.text(row.node)),
+            Some(_) => Ok(None),
         }
-        for node in &self.tables.nodes {
-            if node.number == row.node {
-                return Some(node.text.as_str());
-            }
-        }
-        None
+    }
+
+    /// Whether a node's value has to be read first. No call of the pager tells it without a handle.
+    pub fn is_away(&self, node: NodeNumber) -> bool {
+        self.tables.is_live(node) && !self.tables.is_in_memory(node)
+    }
+
+    /// A node's text, whether it is in memory or not: what its key has to read as.
+    pub fn text_of(&self, node: NodeNumber) -> Option<&str> {
+        self.tables.text(node)
+    }
+
+    /// The cell that an open load reads.
+    pub fn cell_of(&self, load: LoadNumber) -> Option<NodeNumber> {
+        let row = self.tables.load(load)?;
+        let (_, node) = row.begun?;
+        Some(node)
+    }
+
+    /// The last number that a handle was given, or 0.
+    pub fn last_handle(&self) -> u64 {
+        self.tables.last_handle
+    }
+
+    /// The last number that a load was given, or 0.
+    pub fn last_load(&self) -> u64 {
+        self.tables.last_load
+    }
+
+    /// The last number that a node was given, or 0.
+    pub fn last_node(&self) -> u64 {
+        self.tables.last_node
     }
 
     /// Moves a loose unpinned handle to the list's end.
@@ -240,6 +270,16 @@ impl PlainPager {
         self.tables.clear_cache()
     }
 
+    /// The blob under a key.
+    pub fn fetch(&mut self, key: DataKey) -> Result<&PlainBlob, Error> {
+        self.storage.fetch(key)
+    }
+
+    /// Stores a blob under its key.
+    pub fn store(&mut self, key: DataKey, blob: PlainBlob) -> Result<DataKey, Error> {
+        self.storage.store(key, blob)
+    }
+
     /// Begins a load of a loose handle's cell.
     pub fn load_begin(&mut self, handle: HandleNumber) -> Result<Beginning, Error> {
         let row = self.tables.loose(handle)?;
@@ -270,6 +310,26 @@ impl PlainPager {
         self.tables.loads.push(PlainLoad { number, begun, key })?;
         self.tables.last_load = number.0;
         Ok(number)
+    }
+
+    /// What a load asks for: the blob of its root, or of a reference a clone of the cached handle, or else the blob.
+    pub fn load_fetch(&mut self, load: LoadNumber, want: Want) -> Result<Found<&PlainBlob>, Error> {
+        let Some(row) = self.tables.load(load) else {
+            return Err(Error::NoSuchHandle);
+        };
+        let key = match want {
+            Want::Root => row.key,
+            Want::Nested(kind, key) => {
+                if let Some(cached) = self.tables.cached(kind, key) {
+                    let made = self.clone(cached)?;
+                    self.tables.set_owner(made, Owner::Load(load));
+                    return Ok(Found::Cached(made));
+                }
+                key
+            }
+        };
+        let blob = self.storage.fetch(key)?;
+        Ok(Found::Blob(blob))
     }
 
     /// Makes a node of what a load read, or gives the load a clone of the cached one.
@@ -306,14 +366,45 @@ impl PlainPager {
     }
 
     /// Ends a load of a cell: its references move to the value where that isn't in memory, the handle is pinned and a Pinned
-    /// one is made. Where the caller's handle is gone or moved, the load is closed.
+    /// one is made. Where the caller's handle is gone or moved, the load is closed; other refusals leave it open.
     pub fn load_end(
         &mut self,
         alloc: Global,
         load: LoadNumber,
         node_type: u32,
         references: &[ArcRef],
-    ) -> Result<HandleNumber, Error> {
+    ) -> Result<HandleNumber, EndRefusal> {
+        let (handle, node) = self
+            .end_of(alloc, load, node_type, references)
+            .map_err(open_refusal)?;
+        if let Err(error) = self.tables.owned(handle, Owner::Caller) {
+            let _ = self.tables.close_load(load);
+            return Err(EndRefusal {
+                error,
+                closed: true,
+            });
+        }
+        let was_here = self.tables.is_in_memory(node);
+        let number = self
+            .tables
+            .add(node, Mode::Pinned, Owner::Caller)
+            .map_err(open_refusal)?;
+        self.tables.set_mode(handle, Mode::LoosePinned);
+        if !was_here {
+            self.tables.move_all(references, Owner::Value(node));
+        }
+        let _ = self.tables.close_load(load);
+        Ok(number)
+    }
+
+    /// The handle and the node that a load of a cell ends with, or why it can't with a value of this type.
+    fn end_of(
+        &self,
+        alloc: Global,
+        load: LoadNumber,
+        node_type: u32,
+        references: &[ArcRef],
+    ) -> Result<(HandleNumber, NodeNumber), Error> {
         let Some(row) = self.tables.load(load) else {
             return Err(Error::NoSuchHandle);
         };
@@ -326,18 +417,7 @@ impl PlainPager {
             Error::WrongKind,
         );
         earlier(good, typed)?;
-        if let Err(e) = self.tables.owned(handle, Owner::Caller) {
-            let _ = self.tables.close_load(load);
-            return Err(e);
-        }
-        let was_here = self.tables.is_in_memory(node);
-        let number = self.tables.add(node, Mode::Pinned, Owner::Caller)?;
-        self.tables.set_mode(handle, Mode::LoosePinned);
-        if !was_here {
-            self.tables.move_all(references, Owner::Value(node));
-        }
-        let _ = self.tables.close_load(load);
-        Ok(number)
+        Ok((handle, node))
     }
 
     /// Ends a load of a key: the named handles are the caller's from now on.
@@ -363,6 +443,14 @@ impl PlainPager {
     pub fn load_drop(&mut self, load: LoadNumber) -> Result<(), Error> {
         refused_if(self.tables.load(load).is_none(), Error::NoSuchHandle)?;
         self.tables.close_load(load)
+    }
+}
+
+/// A refusal that leaves the load open.
+fn open_refusal(error: Error) -> EndRefusal {
+    EndRefusal {
+        error,
+        closed: false,
     }
 }
 

@@ -143,6 +143,16 @@ impl PlainRows {
         None
     }
 
+    /// The node's text.
+    pub fn text(&self, node: NodeNumber) -> Option<&str> {
+        for row in &self.nodes {
+            if row.number == node {
+                return Some(row.text.as_str());
+            }
+        }
+        None
+    }
+
     /// Whether the node's value is in memory: it is pinned, or has no key.
     pub fn is_in_memory(&self, node: NodeNumber) -> bool {
         self.is_live(node) && (self.count(node) > 0 || self.key(node).is_none())

@@ -1,0 +1,28 @@
+-- What the nodes of the runs mean, and how they are spelled.
+use Rattle.std.specs.Prelude.{ℕ, zero, suc, ◌≡◌, refl, Option, Some, None}
+use Rattle.std.specs.Arc.{arc_value}
+use Rattle.std.specs.String.{string_bytes}
+use Rattle.pagable_model.specs.Meaning.{Meaning}
+use Rattle.pagable_model.specs.Meaning as meanings
+use Rattle.pagable_model.specs.Shape.{Shape, text}
+use Rattle.pagable_model.specs.declared.numbers.ArcRef.{ArcRef}
+use Rattle.pager_runs.specs.declared.nodes.RunNode.{RunNode, Name, Note}
+
+-- two types of texts, with the numbers 0 and 1
+abbrev pub shape_of : ℕ → Option Shape
+shape_of zero = Some text
+shape_of (suc zero) = Some text
+shape_of (suc (suc n)) = None
+
+abbrev pub type_of : RunNode → ℕ
+type_of (Name t) = 0
+type_of (Note t) = 1
+
+abbrev pub text_of : RunNode → Meaning ArcRef
+text_of (Name t) = meanings.text (string_bytes (arc_value t))
+text_of (Note t) = meanings.text (string_bytes (arc_value t))
+
+-- each node's type is there
+pub has_shape : (n : RunNode) → shape_of (type_of n) ≡ Some text
+has_shape (Name t) = refl
+has_shape (Note t) = refl

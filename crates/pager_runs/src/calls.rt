@@ -1,0 +1,161 @@
+//! The calls that change a pager or its storage, and what they answer.
+
+use pagable::{Beginning, DataKey, Error, HandleNumber, LoadNumber, Pinning};
+
+/// What a new cell, or the end of a load, holds.
+#[derive(Clone, Copy, Debug, PartialEq)]
+pub struct Value {
+    pub node_type: u32,
+    pub text: &'static str,
+}
+
+/// A call.
+#[derive(Clone, Copy, Debug)]
+pub enum Call {
+    NewLoose(Value),
+    Pin(HandleNumber),
+    Unpin(HandleNumber),
+    Release(HandleNumber),
+    SetDataKey(HandleNumber, DataKey),
+    TakePending(usize),
+    /// Stores what the value is written as that the handle pins.
+    Store(HandleNumber),
+    Fetch(DataKey),
+    LoadBegin(HandleNumber),
+    LoadFetch(LoadNumber),
+    LoadEnd(LoadNumber, Value),
+    LoadDrop(LoadNumber),
+}
+
+/// What a call answers.
+#[derive(Debug, PartialEq, Drop)]
+pub enum Answer {
+    Done,
+    /// No entry, or no value that the handle pins.
+    Nothing,
+    Handle(HandleNumber),
+    NeedsLoad(DataKey),
+    InMemory,
+    Load(LoadNumber, DataKey),
+    Key(DataKey),
+    /// The text that a blob reads as.
+    Text(String),
+    Refused(Error),
+    /// The end of a load was refused, and the load is closed by that.
+    Closed(Error),
+}
+
+impl Call {
+    /// The call's name.
+    pub fn name(&self) -> &'static str {
+        match self {
+            Call::NewLoose(_) => "new_loose",
+            Call::Pin(_) => "pin",
+            Call::Unpin(_) => "unpin",
+            Call::Release(_) => "release",
+            Call::SetDataKey(_, _) => "set_data_key",
+            Call::TakePending(_) => "take_pending",
+            Call::Store(_) => "store",
+            Call::Fetch(_) => "fetch",
+            Call::LoadBegin(_) => "load_begin",
+            Call::LoadFetch(_) => "load_fetch",
+            Call::LoadEnd(_, _) => "load_end",
+            Call::LoadDrop(_) => "load_drop",
+        }
+    }
+}
+
+/// The refusal's name, of those that can be reached.
+fn refusal_name(refusal: &Error) -> &'static str {
+    match refusal {
+        Error::NoData(_) => "NoData",
+        Error::WrongKind => "WrongKind",
+        Error::NoSuchHandle => "NoSuchHandle",
+        Error::WrongMode => "WrongMode",
+        Error::NotYours => "NotYours",
+        Error::Storage(_) => "Storage",
+        Error::KeyTaken => "KeyTaken",
+        Error::Closed => "Closed",
+        _ => "unexpected",
+    }
+}
+
+impl Answer {
+    /// The handle that was answered.
+    pub fn handle(&self) -> Option<HandleNumber> {
+        match self {
+            Answer::Handle(handle) => Some(*handle),
+            _ => None,
+        }
+    }
+
+    /// The key under which a blob was stored.
+    pub fn key(&self) -> Option<DataKey> {
+        match self {
+            Answer::Key(key) => Some(*key),
+            _ => None,
+        }
+    }
+
+    /// The load that was begun.
+    pub fn load(&self) -> Option<LoadNumber> {
+        match self {
+            Answer::Load(load, _) => Some(*load),
+            _ => None,
+        }
+    }
+
+    /// Whether a value has to be loaded first.
+    pub fn needs_load(&self) -> bool {
+        matches!(self, Answer::NeedsLoad(_))
+    }
+
+    /// Whether a blob was read.
+    pub fn is_text(&self) -> bool {
+        matches!(self, Answer::Text(_))
+    }
+
+    /// What came of the call, in a word or two.
+    pub fn name(&self) -> &'static str {
+        match self {
+            Answer::Refused(refusal) => refusal_name(refusal),
+            Answer::Closed(Error::NoSuchHandle) => "NoSuchHandle, closed",
+            Answer::Closed(Error::NotYours) => "NotYours, closed",
+            Answer::Closed(_) => "unexpected, closed",
+            Answer::NeedsLoad(_) => "NeedsLoad",
+            Answer::InMemory => "InMemory",
+            Answer::Nothing => "nothing",
+            _ => "ok",
+        }
+    }
+}
+
+/// What a pin answers.
+pub fn pinning(pinned: Pinning) -> Answer {
+    match pinned {
+        Pinning::Pinned(handle) => Answer::Handle(handle),
+        Pinning::NeedsLoad(key) => Answer::NeedsLoad(key),
+    }
+}
+
+/// What the begin of a load answers.
+pub fn beginning(begun: Beginning) -> Answer {
+    match begun {
+        Beginning::InMemory => Answer::InMemory,
+        Beginning::Load(load, key) => Answer::Load(load, key),
+    }
+}
+
+/// What a call answers that gives nothing.
+pub fn done(outcome: Result<(), Error>) -> Result<Answer, Error> {
+    outcome?;
+    Ok(Answer::Done)
+}
+
+/// What the taking of an entry answers.
+pub fn taken(entry: Option<HandleNumber>) -> Answer {
+    match entry {
+        Some(entry) => Answer::Handle(entry),
+        None => Answer::Nothing,
+    }
+}

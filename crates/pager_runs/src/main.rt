@@ -1,0 +1,75 @@
+//! Draws lists of calls from fixed seeds, makes each call on the pager and on the plain pager, and compares what they answer
+//! and how they stand. Ends with status 1 at the first difference, or where too little happened.
+#![tactic(auto)]
+
+pub mod calls;
+pub mod compare;
+pub mod counts;
+pub mod dice;
+pub mod events;
+pub mod nodes;
+pub mod plain;
+pub mod plan;
+pub mod real;
+pub mod runs;
+pub mod stage;
+pub mod wanted;
+
+use crate::counts::Counts;
+use crate::runs::{Difference, Run};
+use crate::wanted::first_missing;
+use anyhow::{Context, bail};
+use pagable::{DataKey, Error};
+use std::alloc::Global;
+
+/// How many runs there are.
+const RUNS: u64 = 2000;
+
+/// The first difference in the run of a seed, and the number of its call from 0.
+fn run(
+    alloc: Global,
+    seed: u64,
+    key: DataKey,
+    counts: &mut Counts,
+) -> Result<Option<(u64, Difference)>, Error> {
+    let mut run = Run::new(alloc, seed, key);
+    let length = run.length();
+    for number in 0..length {
+        if let Some(difference) = run.step(alloc, counts)? {
+            return Ok(Some((number, difference)));
+        }
+    }
+    empty(alloc, run, length, counts)
+}
+
+/// Takes all that is left in the list, so that its order is compared too.
+fn empty(
+    alloc: Global,
+    mut run: Run,
+    length: u64,
+    counts: &mut Counts,
+) -> Result<Option<(u64, Difference)>, Error> {
+    for _ in 0..run.pending() {
+        if let Some(difference) = run.take_first(alloc, counts)? {
+            return Ok(Some((length, difference)));
+        }
+    }
+    Ok(None)
+}
+
+fn main(rt: HostRuntime) -> anyhow::Result<()> {
+    let alloc = rt.alloc();
+    let key = DataKey::new(5).context("5 is a key")?;
+    let mut counts = Counts::new(alloc);
+    for seed in 0..RUNS {
+        if let Some((number, difference)) = run(alloc, seed, key, &mut counts)? {
+            println!(rt; "seed {seed}, call {number}: {difference:?}")?;
+            bail!("the pagers differ");
+        }
+    }
+    counts.print(&rt)?;
+    if let Some((call, outcome)) = first_missing(&counts) {
+        bail!("too few: {call}: {outcome}");
+    }
+    Ok(())
+}

@@ -1,0 +1,101 @@
+//! The same calls on the plain pager.
+
+use crate::calls::{Answer, Call, Value, beginning, done, pinning, taken};
+use pagable::{DataKey, Error, HandleNumber, LoadNumber, Mode};
+use pagable_plain::{Sample, Sort, read_sample, weighed_key, write_sample};
+use pagable_plain_world::{PlainBlob, PlainPager, PlainValue};
+use pagable_world::{Found, Want};
+use std::alloc::Global;
+
+fn new_loose(alloc: Global, pager: &mut PlainPager, value: Value) -> Result<Answer, Error> {
+    let value = PlainValue {
+        node_type: value.node_type,
+        text: String::from_str(alloc, value.text)?,
+        references: Vec::new(alloc),
+    };
+    Ok(Answer::Handle(pager.new_node(alloc, value, Mode::LoosePinned)?))
+}
+
+/// What the text is written as that a handle pins, if it does.
+fn written(
+    alloc: Global,
+    pager: &PlainPager,
+    handle: HandleNumber,
+) -> Result<Option<Vec<u8>>, Error> {
+    let Some(text) = pager.value(handle)? else {
+        return Ok(None);
+    };
+    let mut bytes = Vec::new(alloc);
+    let sample = Sample::Text(String::from_str(alloc, text)?);
+    write_sample(&mut bytes, &sample)?;
+    Ok(Some(bytes))
+}
+
+fn store(alloc: Global, pager: &mut PlainPager, handle: HandleNumber) -> Result<Answer, Error> {
+    let Some(bytes) = written(alloc, pager, handle)? else {
+        return Ok(Answer::Nothing);
+    };
+    let number = weighed_key(alloc, bytes.as_slice(), &[])?;
+    let Some(key) = DataKey::new(number) else {
+        return Ok(Answer::Nothing);
+    };
+    let blob = PlainBlob {
+        bytes,
+        children: Vec::new(alloc),
+    };
+    Ok(Answer::Key(pager.store(key, blob)?))
+}
+
+/// The text that a blob reads as.
+fn text(alloc: Global, blob: &PlainBlob) -> Result<Answer, Error> {
+    match read_sample(alloc, Sort::Text, blob.bytes.as_slice())? {
+        (Sample::Text(text), _) => Ok(Answer::Text(text)),
+        _ => Ok(Answer::Nothing),
+    }
+}
+
+fn load_fetch(alloc: Global, pager: &mut PlainPager, load: LoadNumber) -> Result<Answer, Error> {
+    match pager.load_fetch(load, Want::Root)? {
+        Found::Cached(_) => Ok(Answer::Nothing),
+        Found::Blob(blob) => text(alloc, blob),
+    }
+}
+
+fn load_end(
+    alloc: Global,
+    pager: &mut PlainPager,
+    load: LoadNumber,
+    value: Value,
+) -> Result<Answer, Error> {
+    match pager.load_end(alloc, load, value.node_type, &[]) {
+        Ok(pinned) => Ok(Answer::Handle(pinned)),
+        Err(refusal) if refusal.closed => Ok(Answer::Closed(refusal.error)),
+        Err(refusal) => Err(refusal.error),
+    }
+}
+
+/// Makes the call. A refusal that closes a load is an answer.
+fn make(alloc: Global, pager: &mut PlainPager, call: Call) -> Result<Answer, Error> {
+    match call {
+        Call::NewLoose(value) => new_loose(alloc, pager, value),
+        Call::Pin(handle) => Ok(pinning(pager.pin(handle)?)),
+        Call::Unpin(handle) => done(pager.unpin(handle)),
+        Call::Release(handle) => done(pager.release(handle)),
+        Call::SetDataKey(handle, key) => done(pager.set_data_key(handle, key)),
+        Call::TakePending(place) => Ok(taken(pager.take_pending(place))),
+        Call::Store(handle) => store(alloc, pager, handle),
+        Call::Fetch(key) => text(alloc, pager.fetch(key)?),
+        Call::LoadBegin(handle) => Ok(beginning(pager.load_begin(handle)?)),
+        Call::LoadFetch(load) => load_fetch(alloc, pager, load),
+        Call::LoadEnd(load, value) => load_end(alloc, pager, load, value),
+        Call::LoadDrop(load) => done(pager.load_drop(load)),
+    }
+}
+
+/// Makes the call, and gives what it answers.
+pub fn answer_to(alloc: Global, pager: &mut PlainPager, call: Call) -> Answer {
+    match make(alloc, pager, call) {
+        Ok(answer) => answer,
+        Err(refusal) => Answer::Refused(refusal),
+    }
+}

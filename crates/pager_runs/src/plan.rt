@@ -1,0 +1,164 @@
+//! Which call comes next: mostly the next one of a page-out or a load, or one that is drawn.
+
+use crate::calls::{Answer, Call, Value};
+use crate::dice::Dice;
+use crate::nodes::{NAMES, NOTES};
+use crate::stage::Stage;
+use pagable::{DataKey, HandleNumber, LoadNumber, NodeNumber};
+use pagable_plain_world::PlainPager;
+
+/// The texts. The blobs of `al` and `lb` have one key.
+const TEXTS: [&str; 6] = ["", "al", "lb", "x", "hello world", "\u{e9}t\u{e9}"];
+
+/// What the next calls are drawn by.
+#[derive(Clone, Copy, Debug)]
+pub struct Plan {
+    dice: Dice,
+    stage: Stage,
+    /// The key that was answered last, or one under which nothing is stored.
+    key: DataKey,
+}
+
+impl Plan {
+    /// The plan of a seed. The key is one under which nothing is stored.
+    pub fn new(seed: u64, key: DataKey) -> Plan {
+        Plan {
+            dice: Dice::new(seed),
+            stage: Stage::Idle,
+            key,
+        }
+    }
+
+    /// A number below this one.
+    pub fn below(&mut self, limit: u64) -> u64 {
+        self.dice.below(limit)
+    }
+
+    /// The next call, and whether it is one of the page-out or load that is under way.
+    pub fn next(&mut self, plain: &PlainPager) -> (Call, bool) {
+        if self.below(3) > 0 {
+            if let Stage::Fetched(load) = self.stage {
+                return (self.end_of(plain, load), true);
+            }
+            if let Some(call) = self.stage.call() {
+                return (call, true);
+            }
+        }
+        (self.drawn(plain), false)
+    }
+
+    /// Goes on from what the call answered. A page-out or load that begins cuts off another one.
+    pub fn go_on(&mut self, call: Call, is_staged: bool, answer: &Answer) {
+        if let Some(key) = answer.key() {
+            self.key = key;
+        }
+        if is_staged {
+            self.stage = self.stage.after(answer);
+        } else if let Some(stage) = Stage::begun(call, answer) {
+            self.stage = stage;
+        }
+    }
+
+    /// A call of any sort.
+    fn drawn(&mut self, plain: &PlainPager) -> Call {
+        match self.below(20) {
+            0 | 1 => Call::NewLoose(self.value()),
+            2..=4 => Call::Pin(self.handle(plain)),
+            5..=7 => Call::Unpin(self.handle(plain)),
+            8 | 9 => Call::Release(self.handle(plain)),
+            10 => Call::SetDataKey(self.handle(plain), self.key),
+            11 => Call::Store(self.handle(plain)),
+            12 => Call::Fetch(self.key),
+            13 | 14 => Call::LoadBegin(self.handle(plain)),
+            15 => Call::LoadFetch(self.load(plain)),
+            16 => {
+                let load = self.load(plain);
+                self.end_of(plain, load)
+            }
+            17 => Call::LoadDrop(self.load(plain)),
+            _ => Call::TakePending(self.place(plain)),
+        }
+    }
+
+    /// A place of the list, or sometimes the one past its end.
+    fn place(&mut self, plain: &PlainPager) -> usize {
+        let length = plain.pending();
+        if self.below(8) == 0 {
+            return length;
+        }
+        self.below(length as u64) as usize
+    }
+
+    /// A handle: mostly a live one, and else one that is gone, another's, or none of this pager.
+    fn handle(&mut self, plain: &PlainPager) -> HandleNumber {
+        let end = plain.last_handle().saturating_add(3);
+        for _ in 0..3 {
+            let handle = HandleNumber(self.below(end));
+            if plain.node_of(handle).is_ok() {
+                return handle;
+            }
+        }
+        HandleNumber(self.below(end))
+    }
+
+    /// A load: mostly an open one, and else one that is closed, or none of this pager.
+    fn load(&mut self, plain: &PlainPager) -> LoadNumber {
+        let end = plain.last_load().saturating_add(2);
+        for _ in 0..3 {
+            let load = LoadNumber(self.below(end));
+            if plain.cell_of(load).is_some() {
+                return load;
+            }
+        }
+        LoadNumber(self.below(end))
+    }
+
+    /// A type.
+    fn node_type(&mut self) -> u32 {
+        if self.below(2) == 0 { NAMES } else { NOTES }
+    }
+
+    /// A text.
+    fn text(&mut self) -> &'static str {
+        let place = self.below(TEXTS.len() as u64);
+        match TEXTS.get(place as usize) {
+            Some(text) => text,
+            None => "",
+        }
+    }
+
+    /// The value of a new cell.
+    fn value(&mut self) -> Value {
+        Value {
+            node_type: self.node_type(),
+            text: self.text(),
+        }
+    }
+
+    /// The end of a load: mostly with a value of the cell's type. Where the value isn't in memory it is the one that the
+    /// cell had; else it is any, which has to be dropped.
+    fn end_of(&mut self, plain: &PlainPager, load: LoadNumber) -> Call {
+        let mut value = self.value();
+        let Some(node) = plain.cell_of(load) else {
+            return Call::LoadEnd(load, value);
+        };
+        if plain.is_away(node) {
+            value.text = text_of(plain, node);
+        }
+        if self.below(8) > 0 {
+            value.node_type = plain.node_live(node).unwrap_or(NAMES);
+        }
+        Call::LoadEnd(load, value)
+    }
+}
+
+/// The text of a node.
+fn text_of(plain: &PlainPager, node: NodeNumber) -> &'static str {
+    let wanted = plain.text_of(node).unwrap_or_default();
+    for text in TEXTS {
+        if text == wanted {
+            return text;
+        }
+    }
+    ""
+}

@@ -1,0 +1,52 @@
+//! What has to happen in the runs.
+
+use crate::counts::{Counts, Name};
+use crate::events::{EVICTED, LISTED_AGAIN, LOADED_AGAIN};
+
+/// What has to happen a hundred times.
+const OFTEN: [Name; 3] = [EVICTED, LISTED_AGAIN, LOADED_AGAIN];
+
+/// What has to happen: each refusal of each call that can be reached.
+const ONCE: [Name; 26] = [
+    ("pin", "NoSuchHandle"),
+    ("pin", "NotYours"),
+    ("pin", "WrongMode"),
+    ("unpin", "NoSuchHandle"),
+    ("unpin", "NotYours"),
+    ("unpin", "WrongMode"),
+    ("release", "NoSuchHandle"),
+    ("release", "NotYours"),
+    ("set_data_key", "NoSuchHandle"),
+    ("set_data_key", "NotYours"),
+    ("store", "NoSuchHandle"),
+    ("store", "Storage"),
+    ("store", "KeyTaken"),
+    ("store", "Closed"),
+    ("fetch", "NoData"),
+    ("fetch", "Storage"),
+    ("load_begin", "NoSuchHandle"),
+    ("load_begin", "NotYours"),
+    ("load_begin", "WrongMode"),
+    ("load_fetch", "NoSuchHandle"),
+    ("load_fetch", "NoData"),
+    ("load_fetch", "Storage"),
+    ("load_end", "NoSuchHandle"),
+    ("load_end", "NoSuchHandle, closed"),
+    ("load_end", "WrongKind"),
+    ("load_drop", "NoSuchHandle"),
+];
+
+/// What didn't happen often enough, if something didn't.
+pub fn first_missing(counts: &Counts) -> Option<Name> {
+    for name in OFTEN {
+        if counts.get(name) < 100 {
+            return Some(name);
+        }
+    }
+    for name in ONCE {
+        if counts.get(name) == 0 {
+            return Some(name);
+        }
+    }
+    None
+}
