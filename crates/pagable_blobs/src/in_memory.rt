@@ -109,11 +109,11 @@ fn put(
 }
 
 impl<E: Env> PagableStorage<E> for InMemoryBlobs<E> {
-    ghost use Rattle.pagable_blobs.specs.Blobs.{stored_in};
+    ghost use Rattle.pagable_blobs.specs.Blobs.{blobs_of, has_closed};
 
-    ghost stored = { λ s. stored_in s.blobs };
+    ghost stored = { blobs_of };
 
-    ghost is_closed = { λ s. s.closed };
+    ghost is_closed = { has_closed };
 
     ghost failed = { λ s. 0 };
 
@@ -128,7 +128,7 @@ impl<E: Env> PagableStorage<E> for InMemoryBlobs<E> {
         }
     }
 
-    #[tactic(auto, using(pagable_codec::proofs::Adding::adding))]
+    #[tactic(auto, using(crate::proofs::Adding::adding))]
     fn store_data(&mut self, alloc: Global, blob: PagableData) -> Result<DataKey, Error> {
         if self.closed {
             return Err(Error::Closed);

@@ -1,5 +1,6 @@
 -- What the nodes of a menu hold, mean and refer to.
-use Rattle.std.specs.Prelude.{◌≡◌, ◌≢◌, refl, ℕ, zero, suc, Option, Some, None, List, []}
+use Rattle.std.proofs.Common.{arith}
+use Rattle.std.specs.Prelude.{◌≡◌, ◌≢◌, ◌<◌, ◌^◌, refl, ℕ, zero, suc, Option, Some, None, List, []}
 use Rattle.std.specs.Arc.{arc_value}
 use Rattle.pagable_model.specs.declared.numbers.ArcRef.{ArcRef}
 use Rattle.pagable_model.specs.Meaning.{Meaning}
@@ -94,3 +95,9 @@ portion_meaning (nodes.Portion p) _ m refl h = h
 
 pub portion_meaning_back : (n : MenuNode) (p : Portion) (m : Meaning ArcRef) → portion_in n ≡ Some p → portion_means p m → means n m
 portion_meaning_back (nodes.Portion p) _ m refl h = h
+
+pub dish_number_is_small : 0 < 2 ^ 30
+dish_number_is_small = omega arith
+
+pub portion_number_is_small : 1 < 2 ^ 30
+portion_number_is_small = omega arith

@@ -109,7 +109,7 @@ impl<H: KeyHash> NodeSet<Menu<H>> for MenuNode {
 
 impl<H: KeyHash> InNode<Menu<H>> for Dish {
     ghost use Rattle.std.specs.Prelude.{refl};
-    ghost use Rattle.pagable_examples.specs.Menus.{dish_in, dish_type, no_dish_type, dish_meaning, dish_meaning_back};
+    ghost use Rattle.pagable_examples.specs.Menus.{dish_in, dish_number_is_small, dish_type, no_dish_type, dish_meaning, dish_meaning_back};
 
     ghost TYPE = { 0 };
 
@@ -128,6 +128,8 @@ impl<H: KeyHash> InNode<Menu<H>> for Dish {
         }
     }
 
+    ghost small = { dish_number_is_small };
+
     ghost shape_is = { λ e. refl };
 
     ghost in_type = { dish_type };
@@ -141,7 +143,7 @@ impl<H: KeyHash> InNode<Menu<H>> for Dish {
 
 impl<H: KeyHash> InNode<Menu<H>> for Portion {
     ghost use Rattle.std.specs.Prelude.{refl};
-    ghost use Rattle.pagable_examples.specs.Menus.{portion_in, portion_type, no_portion_type, portion_meaning, portion_meaning_back};
+    ghost use Rattle.pagable_examples.specs.Menus.{portion_in, portion_number_is_small, portion_type, no_portion_type, portion_meaning, portion_meaning_back};
 
     ghost TYPE = { 1 };
 
@@ -159,6 +161,8 @@ impl<H: KeyHash> InNode<Menu<H>> for Portion {
             MenuNode::Portion(portion) => Ok(Some(portion.clone()?)),
         }
     }
+
+    ghost small = { portion_number_is_small };
 
     ghost shape_is = { λ e. refl };
 

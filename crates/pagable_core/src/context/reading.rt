@@ -58,18 +58,19 @@ impl<'de, E: Env, B: Reader, R: References<E>> PagableDeserializer<E>
     ghost use Rattle.std.specs.Prelude.{refl};
     ghost use Rattle.pagable_model.specs.Standing.{rest_at};
     ghost use Rattle.pagable_core.specs.Context.{standing_of, moves_of};
+    ghost use Rattle.pagable_core.specs.Fields.{keys_of, reader_of, references_of, levels_read, with_reader};
 
-    ghost standing = { λ s. standing_of (R.answer s.references) s.keys (B.track s.reader) };
+    ghost standing = { λ s. standing_of (R.answer (references_of s)) (keys_of s) (B.track (reader_of s)) };
 
-    ghost rest = { λ s. rest_at (standing_of (R.answer s.references) s.keys (B.track s.reader)) };
+    ghost rest = { λ s. rest_at (standing_of (R.answer (references_of s)) (keys_of s) (B.track (reader_of s))) };
 
-    ghost levels = { λ s. s.levels };
+    ghost levels = { levels_read };
 
-    ghost environment = { λ s. R.environment s.references };
+    ghost environment = { λ s. R.environment (references_of s) };
 
-    ghost reader = { λ s. s.reader };
+    ghost reader = { reader_of };
 
-    ghost with_reader = { λ s r. record s { reader = r } };
+    ghost with_reader = { with_reader };
 
     ghost rest_is = { λ s. refl };
 
@@ -77,7 +78,7 @@ impl<'de, E: Env, B: Reader, R: References<E>> PagableDeserializer<E>
 
     ghost rest_of_with = { λ s r. refl };
 
-    ghost moves_of_with = { λ s r goes. moves_of (R.answer s.references) s.keys (B.track s.reader) (B.track r) goes };
+    ghost moves_of_with = { λ s r goes. moves_of (R.answer (references_of s)) (keys_of s) (B.track (reader_of s)) (B.track r) goes };
 
     ghost levels_of_with = { λ s r. refl };
 

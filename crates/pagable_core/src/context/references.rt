@@ -42,7 +42,9 @@ impl<'e, E: Env> NoReferences<'e, E> {
 }
 
 impl<'e, E: Env> References<E> for NoReferences<'e, E> {
-    ghost environment = { λ s. s.env.now };
+    ghost use Rattle.pagable_core.specs.Fields.{environment_without};
+
+    ghost environment = { environment_without };
 
     ghost answer = { λ s place key kind. Err WrongKind };
 

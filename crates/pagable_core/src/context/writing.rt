@@ -2,6 +2,7 @@
 
 ghost use Rattle.std.specs.Prelude.{◌≡◌, refl, [], length, IsOk, IfOk};
 ghost use Rattle.pagable_core.specs.Context.{nothing, out_of};
+ghost use Rattle.pagable_core.specs.Fields.{written, levels_written, writers_environment, with_written};
 
 use pagable_flavors::{Error, PagableVecFlavor};
 use pagable_codec::{ArcRef, Env, PagableCursor, PagableSerializer};
@@ -57,13 +58,13 @@ impl<'e, E: Env> PagableSerializerImpl<'e, E> {
 }
 
 impl<'e, E: Env> PagableSerializer<E> for PagableSerializerImpl<'e, E> {
-    ghost out = { λ s. record { bytes = s.writer; refs = s.arcs.items } };
+    ghost out = { written };
 
-    ghost levels = { λ s. s.levels };
+    ghost levels = { levels_written };
 
-    ghost environment = { λ s. s.env.now };
+    ghost environment = { writers_environment };
 
-    ghost with_bytes = { λ s w. record s { writer = w } };
+    ghost with_bytes = { with_written };
 
     ghost out_of_with = { λ s w. refl };
 

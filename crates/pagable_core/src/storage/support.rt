@@ -2,6 +2,7 @@
 
 ghost use Rattle.std.specs.Prelude.{◌≡◌, refl};
 ghost use Rattle.pagable_core.specs.Context.{nothing, pair_out};
+ghost use Rattle.pagable_core.specs.Fields.{paged, levels_paged, pagings_environment, with_paged};
 
 use pagable_flavors::{Error, PagableVecFlavor};
 use pagable_codec::{ArcRef, Env, PagableCursor, PagableSerializer};
@@ -46,13 +47,13 @@ impl<'e, E: Env> SerializerForPaging<'e, E> {
 }
 
 impl<'e, E: Env> PagableSerializer<E> for SerializerForPaging<'e, E> {
-    ghost out = { λ s. record { bytes = s.writer; refs = s.arcs.items } };
+    ghost out = { paged };
 
-    ghost levels = { λ s. s.levels };
+    ghost levels = { levels_paged };
 
-    ghost environment = { λ s. s.env.now };
+    ghost environment = { pagings_environment };
 
-    ghost with_bytes = { λ s w. record s { writer = w } };
+    ghost with_bytes = { with_paged };
 
     ghost out_of_with = { λ s w. refl };
 
