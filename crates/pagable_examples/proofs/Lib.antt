@@ -1,1 +1,2 @@
 pub mod Menus
+pub mod Portions

@@ -1,12 +1,12 @@
 -- What the nodes of a menu hold, mean and refer to.
-use Rattle.std.proofs.Common.{arith}
+use Rattle.std.proofs.Common.{arith, subst}
 use Rattle.std.specs.Prelude.{◌≡◌, ◌≢◌, ◌<◌, ◌^◌, refl, ℕ, zero, suc, Option, Some, None, List, []}
 use Rattle.std.specs.Arc.{arc_value}
 use Rattle.pagable_model.specs.declared.numbers.ArcRef.{ArcRef}
-use Rattle.pagable_model.specs.Meaning.{Meaning}
+use Rattle.pagable_model.specs.Meaning.{Meaning, number}
 use Rattle.pagable_model.specs.References.{references_in, SameHandles}
 use Rattle.pagable_model.specs.Shape.{Shape, both, text, unsigned, optional}
-use Rattle.pagable_model.specs.Standing.{SomeMeaning}
+use Rattle.pagable_model.specs.Standing.{Is, SomeMeaning}
 use Rattle.pagable_model.specs.Lifted.{MeansPair, MeansOption, means-none, means-some}
 use Rattle.std.specs.Int.{w16}
 use Rattle.pagable_examples.specs.declared.dish.Dish.{Dish}
@@ -52,7 +52,7 @@ dish-refers : (d : Dish) (m : Meaning ArcRef) → dish_means d m → references_
 unfolding references_in
 dish-refers d m h = rw (h.is, h.is_first, h.is_second) refl
 
-portion-refers : (o : Option ℕ) (m : Meaning ArcRef) → MeansOption (λ n m. m ≡ Rattle.pagable_model.specs.Meaning.number n) o m → references_in m ≡ []
+portion-refers : (o : Option ℕ) (m : Meaning ArcRef) → MeansOption (Is number) o m → references_in m ≡ []
 unfolding references_in
 portion-refers _ _ means-none = refl
 portion-refers _ _ (means-some x m is) = rw is refl
@@ -73,28 +73,36 @@ portion_in (nodes.Dish d) = None
 portion_in (nodes.Portion p) = Some (arc_value p)
 
 pub dish_type : (n : MenuNode) (d : Dish) → dish_in n ≡ Some d → type_of n ≡ 0
-dish_type (nodes.Dish d) _ h = refl
+dish_type (nodes.Dish a) d h = refl
+dish_type (nodes.Portion a) d h = let no : ⊥ = cc in absurd no
 
 pub portion_type : (n : MenuNode) (p : Portion) → portion_in n ≡ Some p → type_of n ≡ 1
-portion_type (nodes.Portion p) _ h = refl
+portion_type (nodes.Dish a) p h = let no : ⊥ = cc in absurd no
+portion_type (nodes.Portion a) p h = refl
 
 pub no_dish_type : (n : MenuNode) → dish_in n ≡ None → type_of n ≢ 0
-no_dish_type (nodes.Portion p) h = λ e. cc
+no_dish_type (nodes.Dish a) h = let no : ⊥ = cc in absurd no
+no_dish_type (nodes.Portion a) h = λ e. omega (arith, e)
 
 pub no_portion_type : (n : MenuNode) → portion_in n ≡ None → type_of n ≢ 1
-no_portion_type (nodes.Dish d) h = λ e. cc
+no_portion_type (nodes.Dish a) h = λ e. omega (arith, e)
+no_portion_type (nodes.Portion a) h = let no : ⊥ = cc in absurd no
 
 pub dish_meaning : (n : MenuNode) (d : Dish) (m : Meaning ArcRef) → dish_in n ≡ Some d → means n m → dish_means d m
-dish_meaning (nodes.Dish d) _ m refl h = h
+dish_meaning (nodes.Dish a) d m h w = let e : arc_value a ≡ d = cc in let P : Dish → Type 0 = λ x. dish_means x m in subst P e w
+dish_meaning (nodes.Portion a) d m h w = let no : ⊥ = cc in absurd no
 
 pub dish_meaning_back : (n : MenuNode) (d : Dish) (m : Meaning ArcRef) → dish_in n ≡ Some d → dish_means d m → means n m
-dish_meaning_back (nodes.Dish d) _ m refl h = h
+dish_meaning_back (nodes.Dish a) d m h w = let e : d ≡ arc_value a = cc in let P : Dish → Type 0 = λ x. dish_means x m in subst P e w
+dish_meaning_back (nodes.Portion a) d m h w = let no : ⊥ = cc in absurd no
 
 pub portion_meaning : (n : MenuNode) (p : Portion) (m : Meaning ArcRef) → portion_in n ≡ Some p → means n m → portion_means p m
-portion_meaning (nodes.Portion p) _ m refl h = h
+portion_meaning (nodes.Dish a) p m h w = let no : ⊥ = cc in absurd no
+portion_meaning (nodes.Portion a) p m h w = let e : arc_value a ≡ p = cc in let P : Portion → Type 0 = λ x. portion_means x m in subst P e w
 
 pub portion_meaning_back : (n : MenuNode) (p : Portion) (m : Meaning ArcRef) → portion_in n ≡ Some p → portion_means p m → means n m
-portion_meaning_back (nodes.Portion p) _ m refl h = h
+portion_meaning_back (nodes.Dish a) p m h w = let no : ⊥ = cc in absurd no
+portion_meaning_back (nodes.Portion a) p m h w = let e : p ≡ arc_value a = cc in let P : Portion → Type 0 = λ x. portion_means x m in subst P e w
 
 pub dish_number_is_small : 0 < 2 ^ 30
 dish_number_is_small = omega arith

@@ -108,7 +108,8 @@ impl<H: KeyHash> NodeSet<Menu<H>> for MenuNode {
 }
 
 impl<H: KeyHash> InNode<Menu<H>> for Dish {
-    ghost use Rattle.std.specs.Prelude.{refl};
+    ghost use Rattle.std.specs.Prelude.{◌≡◌, Some, refl};
+    ghost use Rattle.std.specs.Arc.{arc_value};
     ghost use Rattle.pagable_examples.specs.Menus.{dish_in, dish_number_is_small, dish_type, no_dish_type, dish_meaning, dish_meaning_back};
 
     ghost TYPE = { 0 };
@@ -117,7 +118,9 @@ impl<H: KeyHash> InNode<Menu<H>> for Dish {
 
     const TYPE: u32 = 0;
 
-    fn into_node(value: Arc<Dish>) -> MenuNode {
+    fn into_node(value: Arc<Dish>) -> MenuNode
+        ensures { dish_in result ≡ Some (arc_value value) }
+    {
         MenuNode::Dish(value)
     }
 
@@ -142,7 +145,8 @@ impl<H: KeyHash> InNode<Menu<H>> for Dish {
 }
 
 impl<H: KeyHash> InNode<Menu<H>> for Portion {
-    ghost use Rattle.std.specs.Prelude.{refl};
+    ghost use Rattle.std.specs.Prelude.{◌≡◌, Some, refl};
+    ghost use Rattle.std.specs.Arc.{arc_value};
     ghost use Rattle.pagable_examples.specs.Menus.{portion_in, portion_number_is_small, portion_type, no_portion_type, portion_meaning, portion_meaning_back};
 
     ghost TYPE = { 1 };
@@ -151,7 +155,9 @@ impl<H: KeyHash> InNode<Menu<H>> for Portion {
 
     const TYPE: u32 = 1;
 
-    fn into_node(value: Arc<Portion>) -> MenuNode {
+    fn into_node(value: Arc<Portion>) -> MenuNode
+        ensures { portion_in result ≡ Some (arc_value value) }
+    {
         MenuNode::Portion(value)
     }
 

@@ -51,7 +51,7 @@ impl<'de, E: Env> PagableDeserialize<'de, E> for Portion {
 
     ghost read_causes_are_own = { never_is_own_reading };
 
-    #[tactic(auto, unfolding(pagable_model::specs::Reading::read, pagable_model::specs::Reading::read_with), using(pagable_codec::proofs::Reading::parts, pagable_traits::proofs::Parts::options))]
+    #[tactic(auto, unfolding(pagable_model::specs::Reading::read, pagable_model::specs::Reading::read_with), using(pagable_codec::proofs::Reading::parts, pagable_traits::proofs::Parts::options, crate::proofs::Portions::reading))]
     fn pagable_deserialize<D: PagableDeserializer<E>>(
         alloc: Global,
         deserializer: &mut D,
