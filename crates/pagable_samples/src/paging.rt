@@ -39,28 +39,29 @@ where
     let Beginning::Load(load, _) = pager.load_begin(handle)? else {
         return Err(Error::NoSuchHandle);
     };
-    match read_root(alloc, pager, load, node_type) {
-        Ok(value) => end(alloc, pager, load, value),
-        Err(refusal) => {
-            let _ = pager.load_drop(load);
-            Err(refusal)
-        }
-    }
+    let outcome = finish(alloc, pager, load, node_type);
+    // A load that has ended is gone, and this changes nothing then.
+    let _ = pager.load_drop(load);
+    outcome
 }
 
-/// Reads the value of a load's root as this type.
-fn read_root<E: Env, S: PagableStorage<E>>(
+/// Ends a load with the value of its root, read as this type.
+fn finish<E: Env, S: PagableStorage<E>>(
     alloc: Global,
     pager: &mut Pager<E, S>,
     load: LoadNumber,
     node_type: u32,
-) -> Result<E::Node, Error>
+) -> Result<HandleNumber, Error>
 where
     E::Node: NodeSet<E>,
 {
-    match pager.load_fetch(alloc, load, Want::Root)? {
-        Either::Left(_) => Err(Error::NoSuchHandle),
-        Either::Right(blob) => read(alloc, pager.env(), node_type, blob.as_ref()),
+    let Either::Right(blob) = pager.load_fetch(alloc, load, Want::Root)? else {
+        return Err(Error::NoSuchHandle);
+    };
+    let value = read(alloc, pager.env(), node_type, blob.as_ref())?;
+    match pager.load_end(alloc, load, value) {
+        Ok(pinned) => Ok(pinned),
+        Err((refusal, _)) => Err(refusal),
     }
 }
 
@@ -80,26 +81,6 @@ where
         NoReferences::new(env),
     );
     E::Node::read(node_type, alloc, &mut deserializer)
-}
-
-/// Ends a load with its value, and closes it also where that is refused.
-fn end<E: Env, S: PagableStorage<E>>(
-    alloc: Global,
-    pager: &mut Pager<E, S>,
-    load: LoadNumber,
-    value: E::Node,
-) -> Result<HandleNumber, Error>
-where
-    E::Node: NodeSet<E>,
-{
-    match pager.load_end(alloc, load, value) {
-        Ok(pinned) => Ok(pinned),
-        Err((refusal, None)) => Err(refusal),
-        Err((refusal, Some(_))) => {
-            let _ = pager.load_drop(load);
-            Err(refusal)
-        }
-    }
 }
 
 /// Pages out the entries that stand in the list at the call, from the last to the first, and stops at the first
@@ -122,7 +103,7 @@ where
     Ok(())
 }
 
-/// Pages out the cell of an entry that was taken from the list.
+/// Pages out the cell of an entry that was taken from the list, and gives the entry up.
 fn page_out_entry<E: Env, S: PagableStorage<E>>(
     alloc: Global,
     pager: &mut Pager<E, S>,
@@ -134,21 +115,28 @@ where
     if pager.key(entry)?.is_some() {
         return pager.release(entry);
     }
-    match pager.pin(entry) {
-        Ok(Pinning::Pinned(pinned)) => {
-            let outcome = store(alloc, pager, entry, pinned);
-            // The entry's own pin goes last, so that a cell without a key is listed anew.
-            let _ = pager.release(pinned);
-            let released = pager.release(entry);
-            outcome?;
-            released
-        }
-        Ok(Pinning::NeedsLoad(_)) => pager.release(entry),
-        Err(refusal) => {
-            let _ = pager.release(entry);
-            Err(refusal)
-        }
-    }
+    let outcome = store_pinned(alloc, pager, entry);
+    // The entry's own pin goes last, so that a cell without a key is listed anew.
+    let released = pager.release(entry);
+    outcome?;
+    released
+}
+
+/// Pins an entry's cell while its value is stored.
+fn store_pinned<E: Env, S: PagableStorage<E>>(
+    alloc: Global,
+    pager: &mut Pager<E, S>,
+    entry: HandleNumber,
+) -> Result<(), Error>
+where
+    E::Node: NodeSet<E>,
+{
+    let Pinning::Pinned(pinned) = pager.pin(entry)? else {
+        return Ok(());
+    };
+    let outcome = store(alloc, pager, entry, pinned);
+    let _ = pager.release(pinned);
+    outcome
 }
 
 /// Stores the value of a pinned cell, and gives the cell its key.

@@ -1,20 +1,23 @@
 //! The lines that `pagectl` reads.
 
+/// What is asked of the handle of one name.
+#[derive(Clone, Copy)]
+pub enum Verb {
+    Unpin,
+    Count,
+    Key,
+    Out,
+}
+
 /// One line, understood. A name is 1 to 16 ASCII letters and digits.
-#[derive(Clone, Copy, Debug, PartialEq)]
+#[derive(Clone, Copy)]
 pub enum Command<'a> {
     /// `new NAME TEXT`: a new cell with the text, under a new name.
     New(&'a str, &'a str),
     /// `pin NAME NEW`: the text; NEW is the pin.
     Pin(&'a str, &'a str),
-    /// `unpin NAME`
-    Unpin(&'a str),
-    /// `count NAME`
-    Count(&'a str),
-    /// `key NAME`
-    Key(&'a str),
-    /// `out NAME`
-    Out(&'a str),
+    /// `unpin NAME`, `count NAME`, `key NAME` or `out NAME`
+    Of(Verb, &'a str),
     /// `pending`
     Pending,
     /// `pageout`
@@ -29,30 +32,32 @@ pub fn parse(line: &str) -> Option<Command<'_>> {
         _ => {}
     }
     let (verb, rest) = line.split_once(' ')?;
+    // The text of `new` is all after the second space, and may be empty.
+    let (name, behind) = rest.split_once(' ').unwrap_or((rest, ""));
+    if !is_name(name) {
+        return None;
+    }
     match verb {
-        "new" => {
-            // The text is all after the second space, and may be empty.
-            let (name, text) = rest.split_once(' ').unwrap_or((rest, ""));
-            Some(Command::New(name_of(name)?, text))
-        }
-        "pin" => {
-            let (name, new) = rest.split_once(' ')?;
-            Some(Command::Pin(name_of(name)?, name_of(new)?))
-        }
-        "unpin" => Some(Command::Unpin(name_of(rest)?)),
-        "count" => Some(Command::Count(name_of(rest)?)),
-        "key" => Some(Command::Key(name_of(rest)?)),
-        "out" => Some(Command::Out(name_of(rest)?)),
+        "new" => Some(Command::New(name, behind)),
+        "pin" if is_name(behind) => Some(Command::Pin(name, behind)),
+        _ if name.len() == rest.len() => Some(Command::Of(verb_of(verb)?, name)),
         _ => None,
     }
 }
 
-/// The word, if it is a name.
-fn name_of(word: &str) -> Option<&str> {
-    let fits = word.len() >= 1 && word.len() <= 16;
-    if fits && word.bytes().all(|byte| byte.is_ascii_alphanumeric()) {
-        Some(word)
-    } else {
-        None
+/// What a word asks of a name.
+fn verb_of(word: &str) -> Option<Verb> {
+    match word {
+        "unpin" => Some(Verb::Unpin),
+        "count" => Some(Verb::Count),
+        "key" => Some(Verb::Key),
+        "out" => Some(Verb::Out),
+        _ => None,
     }
+}
+
+/// Whether the word is a name.
+fn is_name(word: &str) -> bool {
+    let fits = word.len() >= 1 && word.len() <= 16;
+    fits && word.bytes().all(|byte| byte.is_ascii_alphanumeric())
 }

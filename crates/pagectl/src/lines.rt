@@ -8,7 +8,7 @@ use std::io::BufRead;
 pub const LONGEST_LINE: usize = 65_536;
 
 /// What the next line is.
-#[derive(Clone, Copy, Debug, PartialEq)]
+#[derive(Clone, Copy)]
 pub enum Line {
     /// There is none: the input has ended.
     End,
@@ -19,7 +19,7 @@ pub enum Line {
 }
 
 /// What a piece of the input brought of a line.
-#[derive(Clone, Copy, Debug, PartialEq)]
+#[derive(Clone, Copy)]
 enum Piece {
     /// Nothing: the input has ended.
     Nothing,

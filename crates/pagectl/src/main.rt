@@ -14,44 +14,31 @@ use std::io::{BufReader, BufWriter};
 use std::process::ExitCode;
 use std::{env, io};
 
-/// What the program's words ask for.
-enum Asked {
-    Weigh,
-    Usage,
-}
-
-/// What the words after the program's name ask for: `weigh` alone, or the usage.
-fn read_words(rt: &(impl env::Env + Alloc)) -> io::Result<Asked> {
+/// Whether the words after the program's name are `weigh` alone.
+fn is_weigh(rt: &(impl env::Env + Alloc)) -> io::Result<bool> {
     let mut words = match env::args(rt) {
         Ok(words) => words,
         // A word that isn't text.
-        Err(e) if e.kind() == io::ErrorKind::InvalidData => return Ok(Asked::Usage),
+        Err(e) if e.kind() == io::ErrorKind::InvalidData => return Ok(false),
         Err(e) => return Err(e),
     };
     let _program = words.next();
-    let Some(word) = words.next() else {
-        return Ok(Asked::Usage);
-    };
-    if words.next().is_some() || word.as_str() != "weigh" {
-        return Ok(Asked::Usage);
+    match words.next() {
+        Some(word) => Ok(word.as_str() == "weigh" && words.next().is_none()),
+        None => Ok(false),
     }
-    Ok(Asked::Weigh)
 }
 
 fn run(rt: &HostRuntime) -> io::Result<ExitCode> {
-    match read_words(rt)? {
-        Asked::Usage => {
-            eprintln!(rt; "usage: pagectl weigh|sha256")?;
-            Ok(ExitCode::from(2))
-        }
-        Asked::Weigh => {
-            let alloc = rt.alloc();
-            let mut reader = BufReader::new(alloc, rt.reader())?;
-            let mut writer = BufWriter::new(alloc, io::writer(rt))?;
-            serve::<WeighHash, _, _>(alloc, &mut reader, &mut writer)?;
-            Ok(ExitCode::SUCCESS)
-        }
+    if !is_weigh(rt)? {
+        eprintln!(rt; "usage: pagectl weigh|sha256")?;
+        return Ok(ExitCode::from(2));
     }
+    let alloc = rt.alloc();
+    let mut reader = BufReader::new(alloc, rt.reader())?;
+    let mut writer = BufWriter::new(alloc, io::writer(rt))?;
+    serve::<WeighHash, _, _>(alloc, &mut reader, &mut writer)?;
+    Ok(ExitCode::SUCCESS)
 }
 
 fn main(rt: HostRuntime) -> ExitCode {

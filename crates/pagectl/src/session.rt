@@ -1,13 +1,21 @@
 //! Names of handles over a pager of texts.
 
+use crate::command::{Command, Verb};
 use pagable::{Error, HandleNumber, InMemoryBlobs, KeyHash, OptionalDataKey, Pager};
 use pagable_samples::{TextEnv, TextNode, paging};
 use std::alloc::{AllocError, Global};
 use std::collections::HashMap;
-use std::collections::hash_map::Entry;
+use std::collections::hash_map::{Entry, VacantEntry};
+
+/// What a command answers, in one line.
+#[derive(Clone, Copy)]
+pub enum Answer<'a> {
+    Text(&'a str),
+    Number(u128),
+}
 
 /// Why a command is refused.
-#[derive(Debug, Drop)]
+#[derive(Drop)]
 pub enum Refusal {
     /// The name is in use where a new one is wanted.
     BadName,
@@ -29,11 +37,13 @@ impl From<AllocError> for Refusal {
     }
 }
 
+type TextPager<H> = Pager<TextEnv<H>, InMemoryBlobs<TextEnv<H>>>;
+
 /// The handles that have names, and the pager that they are of. No text stands outside a cell or a blob.
 #[derive(Drop)]
 pub struct Session<H: KeyHash> {
     names: HashMap<String, HandleNumber>,
-    pager: Pager<TextEnv<H>, InMemoryBlobs<TextEnv<H>>>,
+    pager: TextPager<H>,
 }
 
 impl<H: KeyHash> Session<H> {
@@ -42,6 +52,23 @@ impl<H: KeyHash> Session<H> {
         Session {
             names: HashMap::new(alloc),
             pager: Pager::new(alloc, InMemoryBlobs::new(alloc), TextEnv::new()),
+        }
+    }
+
+    /// Runs a command.
+    pub fn run(&mut self, alloc: Global, command: Command<'_>) -> Result<Answer<'_>, Refusal> {
+        match command {
+            Command::New(name, text) => self.make(alloc, name, text),
+            Command::Pin(name, new) => self.pin(alloc, name, new),
+            Command::Of(verb, name) => {
+                let handle = self.find(name)?;
+                Ok(ask(&mut self.pager, verb, handle)?)
+            }
+            Command::Pending => Ok(Answer::Number(self.pager.pending() as u128)),
+            Command::PageOut => {
+                paging::page_out_pending(alloc, &mut self.pager)?;
+                Ok(Answer::Text("ok"))
+            }
         }
     }
 
@@ -54,76 +81,64 @@ impl<H: KeyHash> Session<H> {
     }
 
     /// A new cell with the text, whose loose handle gets the name.
-    pub fn make(&mut self, alloc: Global, name: &str, text: &str) -> Result<(), Refusal> {
-        // Room for the name first, so that no cell is left without one.
-        match self.names.entry(String::from_str(alloc, name)?) {
-            Err(_) => Err(Refusal::Error(Error::OutOfMemory)),
-            Ok(Entry::Occupied(_)) => Err(Refusal::BadName),
-            Ok(Entry::Vacant(vacant)) => {
-                let node = TextNode::new(alloc, text)?;
-                match self.pager.new_loose(alloc, node) {
-                    Ok(handle) => {
-                        vacant.insert(handle);
-                        Ok(())
-                    }
-                    Err((e, _)) => Err(Refusal::Error(e)),
-                }
+    fn make(&mut self, alloc: Global, name: &str, text: &str) -> Result<Answer<'_>, Refusal> {
+        let vacant = vacant(&mut self.names, alloc, name)?;
+        let node = TextNode::new(alloc, text)?;
+        match self.pager.new_loose(alloc, node) {
+            Ok(handle) => {
+                vacant.insert(handle);
+                Ok(Answer::Text("ok"))
             }
+            Err((e, _)) => Err(Refusal::Error(e)),
         }
     }
 
     /// Pins the cell of a name. The pin gets the new name, and the text is answered.
-    pub fn pin(&mut self, alloc: Global, name: &str, new: &str) -> Result<&str, Refusal> {
+    fn pin(&mut self, alloc: Global, name: &str, new: &str) -> Result<Answer<'_>, Refusal> {
         let handle = self.find(name)?;
-        let pinned = match self.names.entry(String::from_str(alloc, new)?) {
-            Err(_) => return Err(Refusal::Error(Error::OutOfMemory)),
-            Ok(Entry::Occupied(_)) => return Err(Refusal::BadName),
-            Ok(Entry::Vacant(vacant)) => {
-                let pinned = paging::pin(alloc, &mut self.pager, handle)?;
-                vacant.insert(pinned);
-                pinned
-            }
-        };
+        let vacant = vacant(&mut self.names, alloc, new)?;
+        let pinned = paging::pin(alloc, &mut self.pager, handle)?;
+        vacant.insert(pinned);
         match self.pager.value(pinned)? {
-            Some(node) => Ok(node.as_str()),
+            Some(node) => Ok(Answer::Text(node.as_str())),
             None => Err(Refusal::Error(Error::NoSuchHandle)),
         }
     }
+}
 
-    /// The handle of a name gives up its pin.
-    pub fn unpin(&mut self, name: &str) -> Result<(), Refusal> {
-        let handle = self.find(name)?;
-        Ok(self.pager.unpin(handle)?)
+/// Room for a new name, before its handle is made, so that no handle is left without one.
+fn vacant<'a>(
+    names: &'a mut HashMap<String, HandleNumber>,
+    alloc: Global,
+    name: &str,
+) -> Result<VacantEntry<'a, String, HandleNumber>, Refusal> {
+    match names.entry(String::from_str(alloc, name)?) {
+        Err(_) => Err(Refusal::Error(Error::OutOfMemory)),
+        Ok(Entry::Occupied(_)) => Err(Refusal::BadName),
+        Ok(Entry::Vacant(vacant)) => Ok(vacant),
     }
+}
 
-    /// How many handles pin the cell of a name.
-    pub fn count(&self, name: &str) -> Result<u64, Refusal> {
-        let handle = self.find(name)?;
-        Ok(self.pager.count(handle)?)
-    }
-
-    /// The number of the key of a name's cell, if it has one.
-    pub fn key(&self, name: &str) -> Result<Option<u128>, Refusal> {
-        let handle = self.find(name)?;
-        match self.pager.key(handle)? {
-            OptionalDataKey::None => Ok(None),
-            OptionalDataKey::Some(key) => Ok(Some(key.get())),
+/// Gives up a handle's pin, or answers how many handles pin its cell, the number of the cell's key, or whether the
+/// cell's text isn't in memory.
+fn ask<H: KeyHash>(
+    pager: &mut TextPager<H>,
+    verb: Verb,
+    handle: HandleNumber,
+) -> Result<Answer<'static>, Error> {
+    match verb {
+        Verb::Unpin => {
+            pager.unpin(handle)?;
+            Ok(Answer::Text("ok"))
         }
-    }
-
-    /// Whether the text of a name's cell isn't in memory.
-    pub fn is_paged_out(&self, name: &str) -> Result<bool, Refusal> {
-        let handle = self.find(name)?;
-        Ok(self.pager.is_paged_out(handle)?)
-    }
-
-    /// How many cells wait for page-out.
-    pub fn pending(&self) -> usize {
-        self.pager.pending()
-    }
-
-    /// Pages out the cells that wait.
-    pub fn page_out(&mut self, alloc: Global) -> Result<(), Refusal> {
-        Ok(paging::page_out_pending(alloc, &mut self.pager)?)
+        Verb::Count => Ok(Answer::Number(u128::from(pager.count(handle)?))),
+        Verb::Key => match pager.key(handle)? {
+            OptionalDataKey::None => Ok(Answer::Text("none")),
+            OptionalDataKey::Some(key) => Ok(Answer::Number(key.get())),
+        },
+        Verb::Out => match pager.is_paged_out(handle)? {
+            true => Ok(Answer::Text("yes")),
+            false => Ok(Answer::Text("no")),
+        },
     }
 }

@@ -56,54 +56,54 @@ where
 /// What comes of an input of a basic type; None for another type.
 fn basic(alloc: Global, name: &str, input: &[u8]) -> anyhow::Result<Option<Answer>> {
     let answer = match name {
-        "()" => replay_as::<()>(alloc, input)?,
-        "bool" => replay_as::<bool>(alloc, input)?,
-        "char" => replay_as::<char>(alloc, input)?,
-        "u8" => replay_as::<u8>(alloc, input)?,
-        "u16" => replay_as::<u16>(alloc, input)?,
-        "u32" => replay_as::<u32>(alloc, input)?,
-        "u64" => replay_as::<u64>(alloc, input)?,
-        "u128" => replay_as::<u128>(alloc, input)?,
-        "usize" => replay_as::<usize>(alloc, input)?,
-        "i8" => replay_as::<i8>(alloc, input)?,
-        "i16" => replay_as::<i16>(alloc, input)?,
-        "i32" => replay_as::<i32>(alloc, input)?,
-        "i64" => replay_as::<i64>(alloc, input)?,
-        "i128" => replay_as::<i128>(alloc, input)?,
-        "String" => replay_as::<String>(alloc, input)?,
+        "()" => replay_as::<()>(alloc, input),
+        "bool" => replay_as::<bool>(alloc, input),
+        "char" => replay_as::<char>(alloc, input),
+        "u8" => replay_as::<u8>(alloc, input),
+        "u16" => replay_as::<u16>(alloc, input),
+        "u32" => replay_as::<u32>(alloc, input),
+        "u64" => replay_as::<u64>(alloc, input),
+        "u128" => replay_as::<u128>(alloc, input),
+        "usize" => replay_as::<usize>(alloc, input),
+        "i8" => replay_as::<i8>(alloc, input),
+        "i16" => replay_as::<i16>(alloc, input),
+        "i32" => replay_as::<i32>(alloc, input),
+        "i64" => replay_as::<i64>(alloc, input),
+        "i128" => replay_as::<i128>(alloc, input),
+        "String" => replay_as::<String>(alloc, input),
         _ => return Ok(None),
     };
-    Ok(Some(answer))
+    Ok(Some(answer?))
 }
 
 /// What comes of an input of a type that holds values of others; None for another type.
 fn holder(alloc: Global, name: &str, input: &[u8]) -> anyhow::Result<Option<Answer>> {
     let answer = match name {
-        "Box<u16>" => replay_as::<Box<u16>>(alloc, input)?,
-        "Option<()>" => replay_as::<Option<()>>(alloc, input)?,
-        "Option<bool>" => replay_as::<Option<bool>>(alloc, input)?,
-        "Option<u8>" => replay_as::<Option<u8>>(alloc, input)?,
-        "Option<String>" => replay_as::<Option<String>>(alloc, input)?,
-        "Option<Option<i32>>" => replay_as::<Option<Option<i32>>>(alloc, input)?,
-        "(u8,u8)" => replay_as::<(u8, u8)>(alloc, input)?,
-        "(bool,String)" => replay_as::<(bool, String)>(alloc, input)?,
-        "Nested" => replay_in::<NestedEnv, Nested>(alloc, &NestedEnv, input)?,
-        "Box<[u32]>" => replay_as::<BoxedSlice<u32>>(alloc, input)?,
-        "Box<[String]>" => replay_as::<BoxedSlice<String>>(alloc, input)?,
-        "SmallVec<[u8;4]>" => replay_as::<SmallVec<u8, 4>>(alloc, input)?,
-        "SmallVec<[String;4]>" => replay_as::<SmallVec<String, 4>>(alloc, input)?,
-        "Vec<()>" => replay_as::<Vec<()>>(alloc, input)?,
-        "Vec<bool>" => replay_as::<Vec<bool>>(alloc, input)?,
-        "Vec<u8>" => replay_as::<Vec<u8>>(alloc, input)?,
-        "Vec<i32>" => replay_as::<Vec<i32>>(alloc, input)?,
-        "Vec<u64>" => replay_as::<Vec<u64>>(alloc, input)?,
-        "Vec<String>" => replay_as::<Vec<String>>(alloc, input)?,
-        "Vec<Option<u8>>" => replay_as::<Vec<Option<u8>>>(alloc, input)?,
-        "Vec<Vec<u16>>" => replay_as::<Vec<Vec<u16>>>(alloc, input)?,
-        "Vec<(String,i64)>" => replay_as::<Vec<(String, i64)>>(alloc, input)?,
+        "Box<u16>" => replay_as::<Box<u16>>(alloc, input),
+        "Option<()>" => replay_as::<Option<()>>(alloc, input),
+        "Option<bool>" => replay_as::<Option<bool>>(alloc, input),
+        "Option<u8>" => replay_as::<Option<u8>>(alloc, input),
+        "Option<String>" => replay_as::<Option<String>>(alloc, input),
+        "Option<Option<i32>>" => replay_as::<Option<Option<i32>>>(alloc, input),
+        "(u8,u8)" => replay_as::<(u8, u8)>(alloc, input),
+        "(bool,String)" => replay_as::<(bool, String)>(alloc, input),
+        "Nested" => replay_in::<NestedEnv, Nested>(alloc, &NestedEnv, input),
+        "Box<[u32]>" => replay_as::<BoxedSlice<u32>>(alloc, input),
+        "Box<[String]>" => replay_as::<BoxedSlice<String>>(alloc, input),
+        "SmallVec<[u8;4]>" => replay_as::<SmallVec<u8, 4>>(alloc, input),
+        "SmallVec<[String;4]>" => replay_as::<SmallVec<String, 4>>(alloc, input),
+        "Vec<()>" => replay_as::<Vec<()>>(alloc, input),
+        "Vec<bool>" => replay_as::<Vec<bool>>(alloc, input),
+        "Vec<u8>" => replay_as::<Vec<u8>>(alloc, input),
+        "Vec<i32>" => replay_as::<Vec<i32>>(alloc, input),
+        "Vec<u64>" => replay_as::<Vec<u64>>(alloc, input),
+        "Vec<String>" => replay_as::<Vec<String>>(alloc, input),
+        "Vec<Option<u8>>" => replay_as::<Vec<Option<u8>>>(alloc, input),
+        "Vec<Vec<u16>>" => replay_as::<Vec<Vec<u16>>>(alloc, input),
+        "Vec<(String,i64)>" => replay_as::<Vec<(String, i64)>>(alloc, input),
         _ => return Ok(None),
     };
-    Ok(Some(answer))
+    Ok(Some(answer?))
 }
 
 /// What comes of an input of a carried type; None for another type.
