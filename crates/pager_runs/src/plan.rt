@@ -1,14 +1,11 @@
 //! Which call comes next: mostly the next one of a page-out or a load, or one that is drawn.
 
-use crate::calls::{Answer, Call, Value};
+use crate::calls::{Answer, Call, TEXTS, Text, Value};
 use crate::dice::Dice;
 use crate::nodes::{NAMES, NOTES};
 use crate::stage::Stage;
 use pagable::{DataKey, HandleNumber, LoadNumber, NodeNumber};
 use pagable_plain_world::PlainPager;
-
-/// The texts. The blobs of `al` and `lb` have one key.
-const TEXTS: [&str; 6] = ["", "al", "lb", "x", "hello world", "\u{e9}t\u{e9}"];
 
 /// What the next calls are drawn by.
 #[derive(Clone, Copy, Debug)]
@@ -119,11 +116,11 @@ impl Plan {
     }
 
     /// A text.
-    fn text(&mut self) -> &'static str {
+    fn text(&mut self) -> Text {
         let place = self.below(TEXTS.len() as u64);
         match TEXTS.get(place as usize) {
-            Some(text) => text,
-            None => "",
+            Some(text) => *text,
+            None => Text::Empty,
         }
     }
 
@@ -153,12 +150,12 @@ impl Plan {
 }
 
 /// The text of a node.
-fn text_of(plain: &PlainPager, node: NodeNumber) -> &'static str {
+fn text_of(plain: &PlainPager, node: NodeNumber) -> Text {
     let wanted = plain.text_of(node).unwrap_or_default();
     for text in TEXTS {
-        if text == wanted {
+        if text.as_str() == wanted {
             return text;
         }
     }
-    ""
+    Text::Empty
 }
