@@ -56,9 +56,10 @@ impl Plan {
         }
     }
 
-    /// A call of any sort.
+    /// A call of any sort. As long as no load was begun, few ask for one.
     fn drawn(&mut self, plain: &PlainPager) -> Call {
-        match self.below(20) {
+        let sorts = if plain.last_load() == 0 { 18 } else { 20 };
+        match self.below(sorts) {
             0 | 1 => Call::NewLoose(self.value()),
             2..=4 => Call::Pin(self.handle(plain)),
             5..=7 => Call::Unpin(self.handle(plain)),
@@ -67,13 +68,13 @@ impl Plan {
             11 => Call::Store(self.handle(plain)),
             12 => Call::Fetch(self.key),
             13 | 14 => Call::LoadBegin(self.handle(plain)),
-            15 => Call::LoadFetch(self.load(plain)),
-            16 => {
+            15 | 16 => Call::TakePending(self.place(plain)),
+            17 => Call::LoadFetch(self.load(plain)),
+            18 => Call::LoadDrop(self.load(plain)),
+            _ => {
                 let load = self.load(plain);
                 self.end_of(plain, load)
             }
-            17 => Call::LoadDrop(self.load(plain)),
-            _ => Call::TakePending(self.place(plain)),
         }
     }
 
