@@ -6,7 +6,8 @@ use Rattle.pagable_model.specs.Meaning.{Meaning}
 use Rattle.pagable_model.specs.Meaning as meanings
 use Rattle.pagable_model.specs.Shape.{Shape, text}
 use Rattle.pagable_model.specs.declared.numbers.ArcRef.{ArcRef}
-use Rattle.pager_runs.specs.declared.nodes.RunNode.{RunNode, Name, Note}
+use Rattle.pager_runs.specs.declared.nodes.RunNode.{RunNode}
+use Rattle.pager_runs.specs.declared.nodes.RunNode.TheVariants as nodes
 
 -- two types of texts, with the numbers 0 and 1
 abbrev pub shape_of : ℕ → Option Shape
@@ -15,14 +16,14 @@ shape_of (suc zero) = Some text
 shape_of (suc (suc n)) = None
 
 abbrev pub type_of : RunNode → ℕ
-type_of (Name t) = 0
-type_of (Note t) = 1
+type_of (nodes.Name t) = 0
+type_of (nodes.Note t) = 1
 
 abbrev pub text_of : RunNode → Meaning ArcRef
-text_of (Name t) = meanings.text (string_bytes (arc_value t))
-text_of (Note t) = meanings.text (string_bytes (arc_value t))
+text_of (nodes.Name t) = meanings.text (string_bytes (arc_value t))
+text_of (nodes.Note t) = meanings.text (string_bytes (arc_value t))
 
 -- each node's type is there
 pub has_shape : (n : RunNode) → shape_of (type_of n) ≡ Some text
-has_shape (Name t) = refl
-has_shape (Note t) = refl
+has_shape (nodes.Name t) = refl
+has_shape (nodes.Note t) = refl

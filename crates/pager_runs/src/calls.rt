@@ -2,11 +2,47 @@
 
 use pagable::{Beginning, DataKey, Error, HandleNumber, LoadNumber, Pinning};
 
+/// A text.
+#[derive(Clone, Copy, Debug, PartialEq)]
+pub enum Text {
+    Empty,
+    Letter,
+    /// The blobs of this text and of the next one have one key.
+    Al,
+    Lb,
+    Words,
+    Accents,
+}
+
+/// All texts.
+pub const TEXTS: [Text; 6] = [
+    Text::Empty,
+    Text::Letter,
+    Text::Al,
+    Text::Lb,
+    Text::Words,
+    Text::Accents,
+];
+
+impl Text {
+    /// The text's characters.
+    pub fn as_str(self) -> &'static str {
+        match self {
+            Text::Empty => "",
+            Text::Letter => "x",
+            Text::Al => "al",
+            Text::Lb => "lb",
+            Text::Words => "hello world",
+            Text::Accents => "\u{e9}t\u{e9}",
+        }
+    }
+}
+
 /// What a new cell, or the end of a load, holds.
 #[derive(Clone, Copy, Debug, PartialEq)]
 pub struct Value {
     pub node_type: u32,
-    pub text: &'static str,
+    pub text: Text,
 }
 
 /// A call.

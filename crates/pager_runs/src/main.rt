@@ -23,7 +23,7 @@ use pagable::{DataKey, Error};
 use std::alloc::Global;
 
 /// How many runs there are.
-const RUNS: u64 = 2000;
+const RUNS: u64 = 10_000;
 
 /// The first difference in the run of a seed, and the number of its call from 0.
 fn run(

@@ -10,7 +10,7 @@ use std::alloc::Global;
 fn new_loose(alloc: Global, pager: &mut PlainPager, value: Value) -> Result<Answer, Error> {
     let value = PlainValue {
         node_type: value.node_type,
-        text: String::from_str(alloc, value.text)?,
+        text: String::from_str(alloc, value.text.as_str())?,
         references: Vec::new(alloc),
     };
     Ok(Answer::Handle(pager.new_node(alloc, value, Mode::LoosePinned)?))

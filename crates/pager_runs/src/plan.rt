@@ -1,14 +1,11 @@
 //! Which call comes next: mostly the next one of a page-out or a load, or one that is drawn.
 
-use crate::calls::{Answer, Call, Value};
+use crate::calls::{Answer, Call, TEXTS, Text, Value};
 use crate::dice::Dice;
 use crate::nodes::{NAMES, NOTES};
 use crate::stage::Stage;
 use pagable::{DataKey, HandleNumber, LoadNumber, NodeNumber};
 use pagable_plain_world::PlainPager;
-
-/// The texts. The blobs of `al` and `lb` have one key.
-const TEXTS: [&str; 6] = ["", "al", "lb", "x", "hello world", "\u{e9}t\u{e9}"];
 
 /// What the next calls are drawn by.
 #[derive(Clone, Copy, Debug)]
@@ -59,9 +56,10 @@ impl Plan {
         }
     }
 
-    /// A call of any sort.
+    /// A call of any sort. As long as no load was begun, few ask for one.
     fn drawn(&mut self, plain: &PlainPager) -> Call {
-        match self.below(20) {
+        let sorts = if plain.last_load() == 0 { 18 } else { 20 };
+        match self.below(sorts) {
             0 | 1 => Call::NewLoose(self.value()),
             2..=4 => Call::Pin(self.handle(plain)),
             5..=7 => Call::Unpin(self.handle(plain)),
@@ -70,13 +68,13 @@ impl Plan {
             11 => Call::Store(self.handle(plain)),
             12 => Call::Fetch(self.key),
             13 | 14 => Call::LoadBegin(self.handle(plain)),
-            15 => Call::LoadFetch(self.load(plain)),
-            16 => {
+            15 | 16 => Call::TakePending(self.place(plain)),
+            17 => Call::LoadFetch(self.load(plain)),
+            18 => Call::LoadDrop(self.load(plain)),
+            _ => {
                 let load = self.load(plain);
                 self.end_of(plain, load)
             }
-            17 => Call::LoadDrop(self.load(plain)),
-            _ => Call::TakePending(self.place(plain)),
         }
     }
 
@@ -119,11 +117,11 @@ impl Plan {
     }
 
     /// A text.
-    fn text(&mut self) -> &'static str {
+    fn text(&mut self) -> Text {
         let place = self.below(TEXTS.len() as u64);
         match TEXTS.get(place as usize) {
-            Some(text) => text,
-            None => "",
+            Some(text) => *text,
+            None => Text::Empty,
         }
     }
 
@@ -153,12 +151,12 @@ impl Plan {
 }
 
 /// The text of a node.
-fn text_of(plain: &PlainPager, node: NodeNumber) -> &'static str {
+fn text_of(plain: &PlainPager, node: NodeNumber) -> Text {
     let wanted = plain.text_of(node).unwrap_or_default();
     for text in TEXTS {
-        if text == wanted {
+        if text.as_str() == wanted {
             return text;
         }
     }
-    ""
+    Text::Empty
 }

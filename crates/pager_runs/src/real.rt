@@ -15,7 +15,7 @@ pub type RunStorage = FailingStorage<InMemoryBlobs<RunEnv>>;
 pub type RunPager = Pager<RunEnv, RunStorage>;
 
 fn new_loose(alloc: Global, pager: &mut RunPager, value: Value) -> Result<Answer, Error> {
-    let node = RunNode::new(alloc, value.node_type, value.text)?;
+    let node = RunNode::new(alloc, value.node_type, value.text.as_str())?;
     match pager.new_loose(alloc, node) {
         Ok(handle) => Ok(Answer::Handle(handle)),
         Err((refusal, _)) => Err(refusal),
@@ -67,7 +67,7 @@ fn load_end(
     load: LoadNumber,
     value: Value,
 ) -> Result<Answer, Error> {
-    let node = RunNode::new(alloc, value.node_type, value.text)?;
+    let node = RunNode::new(alloc, value.node_type, value.text.as_str())?;
     match pager.load_end(alloc, load, node) {
         Ok(pinned) => Ok(Answer::Handle(pinned)),
         Err((refusal, Some(_))) => Err(refusal),
