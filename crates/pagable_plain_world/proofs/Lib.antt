@@ -13,3 +13,4 @@ mod Dropping
 mod Calls
 mod Looks
 mod Unpinning
+mod OnHandles

@@ -4,3 +4,4 @@ pub mod RunLaws
 pub mod NearMisses
 pub mod Bridges
 pub mod KeepLaws
+pub mod HandleExamples

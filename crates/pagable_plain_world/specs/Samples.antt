@@ -1,7 +1,10 @@
 -- Small worlds, to see that the definitions are met, and what they refuse.
 use Rattle.std.specs.Prelude.{ℕ, ◌==◌, ◌||◌, Bool, false, List, [], ◌∷◌, Option}
 use Rattle.pagable_model.specs.declared.data_key.OptionalDataKey.TheVariants as optional
+use Rattle.pagable_model.specs.declared.numbers.HandleNumber.{HandleNumber}
+use Rattle.pagable_model.specs.declared.numbers.NodeNumber.{NodeNumber}
 use Rattle.pagable_model.specs.Blob.{Blob}
+use Rattle.pagable_world.specs.declared.rows.Mode.{Mode}
 use Rattle.pagable_world.specs.declared.rows.Mode.TheVariants as modes
 use Rattle.pagable_world.specs.declared.rows.Owner.TheVariants as owners
 use Rattle.pagable_world.specs.declared.rows.HandleRow.{HandleRow}
@@ -66,3 +69,54 @@ lone_listed stored = record (lone stored) {
 -- the same without the entry of the list
 abbrev pub lone_unlisted : (ℕ → Option Blob) → Whole
 lone_unlisted stored = record (lone stored) { rows = row_of 1 (record { 0 = 1 }) modes.LooseUnpinned owners.Caller ∷ [] }
+
+-- the first two handles, and the first node
+abbrev pub first : HandleNumber
+first = record { 0 = 1 }
+
+abbrev pub second : HandleNumber
+second = record { 0 = 2 }
+
+abbrev pub first_node : NodeNumber
+first_node = record { 0 = 1 }
+
+-- the caller's unpinned cell, with a key
+abbrev pub away : (ℕ → Option Blob) → ℕ → Whole
+away stored key = record (lone stored) {
+  rows = row_of 1 first_node modes.LooseUnpinned owners.Caller ∷ [];
+  cells = record { number = 1; node_type = 0; key = optional.Some key } ∷ [];
+}
+
+-- the lone cell with a second handle: a loose one, and a pin; and the pin turned into a loose one
+abbrev pub with_second : (ℕ → Option Blob) → Mode → Whole
+with_second stored mode = record (lone stored) {
+  rows = row_of 1 first_node modes.LoosePinned owners.Caller ∷ row_of 2 first_node mode owners.Caller ∷ [];
+  last = record { node = 1; handle = 2; load = 0; table = 0; worker = 0 };
+}
+
+abbrev pub cloned : (ℕ → Option Blob) → Whole
+cloned stored = with_second stored modes.LoosePinned
+
+abbrev pub pinned : (ℕ → Option Blob) → Whole
+pinned stored = with_second stored modes.Pinned
+
+abbrev pub loosened : (ℕ → Option Blob) → Whole
+loosened stored = with_second stored modes.LoosePinned
+
+-- the lone cell with a key
+abbrev pub keyed : (ℕ → Option Blob) → ℕ → Whole
+keyed stored key = record (lone stored) { cells = record { number = 1; node_type = 0; key = optional.Some key } ∷ [] }
+
+-- the unpinned cell in the list; and the entry of the lone cell, taken from it
+abbrev pub scheduled : (ℕ → Option Blob) → ℕ → Whole
+scheduled stored key = record (away stored key) { rows = row_of 1 first_node modes.LooseUnpinned owners.List ∷ []; list = first ∷ [] }
+
+abbrev pub taken : (ℕ → Option Blob) → Whole
+taken stored = record (lone_listed stored) { rows = row_of 1 first_node modes.LooseUnpinned owners.Caller ∷ row_of 2 first_node modes.LooseUnpinned owners.Caller ∷ []; list = [] }
+
+-- of two levels the inner handle left behind
+abbrev pub inner_left : (ℕ → Option Blob) → ℕ → ℕ → Whole
+inner_left stored key inner = record (two_levels stored key inner) {
+  rows = row_of 2 (record { 0 = 2 }) modes.LoosePinned (owners.Value first_node) ∷ [];
+  cells = record { number = 2; node_type = 0; key = optional.Some inner } ∷ [];
+}

@@ -1,0 +1,16 @@
+//! Of each relation of the pager's world an example that meets it and a near miss that doesn't: each is the contract of a
+//! function that does nothing.
+
+ghost use Rattle.pagable_plain_world.specs.HandleExamples.{BirthExamples, CloneExamples, PinExamples, GiveUpExamples, LoosenExamples, SetKeyExamples, LookExamples, ListExamples};
+
+/// The calls on handles and nodes.
+pub fn calls_on_handles()
+    ensures births { BirthExamples }
+    ensures clones { CloneExamples }
+    ensures pins { PinExamples }
+    ensures give_ups { GiveUpExamples }
+    ensures loosens { LoosenExamples }
+    ensures set_keys { SetKeyExamples }
+    ensures looks { LookExamples }
+    ensures lists { ListExamples }
+{}
