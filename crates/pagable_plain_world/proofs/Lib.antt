@@ -14,3 +14,4 @@ mod Calls
 mod Looks
 mod Unpinning
 mod OnHandles
+mod OnStorage

@@ -54,7 +54,7 @@ pub clones : CloneExamples
 clones = record { met = λ stored. (row_of 1 first_node modes.LoosePinned owners.Caller, ((0, refl), refl), ((refl, omega arith), refl)); missed = clone-missed }
 
 -- a cell that is away isn't in memory
-away-not-here : (stored : ℕ → Option Blob) (key : ℕ) (row : HandleRow) → IsInMemory (away stored key) row.node → ⊥
+pub away-not-here : (stored : ℕ → Option Blob) (key : ℕ) (row : HandleRow) → IsInMemory (away stored key) row.node → ⊥
 away-not-here stored key row (inl some) = grind (arith, nat_tests)
 away-not-here stored key row (inr (cell, (among, is), none)) =
     let a : has_key cell.key ≡ true = ap (λ c. has_key c.key) (the-one _ cell among) in

@@ -5,3 +5,5 @@ pub mod NearMisses
 pub mod Bridges
 pub mod KeepLaws
 pub mod HandleExamples
+pub mod StoreExamples
+pub mod LoadExamples

@@ -2,6 +2,8 @@
 //! function that does nothing.
 
 ghost use Rattle.pagable_plain_world.specs.HandleExamples.{BirthExamples, CloneExamples, PinExamples, GiveUpExamples, LoosenExamples, SetKeyExamples, LookExamples, ListExamples};
+ghost use Rattle.pagable_plain_world.specs.StoreExamples.{CacheExamples, StorageExamples};
+ghost use Rattle.pagable_plain_world.specs.LoadExamples.{BeginExamples, ReadingExamples, EndExamples};
 
 /// The calls on handles and nodes.
 pub fn calls_on_handles()
@@ -13,4 +15,13 @@ pub fn calls_on_handles()
     ensures set_keys { SetKeyExamples }
     ensures looks { LookExamples }
     ensures lists { ListExamples }
+{}
+
+/// The calls on cache, storage and loads.
+pub fn calls_on_storage_and_loads()
+    ensures cache { CacheExamples }
+    ensures storage { StorageExamples }
+    ensures begins { BeginExamples }
+    ensures readings { ReadingExamples }
+    ensures ends { EndExamples }
 {}
