@@ -15,3 +15,4 @@ mod Looks
 mod Unpinning
 mod OnHandles
 mod OnStorage
+mod OnSteps

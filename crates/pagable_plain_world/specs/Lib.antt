@@ -7,3 +7,5 @@ pub mod KeepLaws
 pub mod HandleExamples
 pub mod StoreExamples
 pub mod LoadExamples
+pub mod SampleSeen
+pub mod StepExamples

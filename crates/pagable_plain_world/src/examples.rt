@@ -4,6 +4,7 @@
 ghost use Rattle.pagable_plain_world.specs.HandleExamples.{BirthExamples, CloneExamples, PinExamples, GiveUpExamples, LoosenExamples, SetKeyExamples, LookExamples, ListExamples};
 ghost use Rattle.pagable_plain_world.specs.StoreExamples.{CacheExamples, StorageExamples};
 ghost use Rattle.pagable_plain_world.specs.LoadExamples.{BeginExamples, ReadingExamples, EndExamples};
+ghost use Rattle.pagable_plain_world.specs.StepExamples.{BlobExamples, LoadStepExamples, EventExamples, StartExamples};
 
 /// The calls on handles and nodes.
 pub fn calls_on_handles()
@@ -24,4 +25,12 @@ pub fn calls_on_storage_and_loads()
     ensures begins { BeginExamples }
     ensures readings { ReadingExamples }
     ensures ends { EndExamples }
+{}
+
+/// Steps of loads, and events.
+pub fn steps_and_events()
+    ensures blobs { BlobExamples }
+    ensures load_steps { LoadStepExamples }
+    ensures events { EventExamples }
+    ensures starts { StartExamples }
 {}
