@@ -16,3 +16,4 @@ mod Unpinning
 mod OnHandles
 mod OnStorage
 mod OnSteps
+mod OnWork

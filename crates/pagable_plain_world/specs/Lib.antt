@@ -9,3 +9,4 @@ pub mod StoreExamples
 pub mod LoadExamples
 pub mod SampleSeen
 pub mod StepExamples
+pub mod WorkExamples

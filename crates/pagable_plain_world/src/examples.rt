@@ -5,6 +5,7 @@ ghost use Rattle.pagable_plain_world.specs.HandleExamples.{BirthExamples, CloneE
 ghost use Rattle.pagable_plain_world.specs.StoreExamples.{CacheExamples, StorageExamples};
 ghost use Rattle.pagable_plain_world.specs.LoadExamples.{BeginExamples, ReadingExamples, EndExamples};
 ghost use Rattle.pagable_plain_world.specs.StepExamples.{BlobExamples, LoadStepExamples, EventExamples, StartExamples};
+ghost use Rattle.pagable_plain_world.specs.WorkExamples.{WorkerExamples, OrderExamples, BoundExamples};
 
 /// The calls on handles and nodes.
 pub fn calls_on_handles()
@@ -33,4 +34,11 @@ pub fn steps_and_events()
     ensures load_steps { LoadStepExamples }
     ensures events { EventExamples }
     ensures starts { StartExamples }
+{}
+
+/// What workers do and meet, in which order, and bounds.
+pub fn work()
+    ensures workers { WorkerExamples }
+    ensures orders { OrderExamples }
+    ensures bounds { BoundExamples }
 {}
