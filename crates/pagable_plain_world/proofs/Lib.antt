@@ -17,3 +17,4 @@ mod OnHandles
 mod OnStorage
 mod OnSteps
 mod OnWork
+mod OnRuns

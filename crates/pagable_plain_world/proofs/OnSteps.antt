@@ -103,7 +103,7 @@ falls-alone stored key =
       rest = refl;
     }
 
-answers-it : (stored : ℕ → Option Blob) (key : ℕ) → LoadStepped sample (reading stored key 1 bare) first_load (Ok (record { ended = Some (ends.Read 1); steps = 2 })) (dropped stored key)
+pub answers-it : (stored : ℕ → Option Blob) (key : ℕ) → LoadStepped sample (reading stored key 1 bare) first_load (Ok (record { ended = Some (ends.Read 1); steps = 2 })) (dropped stored key)
 unfolding root-read
 answers-it stored key =
     (

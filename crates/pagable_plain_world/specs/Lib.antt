@@ -10,3 +10,5 @@ pub mod LoadExamples
 pub mod SampleSeen
 pub mod StepExamples
 pub mod WorkExamples
+pub mod SampleRuns
+pub mod RunExamples

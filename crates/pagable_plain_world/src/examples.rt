@@ -6,6 +6,7 @@ ghost use Rattle.pagable_plain_world.specs.StoreExamples.{CacheExamples, Storage
 ghost use Rattle.pagable_plain_world.specs.LoadExamples.{BeginExamples, ReadingExamples, EndExamples};
 ghost use Rattle.pagable_plain_world.specs.StepExamples.{BlobExamples, LoadStepExamples, EventExamples, StartExamples};
 ghost use Rattle.pagable_plain_world.specs.WorkExamples.{WorkerExamples, OrderExamples, BoundExamples};
+ghost use Rattle.pagable_plain_world.specs.RunExamples.{WholeExamples, RunExamples, FactExamples, OverExamples};
 
 /// The calls on handles and nodes.
 pub fn calls_on_handles()
@@ -41,4 +42,12 @@ pub fn work()
     ensures workers { WorkerExamples }
     ensures orders { OrderExamples }
     ensures bounds { BoundExamples }
+{}
+
+/// Whole states, trees, runs and what holds along them.
+pub fn runs()
+    ensures wholes { WholeExamples }
+    ensures runs { RunExamples }
+    ensures facts { FactExamples }
+    ensures overs { OverExamples }
 {}
