@@ -13,3 +13,8 @@ mod Dropping
 mod Calls
 mod Looks
 mod Unpinning
+mod OnHandles
+mod OnStorage
+mod OnSteps
+mod OnWork
+mod OnRuns

@@ -4,3 +4,11 @@ pub mod RunLaws
 pub mod NearMisses
 pub mod Bridges
 pub mod KeepLaws
+pub mod HandleExamples
+pub mod StoreExamples
+pub mod LoadExamples
+pub mod SampleSeen
+pub mod StepExamples
+pub mod WorkExamples
+pub mod SampleRuns
+pub mod RunExamples

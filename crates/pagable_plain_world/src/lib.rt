@@ -3,6 +3,7 @@
 #![tactic(auto)]
 
 mod causes;
+pub mod examples;
 mod falling;
 pub mod laws;
 pub mod plain_pager;

@@ -1,0 +1,53 @@
+//! Of each relation of the pager's world an example that meets it and a near miss that doesn't: each is the contract of a
+//! function that does nothing.
+
+ghost use Rattle.pagable_plain_world.specs.HandleExamples.{BirthExamples, CloneExamples, PinExamples, GiveUpExamples, LoosenExamples, SetKeyExamples, LookExamples, ListExamples};
+ghost use Rattle.pagable_plain_world.specs.StoreExamples.{CacheExamples, StorageExamples};
+ghost use Rattle.pagable_plain_world.specs.LoadExamples.{BeginExamples, ReadingExamples, EndExamples};
+ghost use Rattle.pagable_plain_world.specs.StepExamples.{BlobExamples, LoadStepExamples, EventExamples, StartExamples};
+ghost use Rattle.pagable_plain_world.specs.WorkExamples.{WorkerExamples, OrderExamples, BoundExamples};
+ghost use Rattle.pagable_plain_world.specs.RunExamples.{WholeExamples, RunExamples, FactExamples, OverExamples};
+
+/// The calls on handles and nodes.
+pub fn calls_on_handles()
+    ensures births { BirthExamples }
+    ensures clones { CloneExamples }
+    ensures pins { PinExamples }
+    ensures give_ups { GiveUpExamples }
+    ensures loosens { LoosenExamples }
+    ensures set_keys { SetKeyExamples }
+    ensures looks { LookExamples }
+    ensures lists { ListExamples }
+{}
+
+/// The calls on cache, storage and loads.
+pub fn calls_on_storage_and_loads()
+    ensures cache { CacheExamples }
+    ensures storage { StorageExamples }
+    ensures begins { BeginExamples }
+    ensures readings { ReadingExamples }
+    ensures ends { EndExamples }
+{}
+
+/// Steps of loads, and events.
+pub fn steps_and_events()
+    ensures blobs { BlobExamples }
+    ensures load_steps { LoadStepExamples }
+    ensures events { EventExamples }
+    ensures starts { StartExamples }
+{}
+
+/// What workers do and meet, in which order, and bounds.
+pub fn work()
+    ensures workers { WorkerExamples }
+    ensures orders { OrderExamples }
+    ensures bounds { BoundExamples }
+{}
+
+/// Whole states, trees, runs and what holds along them.
+pub fn runs()
+    ensures wholes { WholeExamples }
+    ensures runs { RunExamples }
+    ensures facts { FactExamples }
+    ensures overs { OverExamples }
+{}
