@@ -1,6 +1,7 @@
 //! What can be written and read: the traits of values, and the carried types.
 #![tactic(auto)]
 
+pub mod again;
 pub mod eager;
 pub mod impls;
 pub mod in_node;
@@ -9,6 +10,7 @@ pub mod laws;
 pub mod one_form;
 pub mod traits;
 
+pub use again::read_twice;
 pub use eager::{EagerlyCarried, PagableEagerDeserialize, PagableEagerSerialize};
 pub use impls::slices::serialize_slice;
 pub use in_node::InNode;

@@ -1,10 +1,12 @@
 -- What the nodes of the runs mean, and how they are spelled.
-use Rattle.std.specs.Prelude.{ℕ, zero, suc, ◌≡◌, refl, Option, Some, None}
+use Rattle.std.specs.Prelude.{ℕ, zero, suc, ◌≡◌, refl, Option, Some, None, []}
 use Rattle.std.specs.Arc.{arc_value}
 use Rattle.std.specs.String.{string_bytes}
 use Rattle.pagable_model.specs.Meaning.{Meaning}
 use Rattle.pagable_model.specs.Meaning as meanings
+use Rattle.pagable_model.specs.References.{references_in, SameHandles}
 use Rattle.pagable_model.specs.Shape.{Shape, text}
+use Rattle.pagable_model.specs.Standing.{SomeMeaning}
 use Rattle.pagable_model.specs.declared.numbers.ArcRef.{ArcRef}
 use Rattle.pager_runs.specs.declared.nodes.RunNode.{RunNode}
 use Rattle.pager_runs.specs.declared.nodes.RunNode.TheVariants as nodes
@@ -27,3 +29,15 @@ text_of (nodes.Note t) = meanings.text (string_bytes (arc_value t))
 pub has_shape : (n : RunNode) → shape_of (type_of n) ≡ Some text
 has_shape (nodes.Name t) = refl
 has_shape (nodes.Note t) = refl
+
+pub has_meaning : (n : RunNode) → SomeMeaning (λ m. m ≡ text_of n)
+has_meaning n = (text_of n, refl)
+
+refers : (n : RunNode) → references_in (text_of n) ≡ []
+unfolding references_in
+refers (nodes.Name t) = refl
+refers (nodes.Note t) = refl
+
+-- a text refers to nothing
+pub refers_to_nothing : (n : RunNode) (m : Meaning ArcRef) → m ≡ text_of n → SameHandles [] (references_in m)
+refers_to_nothing n m is = rw (is, refers n) (λ q. refl)

@@ -58,8 +58,8 @@ impl NodeSet<RunEnv> for RunNode {
     ghost use Rattle.std.specs.Prelude.{◌≡◌, []};
     ghost use Rattle.pagable_model.specs.Gives.{memory};
     ghost use Rattle.pagable_model.specs.Shape.{text as text_shape};
-    ghost use Rattle.pagable_traits.specs.Causes.{memory_is_own_reading, memory_is_own_writing};
-    ghost use Rattle.pager_runs.specs.Nodes.{has_shape, shape_of, text_of, type_of};
+    ghost use Rattle.pagable_model.specs.Causes.{memory_is_own_reading, memory_is_own_writing};
+    ghost use Rattle.pager_runs.specs.Nodes.{has_meaning, has_shape, refers_to_nothing, shape_of, text_of, type_of};
 
     ghost type_of = { type_of };
 
@@ -78,6 +78,10 @@ impl NodeSet<RunEnv> for RunNode {
     ghost write_causes_are_own = { memory_is_own_writing };
 
     ghost read_causes_are_own = { memory_is_own_reading };
+
+    ghost has_meaning = { has_meaning };
+
+    ghost refers = { refers_to_nothing };
 
     ghost has_shape = { λ e n. has_shape n };
 

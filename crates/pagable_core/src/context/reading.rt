@@ -2,6 +2,7 @@
 
 ghost use Rattle.std.specs.Prelude.{◌≡◌};
 ghost use Rattle.pagable_core.specs.Context.{at_front};
+ghost use Rattle.pagable_core.specs.Fields.{references_of};
 
 use crate::context::keys::PagableKeys;
 use crate::context::references::References;
@@ -40,7 +41,9 @@ impl<'de, R> PagableDeserializerImpl<'de, PagableSlice<'de>, R> {
     }
 
     /// What answered for the references.
-    pub fn finish(self) -> R {
+    pub fn finish(self) -> R
+        ensures { result ≡ references_of self.entry }
+    {
         let PagableDeserializerImpl {
             reader: _,
             keys: _,
