@@ -1,7 +1,7 @@
 //! Numbers that look random and are the same at each run.
 
 /// A linear congruential generator of 64 bits, of whose state the high 31 bits are given.
-#[derive(Clone, Copy, Debug)]
+#[derive(Clone, Copy)]
 pub struct Dice {
     state: u64,
 }

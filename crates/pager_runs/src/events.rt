@@ -16,7 +16,7 @@ pub const LISTED_AGAIN: Name = ("event", "re-listing");
 pub const LOADED_AGAIN: Name = ("event", "load ended after an eviction");
 
 /// The cell that a call is about, before the call.
-#[derive(Clone, Copy, Debug)]
+#[derive(Clone, Copy)]
 pub struct Before {
     node: NodeNumber,
     is_away: bool,

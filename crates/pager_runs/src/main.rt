@@ -49,9 +49,9 @@ fn empty(
     length: u64,
     counts: &mut Counts,
 ) -> Result<Option<(u64, Difference)>, Error> {
-    for _ in 0..run.pending() {
+    for place in 0..run.pending() {
         if let Some(difference) = run.take_first(alloc, counts)? {
-            return Ok(Some((length, difference)));
+            return Ok(Some((length.saturating_add(place as u64), difference)));
         }
     }
     Ok(None)

@@ -8,7 +8,7 @@ use pagable::{DataKey, HandleNumber, LoadNumber, NodeNumber};
 use pagable_plain_world::PlainPager;
 
 /// What the next calls are drawn by.
-#[derive(Clone, Copy, Debug)]
+#[derive(Clone, Copy)]
 pub struct Plan {
     dice: Dice,
     stage: Stage,

@@ -4,7 +4,7 @@ use crate::calls::{Answer, Call};
 use pagable::{DataKey, HandleNumber, LoadNumber};
 
 /// Where the page-out or load stands.
-#[derive(Clone, Copy, Debug)]
+#[derive(Clone, Copy)]
 pub enum Stage {
     /// None is under way.
     Idle,

@@ -4,10 +4,10 @@ use crate::counts::{Counts, Name};
 use crate::events::{EVICTED, LISTED_AGAIN, LOADED_AGAIN};
 
 /// What has to happen a hundred times.
-const OFTEN: [Name; 3] = [EVICTED, LISTED_AGAIN, LOADED_AGAIN];
+static OFTEN: [Name; 3] = [EVICTED, LISTED_AGAIN, LOADED_AGAIN];
 
 /// What has to happen: each refusal of each call that can be reached.
-const ONCE: [Name; 26] = [
+static ONCE: [Name; 26] = [
     ("pin", "NoSuchHandle"),
     ("pin", "NotYours"),
     ("pin", "WrongMode"),
@@ -36,17 +36,17 @@ const ONCE: [Name; 26] = [
     ("load_drop", "NoSuchHandle"),
 ];
 
-/// What didn't happen often enough, if something didn't.
-pub fn first_missing(counts: &Counts) -> Option<Name> {
-    for name in OFTEN {
-        if counts.get(name) < 100 {
-            return Some(name);
-        }
-    }
-    for name in ONCE {
-        if counts.get(name) == 0 {
-            return Some(name);
+/// The first of these that happened less often than this.
+fn first_below(counts: &Counts, names: &[Name], least: u64) -> Option<Name> {
+    for name in names {
+        if counts.get(*name) < least {
+            return Some(*name);
         }
     }
     None
+}
+
+/// What didn't happen often enough, if something didn't.
+pub fn first_missing(counts: &Counts) -> Option<Name> {
+    first_below(counts, &OFTEN, 100).or(first_below(counts, &ONCE, 1))
 }
