@@ -18,3 +18,4 @@ mod OnStorage
 mod OnSteps
 mod OnWork
 mod OnRuns
+mod OnTurns

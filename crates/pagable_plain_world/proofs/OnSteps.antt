@@ -42,7 +42,7 @@ not-read : (key child : ℕ) (own : Meaning ArcRef) → ¬ IsRead sample_types (
 unfolding read read_with
 not-read key child own (rest, within, is) = absurd (cc)
 
-is-fault : (key : ℕ) → IsFault sample_types (root_frame key 0 bare) errors.NoMoreKeys
+pub is-fault : (key : ℕ) → IsFault sample_types (root_frame key 0 bare) errors.NoMoreKeys
 unfolding read read_with
 is-fault key [] none_left = refl
 is-fault key (a ∷ more) some = absurd (omega arith)

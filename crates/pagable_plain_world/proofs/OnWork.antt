@@ -38,7 +38,7 @@ not-push : {X : Type 0} (xs ys : List X) (x : X) → ¬ ([] ≡ xs ++ x ∷ ys)
 not-push [] ys x e = absurd (cc)
 not-push (z ∷ zs) ys x e = absurd (cc)
 
-worker-stores : WorkerStepped sample (working none_of (of_item nothing_written)) first_worker (Ok (record { took = took.Store None (Ok (digest sample bare)); answer = Some (finals.Key (digest sample bare)); steps = 1 })) (answered (digest sample bare))
+pub worker-stores : WorkerStepped sample (working none_of (of_item nothing_written)) first_worker (Ok (record { took = took.Store None (Ok (digest sample bare)); answer = Some (finals.Key (digest sample bare)); steps = 1 })) (answered (digest sample bare))
 worker-stores =
     (
       item_worker nothing_written,
@@ -200,7 +200,7 @@ unfolding read read_with
 reads-bare key [] none_got = (none, (record { bytes = []; refs = [] }, omega arith, refl))
 reads-bare key (r ∷ rs) some = absurd (omega arith)
 
-unfolds-bare : (key : ℕ) → Unfolds sample_types (all_of bare) 1 key 0 0
+pub unfolds-bare : (key : ℕ) → Unfolds sample_types (all_of bare) 1 key 0 0
 unfolds-bare key = unfolds 1 key 0 0 bare refl (ends-here 1 key 0 bare (reads-bare key))
 
 not-missing : (t key many longest : ℕ) → ¬ Unfolds sample_types none_of t key many longest

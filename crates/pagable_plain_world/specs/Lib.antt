@@ -12,3 +12,5 @@ pub mod StepExamples
 pub mod WorkExamples
 pub mod SampleRuns
 pub mod RunExamples
+pub mod SampleTurns
+pub mod TurnExamples

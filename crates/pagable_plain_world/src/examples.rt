@@ -7,6 +7,7 @@ ghost use Rattle.pagable_plain_world.specs.LoadExamples.{BeginExamples, ReadingE
 ghost use Rattle.pagable_plain_world.specs.StepExamples.{BlobExamples, LoadStepExamples, EventExamples, StartExamples};
 ghost use Rattle.pagable_plain_world.specs.WorkExamples.{WorkerExamples, OrderExamples, BoundExamples};
 ghost use Rattle.pagable_plain_world.specs.RunExamples.{WholeExamples, RunExamples, FactExamples, OverExamples};
+ghost use Rattle.pagable_plain_world.specs.TurnExamples.{KindExamples, TurnExamples, SaidExamples};
 
 /// The calls on handles and nodes.
 pub fn calls_on_handles()
@@ -50,4 +51,11 @@ pub fn runs()
     ensures runs { RunExamples }
     ensures facts { FactExamples }
     ensures overs { OverExamples }
+{}
+
+/// Single steps of workers and loads, and what is said of them.
+pub fn turns()
+    ensures kinds { KindExamples }
+    ensures turns { TurnExamples }
+    ensures said { SaidExamples }
 {}
