@@ -1,13 +1,12 @@
 -- A release as today's tables do it is a release of the whole world.
-use Rattle.std.proofs.Common.{◌≡◌, ℕ, suc, zero, ◌+◌, ◌<◌, ◌≤◌, ◌==◌, ◌&&◌, Bool, true, false, List, [], ◌∷◌, ◌++◌, length, map, sum_by, refl, ap, sym, ◌∙◌, subst, inl, inr, arith}
-use Rattle.std.specs.Prelude.{filter, not, nat_lt, ◌≢◌, ◌⊎◌, Result, Ok, Err, Some, slice_get, slice_set}
+use Rattle.std.proofs.Common.{◌≡◌, ℕ, ◌+◌, ◌<◌, ◌≤◌, ◌==◌, ◌&&◌, Bool, true, false, List, [], ◌∷◌, ◌++◌, length, map, sum_by, refl, ap, sym, ◌∙◌, subst, inl, inr, arith}
+use Rattle.std.specs.Prelude.{filter, not, nat_lt, ◌≢◌, ◌⊎◌, Result, Ok, Err, Some, slice_get}
 use Rattle.std.specs.List.{remove}
 use Rattle.std.proofs.lemmas.Bool.Decides.{nat_tests}
 use Rattle.std.proofs.lemmas.List.{append-nil}
 use Rattle.std.proofs.lemmas.List.Sums.{sum_by_push}
 use Rattle.pagable_model.specs.declared.error.Error.{Error}
 use Rattle.pagable_model.specs.declared.error.Error.TheVariants as errors
-use Rattle.pagable_model.specs.declared.data_key.OptionalDataKey.TheVariants as optional
 use Rattle.pagable_model.specs.declared.numbers.HandleNumber.{HandleNumber}
 use Rattle.pagable_world.specs.declared.rows.Mode.TheVariants as modes
 use Rattle.pagable_world.specs.declared.rows.Owner.TheVariants as owners
@@ -16,14 +15,14 @@ use Rattle.pagable_world.specs.declared.rows.LoadRow.{LoadRow}
 use Rattle.pagable_world.specs.State.{one, pins, held, pin_of, handle_of, is_number, is_entry, is_listed, is_pinning, is_shared, has_key}
 use Rattle.pagable_world.specs.Cells.{Cell, CellsFollow}
 use Rattle.pagable_world.specs.World.{World, greatest, enlisted, Leaves, NeedsListing, NeedsNoListing, Prepared, CannotMake}
-use Rattle.pagable_world.specs.Words.{Among, times}
+use Rattle.pagable_world.specs.Words.{Among}
 use Rattle.pagable_world.specs.Least.{keyed, keyed_at, sharing, share_of}
 use Rattle.pagable_world.specs.Whole.{Whole, is_cell, is_entry_of}
 use Rattle.pagable_world.specs.Falls.{MustList, Falls, IsListRefusal, left_rows, only_handle}
-use Rattle.pagable_world.specs.Handles.{row_of, ReleaseCall}
+use Rattle.pagable_world.specs.Handles.{row_of}
 use Rattle.pagable_world.specs.Causes.{RefusesHandle, AnyMode}
-use Rattle.pagable_world.specs.Refusals.{RefusesOwn, IsOwn}
-use Rattle.pagable_world.specs.Calls.{Released, ReleasedAt}
+use Rattle.pagable_world.specs.Refusals.{RefusesOwn}
+use Rattle.pagable_world.specs.Calls.{ReleasedAt}
 use Rattle.pagable_world.specs.declared.rows.Mode.{Mode}
 use Rattle.pagable_world.specs.Pages.{IsWhole}
 use Rattle.pagable_plain_world.specs.FallLaws.{OwnsNothing}

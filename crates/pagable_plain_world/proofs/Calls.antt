@@ -1,15 +1,15 @@
 -- Unpin, release and schedule keep the world whole.
-use Rattle.std.proofs.Common.{◌≡◌, ℕ, ◌+◌, ◌<◌, ◌≤◌, ◌==◌, ◌&&◌, ◌++◌, Bool, true, false, List, [], ◌∷◌, sum_by, refl, ap, sym, ◌∙◌, subst, inl, inr, arith}
-use Rattle.std.specs.Prelude.{◌⊎◌, Result, Ok, Err, slice_set}
+use Rattle.std.proofs.Common.{◌≡◌, ℕ, ◌+◌, ◌++◌, true, false, [], ◌∷◌, sum_by, refl, ap, sym, ◌∙◌, subst, inl, inr, arith}
+use Rattle.std.specs.Prelude.{Ok, Err, slice_set}
 use Rattle.std.proofs.lemmas.Bool.Decides.{nat_tests}
 use Rattle.std.proofs.lemmas.List.Sums.{sum_by_push}
 use Rattle.pagable_model.specs.declared.numbers.HandleNumber.{HandleNumber}
 use Rattle.pagable_world.specs.declared.rows.Mode.TheVariants as modes
 use Rattle.pagable_world.specs.declared.rows.Owner.TheVariants as owners
 use Rattle.pagable_world.specs.declared.rows.HandleRow.{HandleRow}
-use Rattle.pagable_world.specs.State.{one, held, handle_of, is_number, is_entry, is_listed, is_shared}
+use Rattle.pagable_world.specs.State.{one, handle_of, is_number, is_entry, is_listed, is_shared}
 use Rattle.pagable_world.specs.Words.{Among, times}
-use Rattle.pagable_world.specs.Least.{sharing, share_of}
+use Rattle.pagable_world.specs.Least.{share_of}
 use Rattle.pagable_world.specs.Whole.{Whole, is_owner, is_entry_of, HasRowOf}
 use Rattle.pagable_world.specs.Pages.{IsWhole}
 use Rattle.pagable_world.specs.Falls.{only_handle, nobody}
@@ -54,9 +54,9 @@ schedule-keeps w w' h (Ok u) whole (row, (at, mine, unpinned), inl (stands, same
     let changes = one-changed w h row (λ x. record x { owner = owners.List }) whole at in
     let entries : (q : ℕ) → times (is_entry_of q) (w.list ++ h ∷ []) + is_entry q row ≡ times (is_entry_of q) w.list + is_entry q new =
     λ q. let a = sum_by_push (λ x. one (is_entry_of q x)) w.list h in
-        let b : row.number.0 ≡ h.0 = ap (λ n. n.0) at.1 in
-        let c : is_listed row.owner ≡ false = ap is_listed mine in
-        grind (arith, nat_tests) in
+    let b : row.number.0 ≡ h.0 = ap (λ n. n.0) at.1 in
+    let c : is_listed row.owner ≡ false = ap is_listed mine in
+    grind (arith, nat_tests) in
     subst IsWhole (sym (same ∙ ap (λ rows. record w { rows = rows; list = w.list ++ h ∷ [] }) changes))
     (turned-whole w whole at.0.0 row new at.0.1 refl refl refl (w.list ++ h ∷ []) (caller-at-hand row.owner mine) (list-at-hand owners.List refl) entries (λ listed. unpinned))
 schedule-keeps w w' h (Ok u) whole (row, (at, mine, unpinned), inr (closed, (r, falls))) = falls-whole w w (only_handle h) r w' whole falls (λ n. refl) (λ n. refl) (only-uncached w h row whole at mine)

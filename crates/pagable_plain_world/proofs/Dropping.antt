@@ -1,23 +1,21 @@
 -- Where handles are given up, with all that falls with them, the world stays whole.
-use Rattle.std.proofs.Common.{◌≡◌, ℕ, suc, zero, ◌+◌, ◌<◌, ◌≤◌, ◌==◌, ◌&&◌, Bool, true, false, List, [], ◌∷◌, ◌++◌, length, map, sum_by, refl, ap, sym, ◌∙◌, subst, inl, inr, arith}
-use Rattle.std.specs.Prelude.{filter, ◌⊎◌, not, nat_lt, Some, Result, Ok, Err, slice_get}
-use Rattle.std.specs.List.{AllPairs}
+use Rattle.std.proofs.Common.{◌≡◌, ℕ, ◌+◌, ◌<◌, ◌≤◌, ◌==◌, ◌&&◌, Bool, true, false, List, ◌++◌, length, map, sum_by, refl, ap, sym, ◌∙◌, subst, inl, inr, arith}
+use Rattle.std.specs.Prelude.{filter, ◌⊎◌, not, nat_lt, Result}
 use Rattle.std.proofs.lemmas.Bool.Decides.{nat_tests}
 use Rattle.std.proofs.lemmas.List.Kept.{AllPairs-filter}
 use Rattle.std.proofs.lemmas.List.Sums.{sum_by-append}
 use Rattle.pagable_model.specs.declared.error.Error.{Error}
 use Rattle.pagable_model.specs.declared.numbers.HandleNumber.{HandleNumber}
 use Rattle.pagable_model.specs.Trees.{type_of}
-use Rattle.pagable_world.specs.declared.rows.Mode.{Mode}
 use Rattle.pagable_world.specs.declared.rows.Mode.TheVariants as modes
 use Rattle.pagable_world.specs.declared.rows.Owner.{Owner}
 use Rattle.pagable_world.specs.declared.rows.Owner.TheVariants as owners
 use Rattle.pagable_world.specs.declared.rows.HandleRow.{HandleRow}
 use Rattle.pagable_world.specs.declared.cached.CacheRow.{CacheRow}
-use Rattle.pagable_world.specs.State.{one, held, pins, pin_of, handle_of, is_number, is_entry, is_listed, is_shared, IsHandleBefore}
+use Rattle.pagable_world.specs.State.{one, held, pin_of, handle_of, is_number, is_entry, is_shared, IsHandleBefore}
 use Rattle.pagable_world.specs.Cells.{Cell}
 use Rattle.pagable_world.specs.Words.{Among, times}
-use Rattle.pagable_world.specs.Least.{is_of_value, owned_outside, only_in, loses_value, IsClosed, IsWithin, sharing, share_of, keyed, keyed_at}
+use Rattle.pagable_world.specs.Least.{is_of_value, owned_outside, only_in, IsClosed, IsWithin, sharing, share_of, keyed_at}
 use Rattle.pagable_world.specs.Whole.{Whole, is_owner, is_cell, is_entry_of, HasRowOf, HasType}
 use Rattle.pagable_world.specs.Kinds.{FitsMode}
 use Rattle.pagable_world.specs.Pages.{IsWhole, HandlesAreWhole, OwnersAreThere, WorkIsWhole, IsCellBefore}

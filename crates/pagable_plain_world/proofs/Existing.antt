@@ -1,14 +1,14 @@
 -- The least set of handles that fall.
-use Rattle.std.proofs.Common.{◌≡◌, ℕ, suc, zero, ◌+◌, ◌<◌, ◌≤◌, ◌==◌, ◌&&◌, ◌||◌, Bool, true, false, List, [], ◌∷◌, sum_by, refl, ap, sym, ◌∙◌, inl, inr, arith}
-use Rattle.std.specs.Prelude.{not, nat_lt, nat_eq, ◌⊎◌}
+use Rattle.std.proofs.Common.{◌≡◌, ℕ, suc, zero, ◌+◌, ◌<◌, ◌≤◌, ◌==◌, ◌&&◌, ◌||◌, Bool, true, false, List, sum_by, refl, ap, sym, ◌∙◌, arith}
+use Rattle.std.specs.Prelude.{nat_lt}
 use Rattle.std.proofs.lemmas.Bool.Decides.{nat_tests}
 use Rattle.pagable_world.specs.declared.rows.Owner.{Owner}
 use Rattle.pagable_world.specs.declared.rows.Owner.TheVariants as owners
 use Rattle.pagable_world.specs.declared.rows.HandleRow.{HandleRow}
-use Rattle.pagable_world.specs.State.{one, held, is_pinning}
+use Rattle.pagable_world.specs.State.{one}
 use Rattle.pagable_world.specs.Cells.{Cell}
 use Rattle.pagable_world.specs.Words.{Among}
-use Rattle.pagable_world.specs.Least.{is_of_value, outside, held_outside, pin_outside, owned_outside, keyed, loses_pins, loses_handles, loses_value, IsClosed, only_in, IsWithin, IsLeast}
+use Rattle.pagable_world.specs.Least.{is_of_value, outside, held_outside, pin_outside, owned_outside, loses_value, IsClosed, only_in, IsWithin, IsLeast}
 use Rattle.pagable_plain_world.proofs.Sums.{sum-le, at-most-sum, sum-plus, sum-zero, counted}
 
 -- whether the owner is a value that goes

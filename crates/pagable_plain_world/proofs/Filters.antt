@@ -1,6 +1,6 @@
 -- What is left of a list, and new entries of the list.
 use Rattle.std.proofs.Common.{◌≡◌, ℕ, suc, zero, ◌+◌, ◌<◌, ◌≤◌, ◌==◌, Bool, true, false, cond, List, [], ◌∷◌, ◌++◌, length, map, get_or, sum_by, refl, ap, sym, ◌∙◌, subst, inl, inr, arith}
-use Rattle.std.specs.Prelude.{filter, ◌⊎◌, Some, slice_get}
+use Rattle.std.specs.Prelude.{filter, ◌⊎◌}
 use Rattle.std.specs.List.{AllPairs}
 use Rattle.std.proofs.lemmas.Bool.Decides.{nat_tests}
 use Rattle.std.proofs.lemmas.List.{append-nil, append_assoc}
@@ -14,7 +14,7 @@ use Rattle.pagable_world.specs.State.{one, is_number, is_entry, is_listed, IsHan
 use Rattle.pagable_world.specs.Words.{Among, times}
 use Rattle.pagable_world.specs.Whole.{is_entry_of}
 use Rattle.pagable_world.specs.Falls.{AreNewEntries}
-use Rattle.pagable_plain_world.proofs.Sums.{sum-le, at-most-sum, sum-zero}
+use Rattle.pagable_plain_world.proofs.Sums.{sum-zero}
 use Rattle.pagable_plain_world.proofs.Keeping.{among-get, pushed}
 
 -- what is left stood there, and passes

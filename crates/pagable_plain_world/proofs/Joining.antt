@@ -1,13 +1,9 @@
 -- Runs join, and a new pager is whole.
-use Rattle.std.proofs.Common.{◌≡◌, ℕ, ◌≤◌, ◌<◌, List, [], ◌∷◌, ◌++◌, refl, ap, sym, subst, inl, arith}
+use Rattle.std.proofs.Common.{ℕ, [], ◌∷◌, refl, subst, inl, arith}
 use Rattle.std.specs.Prelude.{Option}
 use Rattle.pagable_model.specs.Blob.{Blob}
-use Rattle.pagable_world.specs.declared.events.Event.{Event}
-use Rattle.pagable_world.specs.declared.events.EventReply.{EventReply}
-use Rattle.pagable_world.specs.Whole.{Whole}
 use Rattle.pagable_world.specs.Seen.{Seen}
 use Rattle.pagable_world.specs.Pages.{WellFormed}
-use Rattle.pagable_world.specs.Stands.{TreeWorld, Represents}
 use Rattle.pagable_world.specs.Events.{Run, IsNew}
 use Rattle.pagable_plain_world.specs.Samples.{empty, new_pages}
 use Rattle.pagable_plain_world.specs.RunLaws.{RunsJoin, NewIsWhole}

@@ -1,12 +1,11 @@
 -- One more handle of a node that is there keeps the world whole; and so does a call that is refused.
-use Rattle.std.proofs.Common.{◌≡◌, ℕ, suc, zero, ◌+◌, ◌<◌, ◌≤◌, ◌==◌, ◌&&◌, Bool, true, false, List, [], ◌∷◌, ◌++◌, length, get_or, sum_by, refl, ap, sym, ◌∙◌, subst, inl, inr, arith}
-use Rattle.std.specs.Prelude.{◌⊎◌, not, nat_lt, Option, Some, Ok, Err, slice_get}
+use Rattle.std.proofs.Common.{◌≡◌, ℕ, suc, zero, ◌+◌, ◌<◌, ◌≤◌, ◌==◌, ◌&&◌, Bool, true, false, List, [], ◌∷◌, ◌++◌, length, get_or, sum_by, refl, ap, sym, subst, inl, inr, arith}
+use Rattle.std.specs.Prelude.{◌⊎◌, nat_lt, Option, Some, Ok, Err, slice_get}
 use Rattle.std.specs.List.{AllPairs}
 use Rattle.std.proofs.lemmas.Bool.Decides.{nat_tests}
 use Rattle.std.proofs.lemmas.List.Sums.{sum_by_push}
 use Rattle.std.proofs.lemmas.List.Quantifiers.{all_pairs_push}
 use Rattle.pagable_model.specs.Blob.{Blob}
-use Rattle.pagable_model.specs.declared.numbers.HandleNumber.{HandleNumber}
 use Rattle.pagable_world.specs.declared.rows.Mode.{Mode}
 use Rattle.pagable_world.specs.declared.rows.Mode.TheVariants as modes
 use Rattle.pagable_world.specs.declared.rows.Owner.TheVariants as owners
@@ -14,7 +13,7 @@ use Rattle.pagable_world.specs.declared.rows.HandleRow.{HandleRow}
 use Rattle.pagable_world.specs.declared.cached.CacheRow.{CacheRow}
 use Rattle.pagable_world.specs.State.{one, held, handle_of, is_number, is_entry, is_listed, is_shared, IsHandleBefore}
 use Rattle.pagable_world.specs.World.{greatest}
-use Rattle.pagable_world.specs.Words.{Among, times}
+use Rattle.pagable_world.specs.Words.{Among}
 use Rattle.pagable_world.specs.Least.{sharing, share_of}
 use Rattle.pagable_world.specs.Whole.{Whole, is_owner, HasRowOf, HasType, Stays}
 use Rattle.pagable_world.specs.Kinds.{FitsMode}

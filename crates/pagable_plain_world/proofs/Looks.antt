@@ -1,5 +1,5 @@
 -- Look-ups change nothing; what the cache and the storage do by themselves keeps the world whole.
-use Rattle.std.proofs.Common.{◌≡◌, ℕ, refl, sym, subst}
+use Rattle.std.proofs.Common.{ℕ, refl, sym, subst}
 use Rattle.std.specs.Prelude.{Bool, Result, Ok, Err, Option, Some, None}
 use Rattle.pagable_model.specs.declared.error.Error.{Error}
 use Rattle.pagable_model.specs.declared.data_key.OptionalDataKey.{OptionalDataKey}

@@ -1,29 +1,26 @@
 -- Of each call on handles a step and a near miss.
-use Rattle.std.proofs.Common.{◌≡◌, ℕ, suc, zero, ◌+◌, ◌<◌, ◌≤◌, ◌==◌, ◌&&◌, ◌||◌, Bool, true, false, List, [], ◌∷◌, ◌++◌, length, sum_by, refl, ap, sym, ◌∙◌, subst, inl, inr, arith}
-use Rattle.std.specs.Prelude.{filter, not, nat_lt, Option, Some, None, Result, Ok, Err, slice_get}
+use Rattle.std.proofs.Common.{◌≡◌, ℕ, suc, zero, ◌+◌, ◌==◌, ◌||◌, Bool, true, false, [], ◌∷◌, ◌++◌, sum_by, refl, ap, sym, ◌∙◌, subst, inl, inr, arith}
+use Rattle.std.specs.Prelude.{filter, not, nat_lt, Option, Ok, Err}
 use Rattle.std.proofs.lemmas.Bool.Decides.{nat_tests}
 use Rattle.std.proofs.lemmas.List.Sums.{sum_by-append}
-use Rattle.pagable_model.specs.declared.error.Error.{Error}
 use Rattle.pagable_model.specs.declared.error.Error.TheVariants as errors
 use Rattle.pagable_model.specs.declared.data_key.OptionalDataKey.TheVariants as optional
 use Rattle.pagable_model.specs.Blob.{Blob}
 use Rattle.pagable_world.specs.declared.rows.Mode.TheVariants as modes
 use Rattle.pagable_world.specs.declared.rows.Owner.TheVariants as owners
 use Rattle.pagable_world.specs.declared.rows.HandleRow.{HandleRow}
-use Rattle.pagable_world.specs.declared.answers.Pinning.TheVariants as pinnings
 use Rattle.pagable_world.specs.State.{one, pins, held, is_loose, has_key, is_number}
 use Rattle.pagable_world.specs.Cells.{Cell}
 use Rattle.pagable_world.specs.Words.{Among, times}
 use Rattle.pagable_world.specs.Least.{owned_outside, loses_pins, loses_handles, loses_value}
-use Rattle.pagable_world.specs.Whole.{Whole, is_handle}
+use Rattle.pagable_world.specs.Whole.{Whole}
 use Rattle.pagable_world.specs.Causes.{RefusesHandle, LooseMode}
-use Rattle.pagable_world.specs.Falls.{MustList, Falls, nobody, left_rows, only_handle}
-use Rattle.pagable_world.specs.Handles.{row_of, with_key, with_mode, BirthCall, AwayBirthCall, CloneCall, PinCall, UnpinCall, ReleaseCall, LoosenCall, SetKeyCall, KeyCall, AwayCall, ScheduleCall, IsInMemory}
-use Rattle.pagable_plain_world.specs.Samples.{empty, lone, lone_listed, two_levels, two_rows, two_cells, first, second, first_node, away, cloned, pinned, loosened, keyed, scheduled, taken, inner_left}
+use Rattle.pagable_world.specs.Falls.{Falls, nobody, left_rows, only_handle}
+use Rattle.pagable_world.specs.Handles.{row_of, with_key, AwayBirthCall, CloneCall, UnpinCall, ReleaseCall, LoosenCall, SetKeyCall, KeyCall, ScheduleCall, IsInMemory}
+use Rattle.pagable_plain_world.specs.Samples.{empty, lone, two_levels, two_rows, two_cells, first, second, first_node, away, pinned, keyed, inner_left}
 use Rattle.pagable_plain_world.specs.FallLaws.{OwnsNothing}
 use Rattle.pagable_plain_world.specs.HandleExamples.{BirthExamples, CloneExamples, PinExamples, GiveUpExamples, LoosenExamples, SetKeyExamples, LookExamples, ListExamples}
 use Rattle.pagable_plain_world.proofs.Alone.{given-least}
-use Rattle.pagable_plain_world.proofs.Sums.{at-most-sum}
 use Rattle.pagable_plain_world.proofs.Filters.{among-filter, sum-filter-none, entries-low}
 
 -- what stands in a list of one is that one

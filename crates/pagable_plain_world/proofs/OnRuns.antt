@@ -1,15 +1,13 @@
 -- Of whole states, trees, runs and what holds along them, examples and near misses.
-use Rattle.std.proofs.Common.{◌≡◌, ℕ, suc, zero, ◌+◌, ◌<◌, ◌≤◌, ◌==◌, ◌&&◌, Bool, true, false, List, [], ◌∷◌, ◌++◌, length, sum_by, refl, ap, sym, ◌∙◌, subst, inl, inr, arith}
-use Rattle.std.specs.Prelude.{◌≢◌, ◌⊎◌, Option, Some, None, Result, Ok, Err, slice_get}
+use Rattle.std.proofs.Common.{◌≡◌, ℕ, suc, zero, ◌<◌, ◌≤◌, ◌==◌, Bool, true, false, List, [], ◌∷◌, refl, ap, sym, ◌∙◌, subst, inl, arith}
+use Rattle.std.specs.Prelude.{◌≢◌, Option, Some, Result, Ok, slice_get}
 use Rattle.std.proofs.lemmas.Bool.Decides.{nat_tests}
-use Rattle.pagable_model.specs.declared.error.Error.{Error}
 use Rattle.pagable_model.specs.declared.data_key.OptionalDataKey.TheVariants as optional
-use Rattle.pagable_model.specs.declared.numbers.ArcRef.{ArcRef}
 use Rattle.pagable_model.specs.declared.numbers.HandleNumber.{HandleNumber}
 use Rattle.pagable_model.specs.declared.numbers.NodeNumber.{NodeNumber}
 use Rattle.pagable_model.specs.Blob.{Blob}
-use Rattle.pagable_model.specs.Meaning.{Meaning, number, none}
-use Rattle.pagable_model.specs.Trees.{Tree, tree, ReadsTree}
+use Rattle.pagable_model.specs.Meaning.{number, none}
+use Rattle.pagable_model.specs.Trees.{Tree, tree}
 use Rattle.pagable_world.specs.declared.rows.Mode.TheVariants as modes
 use Rattle.pagable_world.specs.declared.rows.Owner.TheVariants as owners
 use Rattle.pagable_world.specs.declared.rows.HandleRow.{HandleRow}
@@ -17,22 +15,20 @@ use Rattle.pagable_world.specs.declared.events.LoadAnswer.{LoadAnswer}
 use Rattle.pagable_world.specs.declared.events.LoadAnswer.TheVariants as ends
 use Rattle.pagable_world.specs.declared.events.WorkerAnswer.{WorkerAnswer}
 use Rattle.pagable_world.specs.State.{one, held, pins, has_key, is_listed}
-use Rattle.pagable_world.specs.Cells.{Cell}
-use Rattle.pagable_world.specs.Words.{Among, times}
-use Rattle.pagable_world.specs.Whole.{Whole, KeyIs, HasType, is_owner}
+use Rattle.pagable_world.specs.Words.{Among}
+use Rattle.pagable_world.specs.Whole.{Whole, KeyIs, HasType}
 use Rattle.pagable_world.specs.Seen.{IsLawful, IsSettled, SameHandles, references_in, digest}
-use Rattle.pagable_world.specs.Pages.{Pages, WellFormed, HasValue, HasNoValue, IsWhole}
-use Rattle.pagable_world.specs.Stands.{NodeStands, here, away, MeaningStands, none-stands, ValueStands, Represents, KeepsTrees, KeyFits, TreeWorld}
-use Rattle.pagable_world.specs.Runs.{AreSteps, TreeStep}
-use Rattle.pagable_world.specs.Interleaved.{CountIsPins, GivesTree, ClaimsAreDistinct, IsInterleaved}
-use Rattle.pagable_world.specs.Headline.{Headline, HasTrees}
-use Rattle.pagable_world.specs.Alone.{StandTogether, IsFilledByReading, of_load}
-use Rattle.pagable_world.specs.Over.{LoadRun, load-ends, load-goes-on, SameParts, PinsOver, ListRun, no-more, skips, pages, fails}
+use Rattle.pagable_world.specs.Pages.{WellFormed, HasValue, IsWhole}
+use Rattle.pagable_world.specs.Stands.{NodeStands, here, away, none-stands, ValueStands, Represents, TreeWorld}
+use Rattle.pagable_world.specs.Interleaved.{GivesTree, ClaimsAreDistinct, IsInterleaved}
+use Rattle.pagable_world.specs.Headline.{Headline}
+use Rattle.pagable_world.specs.Alone.{StandTogether, IsFilledByReading}
+use Rattle.pagable_world.specs.Over.{LoadRun, load-ends, load-goes-on, PinsOver, ListRun, no-more, skips, pages, fails}
 use Rattle.pagable_world.specs.Results.{ResultsStand, no-results, IsOverResults}
 use Rattle.pagable_world.specs.Handles.{row_of}
-use Rattle.pagable_plain_world.specs.Samples.{empty, new_pages, lone, first, second, first_node, first_load, pinned, pinned_kind, cached, dropped}
-use Rattle.pagable_plain_world.specs.SampleSeen.{sample, bare, reading, tabled, first_worker, first_table, first_identity}
-use Rattle.pagable_plain_world.specs.SampleRuns.{unsettled, meaningless, lone_pages, valueless, pinned_pages, empty_trees, lone_trees, birth, birth_to, load_moment, call_moment, claim_event, claim_reply, one_working, twice_cached}
+use Rattle.pagable_plain_world.specs.Samples.{empty, new_pages, lone, first, first_node, first_load, pinned, pinned_kind, cached, dropped}
+use Rattle.pagable_plain_world.specs.SampleSeen.{sample, bare, reading, first_table, first_identity}
+use Rattle.pagable_plain_world.specs.SampleRuns.{unsettled, lone_pages, lone_trees, load_moment, call_moment, claim_event, claim_reply, one_working, twice_cached}
 use Rattle.pagable_plain_world.specs.RunExamples.{WholeExamples, RunExamples, FactExamples, OverExamples}
 use Rattle.pagable_plain_world.proofs.Joining.{new-is-whole}
 use Rattle.pagable_plain_world.proofs.OnHandles.{the-one, pin-examples}

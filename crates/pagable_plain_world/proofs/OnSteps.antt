@@ -1,6 +1,6 @@
 -- Of a load's steps and of events some that may be, and near misses.
-use Rattle.std.proofs.Common.{◌≡◌, ℕ, suc, zero, ◌+◌, ◌<◌, ◌≤◌, ◌==◌, Bool, true, false, List, [], ◌∷◌, ◌++◌, length, refl, ap, sym, ◌∙◌, subst, inl, inr, arith}
-use Rattle.std.specs.Prelude.{Option, Some, None, Result, Ok, Err, slice_get}
+use Rattle.std.proofs.Common.{◌≡◌, ℕ, Bool, true, false, [], ◌∷◌, refl, ap, inl, arith}
+use Rattle.std.specs.Prelude.{Option, Some, None, Ok}
 use Rattle.std.proofs.lemmas.Bool.Decides.{nat_tests}
 use Rattle.pagable_model.specs.declared.error.Error.{Error}
 use Rattle.pagable_model.specs.declared.error.Error.TheVariants as errors
@@ -10,7 +10,6 @@ use Rattle.pagable_model.specs.declared.numbers.HandleNumber.{HandleNumber}
 use Rattle.pagable_model.specs.Blob.{Blob}
 use Rattle.pagable_model.specs.Meaning.{Meaning, none}
 use Rattle.pagable_model.specs.Reading.{read, read_with}
-use Rattle.pagable_model.specs.Standing.{Answer}
 use Rattle.pagable_world.specs.declared.rows.Mode.TheVariants as modes
 use Rattle.pagable_world.specs.declared.rows.Owner.TheVariants as owners
 use Rattle.pagable_world.specs.declared.events.LoadAnswer.TheVariants as ends
@@ -19,9 +18,8 @@ use Rattle.pagable_world.specs.Seen.{references_in}
 use Rattle.pagable_world.specs.Falls.{Falls, nobody}
 use Rattle.pagable_world.specs.Handles.{row_of}
 use Rattle.pagable_world.specs.LoadSteps.{Wants, IsRead, IsFault, root_frame, RootIsRead, LoadStepped}
-use Rattle.pagable_world.specs.Events.{IsNew}
-use Rattle.pagable_plain_world.specs.Samples.{empty, lone, first, second, first_node, first_load, pinned_kind, all_of, key_begun, dropped}
-use Rattle.pagable_plain_world.specs.SampleSeen.{sample, sample_types, bare, referring, child_kind, reading, first_table, first_worker, first_identity, nothing_written, tabled, working, listed_tabled, listed_working}
+use Rattle.pagable_plain_world.specs.Samples.{lone, second, first_node, first_load, pinned_kind, all_of, key_begun, dropped}
+use Rattle.pagable_plain_world.specs.SampleSeen.{sample, sample_types, bare, referring, child_kind, reading}
 use Rattle.pagable_plain_world.specs.StepExamples.{BlobExamples, LoadStepExamples, EventExamples, StartExamples}
 use Rattle.pagable_plain_world.proofs.Alone.{given-least}
 use Rattle.pagable_plain_world.proofs.OnHandles.{the-one}
@@ -61,25 +59,24 @@ abbrev key_load : ℕ → OpenLoad
 key_load key = record { number = first_load; owner = owners.Caller; key = key; root = of_type 0; frames = []; steps = 0 }
 
 gets : (blob : Blob) (key : ℕ) → LoadStepped sample (key_begun (all_of blob) key) first_load (Ok (record { ended = None; steps = 1 })) (reading (all_of blob) key 0 blob)
-gets blob key =
-    (
-      key_load key,
-      0,
-      record (key_begun (all_of blob) key) { loads = record (key_load key) { frames = root_frame key 0 blob ∷ [] } ∷ [] },
-      (((0, refl), refl), refl),
-      refl,
-      refl,
-      inl (record {
-        first = refl;
-        t = 0;
-        typed = refl;
-        blob = blob;
-        mid = key_begun (all_of blob) key;
-        asked = (key_load key, (((0, refl), refl), refl), (record { rest = refl; fails = omega arith; grows = omega arith }, refl));
-        goes = refl;
-      }),
-      refl,
-    )
+gets blob key = (
+  key_load key,
+  0,
+  record (key_begun (all_of blob) key) { loads = record (key_load key) { frames = root_frame key 0 blob ∷ [] } ∷ [] },
+  (((0, refl), refl), refl),
+  refl,
+  refl,
+  inl (record {
+    first = refl;
+    t = 0;
+    typed = refl;
+    blob = blob;
+    mid = key_begun (all_of blob) key;
+    asked = (key_load key, (((0, refl), refl), refl), (record { rest = refl; fails = omega arith; grows = omega arith }, refl));
+    goes = refl;
+  }),
+  refl,
+)
 
 not-uncounted : (stored : ℕ → Option Blob) (key : ℕ) (w' : Whole) → ¬ LoadStepped sample (key_begun stored key) first_load (Ok (record { ended = None; steps = 0 })) w'
 not-uncounted stored key w' (load, t, mid, own, typed, counted, does, same) = omega arith
@@ -105,17 +102,16 @@ falls-alone stored key =
 
 pub answers-it : (stored : ℕ → Option Blob) (key : ℕ) → LoadStepped sample (reading stored key 1 bare) first_load (Ok (record { ended = Some (ends.Read 1); steps = 2 })) (dropped stored key)
 unfolding root-read
-answers-it stored key =
-    (
-      load_at key 1 bare,
-      1,
-      dropped stored key,
-      (((0, refl), refl), refl),
-      refl,
-      refl,
-      (root-read key, refl, refl, (load_at key 1 bare, (((0, refl), refl), refl), tt, tt, (Ok tt, falls-alone stored key))),
-      refl,
-    )
+answers-it stored key = (
+  load_at key 1 bare,
+  1,
+  dropped stored key,
+  (((0, refl), refl), refl),
+  refl,
+  refl,
+  (root-read key, refl, refl, (load_at key 1 bare, (((0, refl), refl), refl), tt, tt, (Ok tt, falls-alone stored key))),
+  refl,
+)
 
 -- whether a load is of a cell
 abbrev of_a_cell : Root → Bool

@@ -1,24 +1,21 @@
 -- Of each call on cache, storage and loads a step and a near miss.
-use Rattle.std.proofs.Common.{◌≡◌, ℕ, suc, zero, ◌+◌, ◌<◌, ◌≤◌, ◌==◌, ◌&&◌, Bool, true, false, List, [], ◌∷◌, ◌++◌, length, sum_by, refl, ap, sym, ◌∙◌, subst, inl, inr, arith}
-use Rattle.std.specs.Prelude.{not, if◌then◌else◌, Option, Some, None, Result, Ok, Err, slice_get}
+use Rattle.std.proofs.Common.{◌≡◌, ℕ, ◌==◌, ◌&&◌, Bool, true, false, [], refl, ap, sym, ◌∙◌, subst, inl, inr, arith}
+use Rattle.std.specs.Prelude.{not, if◌then◌else◌, Option, Some, None, Ok, Err}
 use Rattle.std.proofs.lemmas.Bool.Decides.{nat_tests}
 use Rattle.pagable_model.specs.declared.error.Error.TheVariants as errors
 use Rattle.pagable_model.specs.declared.data_key.OptionalDataKey.TheVariants as optional
 use Rattle.pagable_model.specs.declared.numbers.HandleNumber.{HandleNumber}
-use Rattle.pagable_model.specs.declared.numbers.NodeNumber.{NodeNumber}
 use Rattle.pagable_model.specs.Blob.{Blob}
 use Rattle.pagable_world.specs.declared.rows.Mode.TheVariants as modes
 use Rattle.pagable_world.specs.declared.rows.Owner.TheVariants as owners
-use Rattle.pagable_world.specs.declared.answers.Beginning.TheVariants as beginnings
 use Rattle.pagable_world.specs.declared.calls.Want.TheVariants as wants
-use Rattle.pagable_world.specs.State.{one, pins}
 use Rattle.pagable_world.specs.Kinds.{FitsMode}
 use Rattle.pagable_world.specs.Whole.{Whole, Root, OpenLoad, of_cell, of_type}
 use Rattle.pagable_world.specs.Falls.{MustList, Falls, nobody}
 use Rattle.pagable_world.specs.Handles.{row_of, is_named_by}
-use Rattle.pagable_world.specs.Storing.{RecallCall, OfferCall, ClearCall, FetchCall, StoreCall, FlushCall, CloseCall, is_in_cache}
-use Rattle.pagable_world.specs.Loads.{BeginCall, BeginKeyCall, from_cache, from_store, AskCall, AdoptCall, EndCall, HandOverCall, DropCall, IsKeyRoot, is_owned_in}
-use Rattle.pagable_plain_world.specs.Samples.{empty, lone, away, first, second, first_node, first_load, pinned, pinned_kind, cached, recalled, cleared, offered, all_of, none_of, only_of, begun, key_begun, ended, adopted_one, dropped}
+use Rattle.pagable_world.specs.Storing.{OfferCall, ClearCall, FlushCall, CloseCall, is_in_cache}
+use Rattle.pagable_world.specs.Loads.{from_store, AskCall, AdoptCall, EndCall, HandOverCall, DropCall, IsKeyRoot, is_owned_in}
+use Rattle.pagable_plain_world.specs.Samples.{empty, lone, first, second, first_node, first_load, pinned_kind, cached, cleared, none_of, begun, key_begun, ended, adopted_one, dropped}
 use Rattle.pagable_plain_world.specs.FallLaws.{OwnsNothing}
 use Rattle.pagable_plain_world.specs.StoreExamples.{CacheExamples, StorageExamples}
 use Rattle.pagable_plain_world.specs.LoadExamples.{BeginExamples, ReadingExamples, EndExamples}
@@ -73,23 +70,25 @@ stored-there true blob is e = absurd (cc)
 stored-there false blob is e = absurd (grind (arith, nat_tests))
 
 close : (stored : ℕ → Option Blob) → CloseCall (empty stored) (Ok tt) (record (empty none_of) { closed = true })
-close stored =
-    (
-      none_of,
-      (λ key. refl),
-      (Ok tt, record {
-        gone = nobody;
-        entries = [];
-        set = given-least [] [] [] nobody (λ n. refl);
-        new = tt;
-        only = λ n some. absurd (omega arith);
-        each = λ n must. let a = must.pinned in absurd (omega arith);
-        tells = λ n must. let a = must.pinned in absurd (omega arith);
-        within = omega arith;
-        grows = omega arith;
-        rest = refl;
-      }),
-    )
+close stored = (
+  none_of,
+  (λ key. refl),
+  (
+    Ok tt,
+    record {
+      gone = nobody;
+      entries = [];
+      set = given-least [] [] [] nobody (λ n. refl);
+      new = tt;
+      only = λ n some. absurd (omega arith);
+      each = λ n must. let a = must.pinned in absurd (omega arith);
+      tells = λ n must. let a = must.pinned in absurd (omega arith);
+      within = omega arith;
+      grows = omega arith;
+      rest = refl;
+    },
+  ),
+)
 
 not-open : (stored : ℕ → Option Blob) → ¬ CloseCall (empty stored) (Ok tt) (empty stored)
 not-open stored (gone, none, (r, falls)) = let e : false ≡ true = ap (λ w. w.closed) falls.rest in absurd (cc)
@@ -154,33 +153,35 @@ begun-must stored key n w w' same must = let a = must.pinned in absurd (grind (a
 
 end-one : (stored : ℕ → Option Blob) (key x : ℕ) → EndCall (begun stored key) owners.Caller first_load x 0 [] (Ok (record { 0 = 3 })) (ended stored key)
 unfolding is_named_by
-end-one stored key x =
-    (
-      first_node,
-      first,
-      record { load = cell_load key; open_load = (((0, refl), refl), refl); of_node = (second, refl); good = tt },
-      record {
-        row = row_of 1 first_node modes.LooseUnpinned owners.Caller;
-        owned = (((0, refl), refl), refl, refl);
-        at = refl;
-        next = (refl, omega arith);
-        falls = inl (
-          (key, (refl, (record { number = 1; node_type = 0; key = optional.Some key }, ((0, refl), refl), refl))),
-          (Ok tt, record {
-            gone = load_handles stored key;
-            entries = [];
-            set = given-least _ _ [] (load_handles stored key) (λ n. refl);
-            new = tt;
-            only = λ n some. absurd (omega arith);
-            each = λ n must. absurd (begun-must stored key n _ _ refl must);
-            tells = λ n must. absurd (begun-must stored key n _ _ refl must);
-            within = omega arith;
-            grows = omega arith;
-            rest = refl;
-          }),
-        );
-      },
-    )
+end-one stored key x = (
+  first_node,
+  first,
+  record { load = cell_load key; open_load = (((0, refl), refl), refl); of_node = (second, refl); good = tt },
+  record {
+    row = row_of 1 first_node modes.LooseUnpinned owners.Caller;
+    owned = (((0, refl), refl), refl, refl);
+    at = refl;
+    next = (refl, omega arith);
+    falls = inl (
+      (key, (refl, (record { number = 1; node_type = 0; key = optional.Some key }, ((0, refl), refl), refl))),
+      (
+        Ok tt,
+        record {
+          gone = load_handles stored key;
+          entries = [];
+          set = given-least _ _ [] (load_handles stored key) (λ n. refl);
+          new = tt;
+          only = λ n some. absurd (omega arith);
+          each = λ n must. absurd (begun-must stored key n _ _ refl must);
+          tells = λ n must. absurd (begun-must stored key n _ _ refl must);
+          within = omega arith;
+          grows = omega arith;
+          rest = refl;
+        },
+      ),
+    );
+  },
+)
 
 -- the type that a load of a cell names
 abbrev type_in : Root → ℕ

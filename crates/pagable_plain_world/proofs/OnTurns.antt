@@ -1,42 +1,33 @@
 -- Of what single steps of workers and loads do, and of what is said of them, examples and near misses.
-use Rattle.std.proofs.Common.{◌≡◌, ℕ, suc, zero, ◌+◌, ◌<◌, ◌≤◌, ◌==◌, ◌&&◌, Bool, true, false, List, [], ◌∷◌, ◌++◌, length, refl, ap, sym, ◌∙◌, subst, inl, inr, arith}
-use Rattle.std.specs.Prelude.{Option, Some, None, Result, Ok, Err, slice_get}
+use Rattle.std.proofs.Common.{◌≡◌, ℕ, [], refl, ap, sym, ◌∙◌, subst, inl, inr, arith}
+use Rattle.std.specs.Prelude.{Option, Some, None, Ok, slice_get}
 use Rattle.std.proofs.lemmas.Bool.Decides.{nat_tests}
-use Rattle.pagable_model.specs.declared.error.Error.{Error}
 use Rattle.pagable_model.specs.declared.error.Error.TheVariants as errors
-use Rattle.pagable_model.specs.declared.data_key.OptionalDataKey.TheVariants as optional
-use Rattle.pagable_model.specs.declared.numbers.HandleNumber.{HandleNumber}
 use Rattle.pagable_model.specs.declared.numbers.Identity.{Identity}
-use Rattle.pagable_model.specs.declared.numbers.NodeNumber.{NodeNumber}
-use Rattle.pagable_model.specs.declared.numbers.Kind.{Kind}
 use Rattle.pagable_model.specs.Blob.{Blob}
 use Rattle.pagable_model.specs.Meaning.{none}
 use Rattle.pagable_model.specs.Reading.{read, read_with}
-use Rattle.pagable_model.specs.Trees.{Tree, tree, ReadsTree, none-followed}
+use Rattle.pagable_model.specs.Trees.{tree, ReadsTree, none-followed}
 use Rattle.pagable_world.specs.declared.rows.Mode.TheVariants as modes
 use Rattle.pagable_world.specs.declared.rows.Owner.TheVariants as owners
-use Rattle.pagable_world.specs.declared.events.PinStep.TheVariants as pinsteps
 use Rattle.pagable_world.specs.declared.events.Took.TheVariants as took
-use Rattle.pagable_world.specs.declared.events.LoadAnswer.TheVariants as ends
 use Rattle.pagable_world.specs.declared.events.WorkerAnswer.{WorkerAnswer}
 use Rattle.pagable_world.specs.declared.events.WorkerAnswer.TheVariants as finals
-use Rattle.pagable_world.specs.State.{is_listed, is_aside}
-use Rattle.pagable_world.specs.Words.{Among, times}
-use Rattle.pagable_world.specs.Kinds.{FitsMode}
+use Rattle.pagable_world.specs.Words.{times}
 use Rattle.pagable_world.specs.Seen.{digest}
-use Rattle.pagable_world.specs.Whole.{Whole, SlotRow, Outcome, no_result, published, failed, of_item, of_entry, of_cell, is_owner}
+use Rattle.pagable_world.specs.Whole.{Whole, SlotRow, no_result, published, failed, of_item, of_cell}
 use Rattle.pagable_world.specs.Falls.{Falls, nobody}
 use Rattle.pagable_world.specs.Handles.{row_of}
-use Rattle.pagable_world.specs.LoadSteps.{LoadFails, IsFault, root_frame}
+use Rattle.pagable_world.specs.LoadSteps.{LoadFails, root_frame}
 use Rattle.pagable_world.specs.Met.{TableMeets, meets-of-item}
 use Rattle.pagable_world.specs.WorkerSteps.{WriteDoes, FailDoes, IsPublished, is_open}
-use Rattle.pagable_world.specs.Interleaved.{WaitsRightly, ClaimsAreMet, HasLetGo, ReadIsRight}
+use Rattle.pagable_world.specs.Interleaved.{WaitsRightly, ClaimsAreMet, HasLetGo}
 use Rattle.pagable_world.specs.Alone.{DeepIsRefused, LoadIsSound, IsOfChance}
-use Rattle.pagable_world.specs.Over.{WorkerRun, worker-ends, worker-goes-on, SameResults}
-use Rattle.pagable_plain_world.specs.Samples.{empty, none_of, all_of, first, second, first_node, first_load, pinned_kind, begun, dropped}
-use Rattle.pagable_plain_world.specs.SampleSeen.{sample, sample_types, bare, reading, first_table, first_worker, first_identity, nothing_written, one_written, one_reference, item_worker, working, answered, claiming, claimed, slot_open, slot_known, reading_steps}
-use Rattle.pagable_plain_world.specs.SampleRuns.{meaningless, empty_trees}
-use Rattle.pagable_plain_world.specs.SampleTurns.{bare_load, faulty_load, pin_reference, pinned_by_worker, pinned_third, written_by_worker, pages_of, trees_of, waiting_for_other, wait_event, wait_reply, fail_reply, sound_world, refused_reply, load_event, failed_slot}
+use Rattle.pagable_world.specs.Over.{WorkerRun, worker-ends, worker-goes-on}
+use Rattle.pagable_plain_world.specs.Samples.{empty, none_of, all_of, first, second, first_node, first_load, dropped}
+use Rattle.pagable_plain_world.specs.SampleSeen.{sample, sample_types, bare, reading, first_table, first_worker, first_identity, nothing_written, one_written, one_reference, item_worker, working, answered, claimed, slot_open}
+use Rattle.pagable_plain_world.specs.SampleRuns.{empty_trees}
+use Rattle.pagable_plain_world.specs.SampleTurns.{faulty_load, pinned_by_worker, written_by_worker, pages_of, trees_of, waiting_for_other, wait_event, wait_reply, fail_reply, sound_world, refused_reply, load_event, failed_slot}
 use Rattle.pagable_plain_world.specs.TurnExamples.{KindExamples, TurnExamples, SaidExamples}
 use Rattle.pagable_plain_world.proofs.Alone.{given-least}
 use Rattle.pagable_plain_world.proofs.OnHandles.{the-one}
@@ -53,13 +44,12 @@ not-unpinned : (stored : ℕ → Option Blob) (w' : Whole) → ¬ WriteDoes samp
 not-unpinned stored w' (slot, (row, among, mine, at, pins), written, same) = let e : owners.Worker first_worker ≡ owners.Caller = sym mine ∙ ap (λ x. x.owner) (the-one _ row among) in absurd (cc)
 
 write : (stored : ℕ → Option Blob) → WriteDoes sample (pinned_by_worker stored) (item_worker one_written) first_identity (Ok nothing_written) (written_by_worker stored)
-write stored =
-    (
-      (claimed_slot, (((0, refl), refl, refl, refl), refl, refl), refl),
-      (row_of 2 first_node modes.Pinned (owners.Worker first_worker), (1, refl), refl, refl, refl),
-      record { all = λ q. grind (arith, nat_tests); good = λ r among. absurd (cc) },
-      refl,
-    )
+write stored = (
+  (claimed_slot, (((0, refl), refl, refl, refl), refl, refl), refl),
+  (row_of 2 first_node modes.Pinned (owners.Worker first_worker), (1, refl), refl, refl, refl),
+  record { all = λ q. grind (arith, nat_tests); good = λ r among. absurd (cc) },
+  refl,
+)
 
 fall-alone : (stored : ℕ → Option Blob) (w : Whole) → w ≡ failed_slot stored → Falls (slot_open stored) w nobody (Ok tt) w
 fall-alone stored w is =
@@ -92,18 +82,21 @@ load-fails stored key =
     inl (
       reading stored key 0 bare,
       inl (root_frame key 0 bare, [], refl, refl, inl (is-fault key)),
-      (Ok tt, record {
-        gone = nobody;
-        entries = [];
-        set = given-least [] [] [] nobody (λ n. refl);
-        new = tt;
-        only = λ n some. absurd (omega arith);
-        each = λ n must. let a = must.pinned in absurd (omega arith);
-        tells = λ n must. let a = must.pinned in absurd (omega arith);
-        within = omega arith;
-        grows = omega arith;
-        rest = refl;
-      }),
+      (
+        Ok tt,
+        record {
+          gone = nobody;
+          entries = [];
+          set = given-least [] [] [] nobody (λ n. refl);
+          new = tt;
+          only = λ n some. absurd (omega arith);
+          each = λ n must. let a = must.pinned in absurd (omega arith);
+          tells = λ n must. let a = must.pinned in absurd (omega arith);
+          within = omega arith;
+          grows = omega arith;
+          rest = refl;
+        },
+      ),
     )
 
 let-go : (stored : ℕ → Option Blob) → HasLetGo (failed_slot stored) (item_worker one_written)
@@ -131,8 +124,7 @@ turns =
 waits-right : (stored : ℕ → Option Blob) → WaitsRightly {N = ℕ} (pages_of (waiting_for_other stored)) (empty_trees stored) wait_event wait_reply (pages_of (waiting_for_other stored)) (empty_trees stored)
 waits-right stored worker i has is =
     let same : i ≡ first_identity = cc in
-    let table = sym (ap (λ v. v.table) (the-one _ worker has.0)) in
-    (
+    let table = sym (ap (λ v. v.table) (the-one _ worker has.0)) in (
       record claimed_slot { worker = record { 0 = 2 } },
       ((0, refl), table, sym (ap (λ x. x.kind) same), sym (ap (λ x. x.node) same)),
       (λ e. let n : ◌≡◌ {A = ℕ} 2 1 = ap (λ v. v.0) e in omega arith),
@@ -145,7 +137,7 @@ claims-met stored slot among =
     (item_worker one_written, (0, refl), refl, meets-of-item one_written one_reference refl (0, refl))
 
 not-deep : (stored : ℕ → Option Blob) → ¬ DeepIsRefused sample (pages_of (empty stored)) (trees_of (working stored (of_item nothing_written))) wait_event fail_reply (pages_of (empty stored)) (trees_of (empty stored))
-not-deep stored all = elim ((all (item_worker nothing_written) ((0, refl), refl)).0 refl) [ | inl (r, among, deep) ↦ absurd (cc) | inr (r, among, none_is) ↦ absurd (cc) ]
+not-deep stored all = elim ((all (item_worker nothing_written) ((0, refl), refl)).0 refl) [ inl (r, among, deep) ↦ absurd (cc) | inr (r, among, none_is) ↦ absurd (cc) ]
 
 sound : (stored : ℕ → Option Blob) (key : ℕ) → LoadIsSound (pages_of (sound_world stored key)) (trees_of (sound_world stored key)) load_event (refused_reply errors.OutOfMemory) (pages_of (empty stored)) (trees_of (empty stored))
 sound stored key load node t h e has cell out ended = let same : e ≡ errors.OutOfMemory = cc in subst IsOfChance (sym same) tt

@@ -1,11 +1,8 @@
 -- Of what workers do, meet and may do in which order, and of the bounds, examples and near misses.
-use Rattle.std.proofs.Common.{◌≡◌, ℕ, suc, zero, ◌+◌, ◌<◌, ◌≤◌, ◌==◌, ◌&&◌, Bool, true, false, List, [], ◌∷◌, ◌++◌, length, map, refl, ap, sym, ◌∙◌, subst, inl, inr, arith}
-use Rattle.std.specs.Prelude.{◌≢◌, ◌⊎◌, Option, Some, None, Result, Ok, Err, slice_get}
-use Rattle.std.proofs.lemmas.Bool.Decides.{nat_tests}
-use Rattle.pagable_model.specs.declared.error.Error.{Error}
+use Rattle.std.proofs.Common.{◌≡◌, ℕ, ◌≤◌, Bool, true, false, List, [], ◌∷◌, ◌++◌, length, refl, ap, sym, ◌∙◌, subst, inl, inr, arith}
+use Rattle.std.specs.Prelude.{◌≢◌, Option, Some, None, Ok}
 use Rattle.pagable_model.specs.declared.data_key.OptionalDataKey.TheVariants as optional
 use Rattle.pagable_model.specs.declared.numbers.ArcRef.{ArcRef}
-use Rattle.pagable_model.specs.declared.numbers.HandleNumber.{HandleNumber}
 use Rattle.pagable_model.specs.declared.numbers.Identity.{Identity}
 use Rattle.pagable_model.specs.Blob.{Blob}
 use Rattle.pagable_model.specs.Meaning.{Meaning, none}
@@ -20,16 +17,16 @@ use Rattle.pagable_world.specs.declared.events.WorkerAnswer.TheVariants as final
 use Rattle.pagable_world.specs.State.{one}
 use Rattle.pagable_world.specs.Words.{Among, times}
 use Rattle.pagable_world.specs.Seen.{digest}
-use Rattle.pagable_world.specs.Whole.{Whole, Written, SlotRow, OpenLoad, WorkerRow, Outcome, no_result, published, failed, of_item, of_entry, of_type, is_identity}
-use Rattle.pagable_world.specs.Falls.{Falls, nobody}
+use Rattle.pagable_world.specs.Whole.{Whole, Written, SlotRow, OpenLoad, no_result, published, of_item, of_type}
+use Rattle.pagable_world.specs.Falls.{nobody}
 use Rattle.pagable_world.specs.Handles.{row_of}
 use Rattle.pagable_world.specs.LoadSteps.{IsRead, root_frame}
 use Rattle.pagable_world.specs.Met.{Meets, meets-of-item, meets-entry, meets-below}
-use Rattle.pagable_world.specs.WorkerSteps.{ClaimFinds, PublishDoes, ReleaseDoes, IsHeight, WorkerStepped, AreKeysOf, IsBlobOf}
-use Rattle.pagable_world.specs.Order.{Waits, no-wait, more-waits, LoadRuns, load-pins, load-goes, PinsFirst, at-once, by-load, Walk, Walks, finds, does, no-walk, AllSteps, InOrder, OnceEach, IsBroken, is_later_of, is_load_of, is_claim_of, LaterKind, pins, writes, stores, sets_key, publishes, releases}
-use Rattle.pagable_world.specs.Bounds.{WorkersAreBounded, Unfolds, UnfoldsFrom, unfolds, ends-here, LoadsAreBounded}
+use Rattle.pagable_world.specs.WorkerSteps.{PublishDoes, ReleaseDoes, IsHeight, WorkerStepped, AreKeysOf, IsBlobOf}
+use Rattle.pagable_world.specs.Order.{Waits, no-wait, more-waits, LoadRuns, load-pins, load-goes, at-once, Walk, Walks, finds, does, no-walk, AllSteps, InOrder, OnceEach, IsBroken, is_later_of, is_claim_of, LaterKind}
+use Rattle.pagable_world.specs.Bounds.{WorkersAreBounded, Unfolds, unfolds, ends-here, LoadsAreBounded}
 use Rattle.pagable_plain_world.specs.Samples.{none_of, all_of, only_of, first, first_node, first_load}
-use Rattle.pagable_plain_world.specs.SampleSeen.{sample, sample_types, bare, first_table, first_worker, first_identity, nothing_written, working, answered, claiming, claimed, one_reference, one_written, item_worker, slot_open, slot_known, reading_steps, tired}
+use Rattle.pagable_plain_world.specs.SampleSeen.{sample, sample_types, bare, first_table, first_worker, first_identity, nothing_written, working, answered, one_reference, one_written, item_worker, slot_open, slot_known, reading_steps}
 use Rattle.pagable_plain_world.specs.WorkExamples.{WorkerExamples, OrderExamples, BoundExamples}
 use Rattle.pagable_plain_world.proofs.Alone.{given-least}
 use Rattle.pagable_plain_world.proofs.OnHandles.{the-one}
@@ -39,18 +36,17 @@ not-push [] ys x e = absurd (cc)
 not-push (z ∷ zs) ys x e = absurd (cc)
 
 pub worker-stores : WorkerStepped sample (working none_of (of_item nothing_written)) first_worker (Ok (record { took = took.Store None (Ok (digest sample bare)); answer = Some (finals.Key (digest sample bare)); steps = 1 })) (answered (digest sample bare))
-worker-stores =
-    (
-      item_worker nothing_written,
-      true,
-      working (only_of (digest sample bare) bare) (of_item nothing_written),
-      ((0, refl), refl),
-      refl,
-      (refl, (nothing_written, bare, refl, refl, (refl, tt), (refl, record { stands_open = refl; free = inl refl; each = λ q. refl; rest = refl; fails = omega arith; grows = omega arith }))),
-      refl,
-      refl,
-      refl,
-    )
+worker-stores = (
+  item_worker nothing_written,
+  true,
+  working (only_of (digest sample bare) bare) (of_item nothing_written),
+  ((0, refl), refl),
+  refl,
+  (refl, (nothing_written, bare, refl, refl, (refl, tt), (refl, record { stands_open = refl; free = inl refl; each = λ q. refl; rest = refl; fails = omega arith; grows = omega arith }))),
+  refl,
+  refl,
+  refl,
+)
 
 not-silent : (key steps : ℕ) (w' : Whole) → ¬ WorkerStepped sample (working none_of (of_item nothing_written)) first_worker (Ok (record { took = took.Store None (Ok key); answer = None; steps = steps })) w'
 not-silent key steps w' (worker, counted, mid, has, silent, does_it, answers, count, same) = absurd (cc)
@@ -82,28 +78,30 @@ not-met w _ (meets-entry h i task) = absurd (cc)
 not-met w _ (meets-below i slot written r meets has is among) = not-met w i meets
 
 release-it : (stored : ℕ → Option Blob) (key : ℕ) → ReleaseDoes (slot_known stored key) (item_worker one_written) first_identity (slot_known stored key)
-release-it stored key =
-    (
-      (key, 0, (record { table = first_table; reference = one_reference; worker = first_worker; written = Some nothing_written; outcome = published key 0 }, ((0, refl), refl, refl, refl), refl)),
-      (Ok tt, record {
-        gone = nobody;
-        entries = [];
-        set = given-least [] [] [] nobody (λ n. refl);
-        new = tt;
-        only = λ n some. absurd (omega arith);
-        each = λ n must. let a = must.pinned in absurd (omega arith);
-        tells = λ n must. let a = must.pinned in absurd (omega arith);
-        within = omega arith;
-        grows = omega arith;
-        rest = refl;
-      }),
-    )
+release-it stored key = (
+  (key, 0, (record { table = first_table; reference = one_reference; worker = first_worker; written = Some nothing_written; outcome = published key 0 }, ((0, refl), refl, refl, refl), refl)),
+  (
+    Ok tt,
+    record {
+      gone = nobody;
+      entries = [];
+      set = given-least [] [] [] nobody (λ n. refl);
+      new = tt;
+      only = λ n some. absurd (omega arith);
+      each = λ n must. let a = must.pinned in absurd (omega arith);
+      tells = λ n must. let a = must.pinned in absurd (omega arith);
+      within = omega arith;
+      grows = omega arith;
+      rest = refl;
+    },
+  ),
+)
 
 height-none : (w : Whole) → IsHeight w first_table [] 0
 height-none w = record { above = λ r key h among known. absurd (cc); reached = inl refl }
 
 not-higher : (w : Whole) → ¬ IsHeight w first_table [] 1
-not-higher w height = elim height.reached [ | inl e ↦ omega arith | inr (r, key, h, among, known, is) ↦ absurd (cc) ]
+not-higher w height = elim height.reached [ inl e ↦ omega arith | inr (r, key, h, among, known, is) ↦ absurd (cc) ]
 
 abbrev open_slot : SlotRow
 open_slot = record { table = first_table; reference = one_reference; worker = first_worker; written = Some nothing_written; outcome = no_result }

@@ -1,6 +1,6 @@
 -- Lists from which one element leaves, or in which one is changed.
-use Rattle.std.proofs.Common.{◌≡◌, ℕ, suc, zero, ◌+◌, ◌<◌, ◌≤◌, Bool, true, false, cond, List, [], ◌∷◌, ◌++◌, sum_by, refl, ap, sym, ◌∙◌, arith}
-use Rattle.std.specs.Prelude.{filter, not, map, if◌then◌else◌, Some, slice_get, slice_set}
+use Rattle.std.proofs.Common.{◌≡◌, ℕ, suc, zero, ◌+◌, ◌<◌, ◌≤◌, Bool, true, false, cond, List, [], ◌∷◌, ◌++◌, sum_by, refl, ap, ◌∙◌, arith}
+use Rattle.std.specs.Prelude.{filter, not, if◌then◌else◌, Some, slice_get, slice_set}
 use Rattle.std.specs.List.{remove}
 use Rattle.std.proofs.lemmas.List.Sums.{sum_by-cons}
 use Rattle.std.proofs.lemmas.Bool.Decides.{nat_tests}

@@ -1,8 +1,7 @@
 -- Sums over the elements of a list.
-use Rattle.std.proofs.Common.{◌≡◌, ℕ, suc, zero, ◌+◌, ◌<◌, ◌≤◌, Bool, true, false, List, [], ◌∷◌, sum_by, cond, refl, ap, sym, ◌∙◌, arith}
-use Rattle.std.specs.Prelude.{filter, length, Some, slice_get}
+use Rattle.std.proofs.Common.{◌≡◌, ℕ, suc, zero, ◌+◌, ◌<◌, ◌≤◌, Bool, true, false, List, [], ◌∷◌, sum_by, cond, refl, ap, ◌∙◌, arith}
+use Rattle.std.specs.Prelude.{filter, length}
 use Rattle.std.proofs.lemmas.List.Sums.{sum_by-cons}
-use Rattle.std.proofs.lemmas.Bool.Decides.{nat_tests}
 use Rattle.pagable_world.specs.State.{one}
 use Rattle.pagable_world.specs.Words.{Among, times}
 

@@ -1,13 +1,12 @@
 -- One row of a whole world in another mode or under another owner, the caller or the list: the world stays whole.
-use Rattle.std.proofs.Common.{◌≡◌, ℕ, suc, zero, ◌+◌, ◌<◌, ◌≤◌, ◌==◌, ◌&&◌, Bool, true, false, List, [], ◌∷◌, length, get_or, set, sum_by, refl, ap, sym, ◌∙◌, subst, inl, inr, arith}
-use Rattle.std.specs.Prelude.{◌⊎◌, not, nat_lt, Some, Result, Ok, Err, Option, None, slice_get, slice_set}
+use Rattle.std.proofs.Common.{◌≡◌, ℕ, suc, zero, ◌+◌, ◌<◌, ◌==◌, ◌&&◌, Bool, true, false, List, [], ◌∷◌, length, get_or, set, sum_by, refl, ap, sym, ◌∙◌, subst, inl, inr, arith}
+use Rattle.std.specs.Prelude.{◌⊎◌, nat_lt, Some, Ok, Err, None, slice_get, slice_set}
 use Rattle.std.specs.List.{AllPairs, remove}
 use Rattle.std.proofs.lemmas.Bool.Decides.{nat_tests}
 use Rattle.std.proofs.lemmas.List.{get_or-set_other, length-set}
-use Rattle.std.proofs.lemmas.List.Sums.{sum_by-set, sum_by_push}
+use Rattle.std.proofs.lemmas.List.Sums.{sum_by-set}
 use Rattle.std.proofs.lemmas.Option.{get_or_from_slice_get, slice_get_within, slice_get-get_or}
 use Rattle.std.proofs.lemmas.Grind.{get_or-set_at}
-use Rattle.pagable_model.specs.declared.error.Error.{Error}
 use Rattle.pagable_model.specs.declared.numbers.HandleNumber.{HandleNumber}
 use Rattle.pagable_model.specs.Trees.{type_of}
 use Rattle.pagable_world.specs.declared.rows.Mode.{Mode}
@@ -22,8 +21,7 @@ use Rattle.pagable_world.specs.Words.{Among, times, changed}
 use Rattle.pagable_world.specs.Least.{sharing, share_of}
 use Rattle.pagable_world.specs.Whole.{Whole, is_owner, is_handle, is_entry_of, HasRowOf, HasType}
 use Rattle.pagable_world.specs.Kinds.{FitsMode}
-use Rattle.pagable_world.specs.Pages.{IsWhole, HandlesAreWhole, OwnersAreThere, WorkIsWhole}
-use Rattle.pagable_world.specs.Falls.{only_handle}
+use Rattle.pagable_world.specs.Pages.{IsWhole}
 use Rattle.pagable_world.specs.Handles.{with_mode}
 use Rattle.pagable_plain_world.specs.KeepLaws.{PinKeeps, LoosenKeeps, TakeKeeps}
 use Rattle.pagable_plain_world.proofs.Sums.{at-most-sum, counted}
@@ -226,9 +224,9 @@ take-keeps w w' i (Some h) whole (is, same) =
     let changes = one-changed w h row (λ r. record r { owner = owners.Caller }) whole found.1 in
     let entries : (q : ℕ) → times (is_entry_of q) (remove w.list i) + is_entry q row ≡ times (is_entry_of q) w.list + is_entry q new =
     λ q. let a = sum-remove (λ x. one (is_entry_of q x)) w.list i h is in
-        let b : row.number.0 ≡ h.0 = ap (λ n. n.0) found.1.1 in
-        let c : is_listed row.owner ≡ true = ap is_listed found.2 in
-        grind (arith, nat_tests) in
+    let b : row.number.0 ≡ h.0 = ap (λ n. n.0) found.1.1 in
+    let c : is_listed row.owner ≡ true = ap is_listed found.2 in
+    grind (arith, nat_tests) in
     subst IsWhole (sym (same ∙ ap (λ rows. record w { rows = rows; list = remove w.list i }) changes))
     (turned-whole w whole found.1.0.0 row new found.1.0.1 refl refl refl (remove w.list i) (list-at-hand row.owner found.2) (caller-at-hand owners.Caller refl) entries (λ listed. let a : false ≡ true = ap is_listed listed in absurd (grind (arith, nat_tests))))
 take-keeps w w' i None whole (past, same) = subst IsWhole (sym same) whole

@@ -1,5 +1,5 @@
 -- What falls of a value of two levels.
-use Rattle.std.proofs.Common.{◌≡◌, ℕ, ◌+◌, ◌<◌, ◌≤◌, ◌==◌, ◌&&◌, ◌||◌, Bool, true, false, List, [], ◌∷◌, length, sum_by, refl, ap, inl, inr, arith}
+use Rattle.std.proofs.Common.{◌≡◌, ℕ, ◌+◌, ◌<◌, ◌≤◌, ◌==◌, ◌&&◌, Bool, true, false, List, [], ◌∷◌, length, sum_by, refl, ap, inl, inr, arith}
 use Rattle.std.specs.Prelude.{not, Option, Ok}
 use Rattle.std.proofs.lemmas.List.Sums.{sum_by-cons}
 use Rattle.std.proofs.lemmas.Bool.Decides.{nat_tests}
@@ -9,9 +9,9 @@ use Rattle.pagable_world.specs.declared.rows.Mode.TheVariants as modes
 use Rattle.pagable_world.specs.declared.rows.HandleRow.{HandleRow}
 use Rattle.pagable_world.specs.Cells.{Cell}
 use Rattle.pagable_world.specs.State.{one, pins, held}
-use Rattle.pagable_world.specs.Least.{outside, pin_outside, owned_outside, loses_pins, loses_value, only_in, IsClosed, IsWithin, IsLeast}
-use Rattle.pagable_world.specs.Falls.{MustList, Falls, nobody}
-use Rattle.pagable_world.specs.Handles.{row_of, with_mode, ReleaseCall, UnpinCall}
+use Rattle.pagable_world.specs.Least.{owned_outside, loses_value, IsClosed, IsWithin, IsLeast}
+use Rattle.pagable_world.specs.Falls.{MustList, nobody}
+use Rattle.pagable_world.specs.Handles.{row_of, with_mode, UnpinCall}
 use Rattle.pagable_plain_world.specs.Samples.{two_rows, two_cells, two_levels, outer, both, lone, lone_listed, lone_unlisted}
 use Rattle.pagable_plain_world.specs.FallLaws.{OwnsNothing, TwoLevelsFall, TwoLevelsAreReleased, LoneIsListed}
 use Rattle.pagable_plain_world.proofs.Alone.{given-least}

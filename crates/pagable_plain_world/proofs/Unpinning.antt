@@ -1,14 +1,12 @@
 -- An unpin as today's tables do it is an unpin of the whole world.
-use Rattle.std.proofs.Common.{◌≡◌, ℕ, suc, zero, ◌+◌, ◌<◌, ◌≤◌, ◌==◌, ◌&&◌, Bool, true, false, List, [], ◌∷◌, ◌++◌, length, map, set, sum_by, refl, ap, sym, ◌∙◌, subst, inl, inr, arith}
-use Rattle.std.specs.Prelude.{filter, not, nat_lt, ◌≢◌, ◌⊎◌, Result, Ok, Err, Some, slice_get, slice_set}
+use Rattle.std.proofs.Common.{◌≡◌, ℕ, suc, zero, ◌+◌, ◌<◌, ◌≤◌, ◌==◌, ◌&&◌, true, false, List, [], ◌∷◌, ◌++◌, length, map, set, sum_by, refl, ap, sym, ◌∙◌, subst, inl, inr, arith}
+use Rattle.std.specs.Prelude.{filter, not, nat_lt, Result, Ok, Err, Some, slice_get, slice_set}
 use Rattle.std.proofs.lemmas.Bool.Decides.{nat_tests}
 use Rattle.std.proofs.lemmas.List.{append-nil}
 use Rattle.std.proofs.lemmas.List.Sums.{sum_by_push}
 use Rattle.pagable_model.specs.declared.error.Error.{Error}
 use Rattle.pagable_model.specs.declared.error.Error.TheVariants as errors
-use Rattle.pagable_model.specs.declared.data_key.OptionalDataKey.TheVariants as optional
 use Rattle.pagable_model.specs.declared.numbers.HandleNumber.{HandleNumber}
-use Rattle.pagable_world.specs.declared.rows.Mode.{Mode}
 use Rattle.pagable_world.specs.declared.rows.Mode.TheVariants as modes
 use Rattle.pagable_world.specs.declared.rows.Owner.TheVariants as owners
 use Rattle.pagable_world.specs.declared.rows.HandleRow.{HandleRow}
@@ -16,8 +14,7 @@ use Rattle.pagable_world.specs.declared.rows.LoadRow.{LoadRow}
 use Rattle.pagable_world.specs.State.{one, pins, held, pin_of, handle_of, is_number, is_pinning, is_loose, has_key, is_shared}
 use Rattle.pagable_world.specs.Cells.{Cell}
 use Rattle.pagable_world.specs.World.{World, greatest, enlisted, turned, NeedsListing, NeedsNoListing, Prepared, CannotMake}
-use Rattle.pagable_world.specs.Words.{Among}
-use Rattle.pagable_world.specs.Least.{is_of_value, keyed_at, share_of}
+use Rattle.pagable_world.specs.Least.{is_of_value, keyed_at}
 use Rattle.pagable_world.specs.Whole.{Whole, HasRowOf}
 use Rattle.pagable_world.specs.Falls.{MustList, Falls, IsListRefusal, left_rows, nobody}
 use Rattle.pagable_world.specs.Handles.{row_of, with_mode}
@@ -30,7 +27,7 @@ use Rattle.pagable_plain_world.proofs.Sums.{at-most-sum}
 use Rattle.pagable_plain_world.proofs.Alone.{given-least}
 use Rattle.pagable_plain_world.proofs.Places.{filter-all, unique}
 use Rattle.pagable_plain_world.proofs.Turning.{sum-set, one-changed}
-use Rattle.pagable_plain_world.proofs.Bridging.{self-number, one-true, left-true, right-true, same-number, same-world, held-live, single-key, no-shares}
+use Rattle.pagable_plain_world.proofs.Bridging.{self-number, one-true, left-true, same-number, same-world, held-live, single-key, no-shares}
 
 -- a place of the first list is one of both
 set-append : {X : Type 0} (xs ys : List X) (i : ℕ) (x y : X) → slice_get xs i ≡ Some x → set (xs ++ ys) i y ≡ set xs i y ++ ys
@@ -154,58 +151,55 @@ module _ (w : Whole) (whole : IsWhole w) (h : HandleNumber) (i : ℕ) (row : Han
   cause n _ is why = absurd why
 
   pub unpinned-at : (loads : List LoadRow) (r : Result (Unit {0}) Error) (mid v : World) → Prepared (today loads w) row r mid → v ≡ turned mid i row modes.LooseUnpinned → (w' : Whole) × (today loads w' ≡ v) × Falls w low nobody r w'
-  unpinned-at loads (Ok u) mid v (inl (needs, is, room)) same =
-      (
-        after (entry ∷ []) w.refusals,
-        listed-today loads w.refusals ∙ sym (same ∙ ap (λ m. turned m i row modes.LooseUnpinned) is),
-        record {
-          gone = nobody;
-          entries = entry ∷ [];
-          set = given-least low.rows low.cells (entry ∷ []) nobody low-nothing;
-          new = (refl, refl, refl, tt);
-          only = λ n some. let e : n ≡ row.node.0 = grind (arith, nat_tests) in
-              (subst (λ k. MustList w low (after (entry ∷ []) w.refusals) k) (sym e) (must-list loads needs (after (entry ∷ []) w.refusals) (pins-listed row.node.0)), grind (arith, nat_tests));
-          each = λ n must. let e = (only-node n (after (entry ∷ []) w.refusals) (pins-listed n) must).0 in inl (grind (arith, nat_tests));
-          tells = λ n must. let e = (only-node n (after (entry ∷ []) w.refusals) (pins-listed n) must).0 in grind (arith, nat_tests);
-          within = let a = room in omega arith;
-          grows = omega arith;
-          rest = refl;
-        },
-      )
-  unpinned-at loads (Ok u) mid v (inr (none, is)) same =
-      (
-        after [] w.refusals,
-        bare-today loads w.refusals ∙ sym (same ∙ ap (λ m. turned m i row modes.LooseUnpinned) is),
-        record {
-          gone = nobody;
-          entries = [];
-          set = given-least low.rows low.cells [] nobody low-nothing;
-          new = tt;
-          only = λ n some. absurd (omega arith);
-          each = λ n must. absurd (none-needed loads none n (after [] w.refusals) (pins-bare n) must);
-          tells = λ n must. absurd (none-needed loads none n (after [] w.refusals) (pins-bare n) must);
-          within = let a = whole.handles.within.0 in omega arith;
-          grows = omega arith;
-          rest = refl;
-        },
-      )
-  unpinned-at loads (Err e) mid v (needs, why, is) same =
-      (
-        after [] (w.refusals + 1),
-        bare-today loads (w.refusals + 1) ∙ sym (same ∙ ap (λ m. turned m i row modes.LooseUnpinned) is),
-        record {
-          gone = nobody;
-          entries = [];
-          set = given-least low.rows low.cells [] nobody low-nothing;
-          new = tt;
-          only = λ n some. absurd (omega arith);
-          each = λ n must. inr (inr (omega arith));
-          tells = (row.node.0, must-list loads needs (after [] (w.refusals + 1)) (pins-bare row.node.0), refl, cause (w.refusals + 1) e refl why);
-          within = let a = whole.handles.within.0 in omega arith;
-          grows = omega arith;
-          rest = refl;
-        },
-      )
+  unpinned-at loads (Ok u) mid v (inl (needs, is, room)) same = (
+    after (entry ∷ []) w.refusals,
+    listed-today loads w.refusals ∙ sym (same ∙ ap (λ m. turned m i row modes.LooseUnpinned) is),
+    record {
+      gone = nobody;
+      entries = entry ∷ [];
+      set = given-least low.rows low.cells (entry ∷ []) nobody low-nothing;
+      new = (refl, refl, refl, tt);
+      only = λ n some. let e : n ≡ row.node.0 = grind (arith, nat_tests) in
+          (subst (λ k. MustList w low (after (entry ∷ []) w.refusals) k) (sym e) (must-list loads needs (after (entry ∷ []) w.refusals) (pins-listed row.node.0)), grind (arith, nat_tests));
+      each = λ n must. let e = (only-node n (after (entry ∷ []) w.refusals) (pins-listed n) must).0 in inl (grind (arith, nat_tests));
+      tells = λ n must. let e = (only-node n (after (entry ∷ []) w.refusals) (pins-listed n) must).0 in grind (arith, nat_tests);
+      within = let a = room in omega arith;
+      grows = omega arith;
+      rest = refl;
+    },
+  )
+  unpinned-at loads (Ok u) mid v (inr (none, is)) same = (
+    after [] w.refusals,
+    bare-today loads w.refusals ∙ sym (same ∙ ap (λ m. turned m i row modes.LooseUnpinned) is),
+    record {
+      gone = nobody;
+      entries = [];
+      set = given-least low.rows low.cells [] nobody low-nothing;
+      new = tt;
+      only = λ n some. absurd (omega arith);
+      each = λ n must. absurd (none-needed loads none n (after [] w.refusals) (pins-bare n) must);
+      tells = λ n must. absurd (none-needed loads none n (after [] w.refusals) (pins-bare n) must);
+      within = let a = whole.handles.within.0 in omega arith;
+      grows = omega arith;
+      rest = refl;
+    },
+  )
+  unpinned-at loads (Err e) mid v (needs, why, is) same = (
+    after [] (w.refusals + 1),
+    bare-today loads (w.refusals + 1) ∙ sym (same ∙ ap (λ m. turned m i row modes.LooseUnpinned) is),
+    record {
+      gone = nobody;
+      entries = [];
+      set = given-least low.rows low.cells [] nobody low-nothing;
+      new = tt;
+      only = λ n some. absurd (omega arith);
+      each = λ n must. inr (inr (omega arith));
+      tells = (row.node.0, must-list loads needs (after [] (w.refusals + 1)) (pins-bare row.node.0), refl, cause (w.refusals + 1) e refl why);
+      within = let a = whole.handles.within.0 in omega arith;
+      grows = omega arith;
+      rest = refl;
+    },
+  )
 
 live-known : (w : Whole) (h : HandleNumber) (i : ℕ) (row : HandleRow) → slice_get w.rows i ≡ Some row → row.number ≡ h → sum_by (is_number h.0) w.rows ≡ 0 → ⊥
 live-known w h i row at named unknown = let a = at-most-sum (is_number h.0) w.rows row (i, at) in let s = same-number row.number.0 h.0 (ap (λ x. x.0) named) in absurd (grind (arith, nat_tests))
@@ -214,12 +208,11 @@ live-known w h i row at named unknown = let a = at-most-sum (is_number h.0) w.ro
 refuses : (w : Whole) (loads : List LoadRow) (h : HandleNumber) (e : Error) → IsWhole w → RefusesLoose (today loads w) h e → RefusesHandle w owners.Caller h LooseMode e
 refuses w loads h errors.NoSuchHandle whole unknown = unknown
 refuses w loads h errors.NotYours whole (i, row, (at, named), other) = (live-known w h i row at named, (row, ((i, at), named), other))
-refuses w loads h errors.WrongMode whole (i, row, own, tight) =
-    (
-      live-known w h i row own.there own.number,
-      (λ foreign. foreign.2 (ap (λ x. x.owner) (lone foreign.0 foreign.1) ∙ own.owner)),
-      (row, ((i, own.there), own.number), λ loose. let l : is_loose row.mode ≡ true = loose in absurd (grind (arith, nat_tests))),
-    )
+refuses w loads h errors.WrongMode whole (i, row, own, tight) = (
+  live-known w h i row own.there own.number,
+  (λ foreign. foreign.2 (ap (λ x. x.owner) (lone foreign.0 foreign.1) ∙ own.owner)),
+  (row, ((i, own.there), own.number), λ loose. let l : is_loose row.mode ≡ true = loose in absurd (grind (arith, nat_tests))),
+)
   where
     lone : (x : HandleRow) → HasRowOf w h x → x ≡ row
     lone x (among, is) = let n = ap (λ q. q.0) is in let m = ap (λ q. q.0) own.number in unique (is_number h.0) w.rows x row among (i, own.there) (grind (arith, nat_tests)) (grind (arith, nat_tests)) (whole.handles.once h.0)

@@ -7,9 +7,8 @@ use Rattle.pagable_world.specs.State.{one, is_pinning, pins}
 use Rattle.pagable_world.specs.Cells.{Cell}
 use Rattle.pagable_world.specs.Words.{Among}
 use Rattle.pagable_world.specs.Least.{IsLeast, is_of_value}
-use Rattle.pagable_world.specs.Whole.{Whole}
 use Rattle.pagable_world.specs.Handles.{ReleaseCall, UnpinCall}
-use Rattle.pagable_plain_world.specs.Samples.{empty, two_rows, two_cells, two_levels, outer, both, lone, lone_listed, lone_unlisted}
+use Rattle.pagable_plain_world.specs.Samples.{two_rows, two_cells, two_levels, outer, both, lone, lone_listed, lone_unlisted}
 
 -- Whatever is given up, and whatever entries come to the list, there is a least set.
 abbrev pub IsThere : Type 0

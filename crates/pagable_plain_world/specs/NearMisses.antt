@@ -1,23 +1,18 @@
 -- What the definitions refuse: each a wrong step that looks like a right one.
-use Rattle.std.specs.Prelude.{ℕ, ◌≡◌, ◌≢◌, ◌<◌, ◌+◌, true, List, [], Option, Some, None, Result, Ok, Err}
-use Rattle.pagable_model.specs.declared.error.Error.{Error}
+use Rattle.std.specs.Prelude.{ℕ, ◌≡◌, true, [], Ok}
 use Rattle.pagable_model.specs.declared.error.Error.TheVariants as errors
 use Rattle.pagable_model.specs.declared.numbers.ArcRef.{ArcRef}
 use Rattle.pagable_model.specs.declared.numbers.HandleNumber.{HandleNumber}
-use Rattle.pagable_model.specs.declared.numbers.Identity.{Identity}
 use Rattle.pagable_world.specs.declared.rows.Owner.{Owner}
 use Rattle.pagable_world.specs.declared.rows.HandleRow.{HandleRow}
 use Rattle.pagable_world.specs.declared.answers.Pinning.TheVariants as pinnings
 use Rattle.pagable_world.specs.declared.calls.Call.TheVariants as calls
 use Rattle.pagable_world.specs.declared.events.Event.TheVariants as events
 use Rattle.pagable_world.specs.declared.events.EventReply.{EventReply}
-use Rattle.pagable_world.specs.declared.events.Took.TheVariants as took
 use Rattle.pagable_world.specs.State.{is_loose}
-use Rattle.pagable_world.specs.Words.{Among, times}
 use Rattle.pagable_world.specs.Whole.{Whole, OpenLoad, WorkerRow, Written, of_item, RowIs}
 use Rattle.pagable_world.specs.Seen.{Seen}
-use Rattle.pagable_world.specs.Causes.{IsReference, Refuses}
-use Rattle.pagable_world.specs.Handles.{PinCall, IsInMemory, IsPagedOut}
+use Rattle.pagable_world.specs.Handles.{PinCall, IsPagedOut}
 use Rattle.pagable_world.specs.Pages.{Pages, HasValue}
 use Rattle.pagable_world.specs.Stands.{TreeWorld, ValueStands}
 use Rattle.pagable_world.specs.LoadSteps.{LoadGoesOn, GetsRoot}
@@ -25,7 +20,6 @@ use Rattle.pagable_world.specs.WorkerSteps.{PinRefused, IsNextReference, open_sl
 use Rattle.pagable_world.specs.declared.events.Claim.TheVariants as claims
 use Rattle.pagable_world.specs.Kinds.{identity_of}
 use Rattle.pagable_world.specs.Runs.{FixesTree, IsNewNode}
-use Rattle.pagable_world.specs.Bounds.{WorkersAreBounded}
 
 -- A new node that has another value than the one handed in is no step.
 abbrev pub NewNodeHasItsValue : {N B W : Type 0} → Seen N B W → Type 0

@@ -1,11 +1,11 @@
 -- The laws of new pagers and of runs.
-use Rattle.std.specs.Prelude.{ℕ, ◌≡◌, ◌++◌, List, [], Option}
+use Rattle.std.specs.Prelude.{ℕ, ◌≡◌, ◌++◌, List, Option}
 use Rattle.pagable_model.specs.Blob.{Blob}
 use Rattle.pagable_world.specs.declared.events.Event.{Event}
 use Rattle.pagable_world.specs.declared.events.EventReply.{EventReply}
 use Rattle.pagable_world.specs.Whole.{Whole}
 use Rattle.pagable_world.specs.Seen.{Seen}
-use Rattle.pagable_world.specs.Pages.{Pages, WellFormed}
+use Rattle.pagable_world.specs.Pages.{WellFormed}
 use Rattle.pagable_world.specs.Stands.{TreeWorld, Represents}
 use Rattle.pagable_world.specs.Events.{Run, IsNew}
 use Rattle.pagable_plain_world.specs.Samples.{empty, new_pages}

@@ -1,5 +1,5 @@
 -- Small states and moments over the small environment.
-use Rattle.std.specs.Prelude.{ℕ, [], ◌∷◌, List, Option, None, Ok}
+use Rattle.std.specs.Prelude.{ℕ, [], ◌∷◌, Option, None, Ok}
 use Rattle.pagable_model.specs.Blob.{Blob}
 use Rattle.pagable_model.specs.Meaning.{none}
 use Rattle.pagable_model.specs.Trees.{tree}

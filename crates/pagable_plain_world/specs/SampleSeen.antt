@@ -5,7 +5,6 @@ use Rattle.pagable_model.specs.declared.numbers.ArcRef.{ArcRef}
 use Rattle.pagable_model.specs.declared.numbers.Identity.{Identity}
 use Rattle.pagable_model.specs.declared.numbers.Kind.{Kind}
 use Rattle.pagable_model.specs.declared.numbers.WorkerNumber.{WorkerNumber}
-use Rattle.pagable_model.specs.declared.data_key.OptionalDataKey.TheVariants as optional
 use Rattle.pagable_model.specs.Blob.{Blob}
 use Rattle.pagable_model.specs.Meaning.{none}
 use Rattle.pagable_model.specs.Shape as shapes

@@ -16,12 +16,12 @@ use Rattle.pagable_world.specs.declared.events.Event.{Event}
 use Rattle.pagable_world.specs.declared.events.Event.TheVariants as events
 use Rattle.pagable_world.specs.declared.events.EventReply.{EventReply}
 use Rattle.pagable_world.specs.declared.events.EventReply.TheVariants as answers
-use Rattle.pagable_world.specs.Whole.{Whole, Written, OpenLoad, SlotRow, no_result, failed, of_item, of_type}
+use Rattle.pagable_world.specs.Whole.{Whole, Written, OpenLoad, no_result, failed, of_item, of_type}
 use Rattle.pagable_world.specs.Pages.{Pages}
 use Rattle.pagable_world.specs.Stands.{TreeWorld}
 use Rattle.pagable_world.specs.Handles.{row_of}
 use Rattle.pagable_world.specs.LoadSteps.{root_frame}
-use Rattle.pagable_plain_world.specs.Samples.{lone, first, second, first_node, first_load, pinned_kind, begun}
+use Rattle.pagable_plain_world.specs.Samples.{second, first_node, first_load, pinned_kind, begun}
 use Rattle.pagable_plain_world.specs.SampleSeen.{bare, first_table, first_worker, first_identity, nothing_written, one_reference, working, claimed, slot_known, slot_with}
 
 -- a load whose blob is of this type, after so many steps

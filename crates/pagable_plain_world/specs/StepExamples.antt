@@ -1,5 +1,5 @@
 -- Of a load's steps and of events some that may be, and some that look alike and may not.
-use Rattle.std.specs.Prelude.{ℕ, [], ◌∷◌, Option, Some, None, Ok, Err}
+use Rattle.std.specs.Prelude.{ℕ, [], ◌∷◌, Option, Some, None, Ok}
 use Rattle.pagable_model.specs.declared.error.Error.{Error}
 use Rattle.pagable_model.specs.declared.error.Error.TheVariants as errors
 use Rattle.pagable_model.specs.declared.numbers.ArcRef.{ArcRef}
@@ -15,7 +15,7 @@ use Rattle.pagable_world.specs.declared.events.EventReply.TheVariants as answers
 use Rattle.pagable_world.specs.Whole.{Whole, of_item}
 use Rattle.pagable_world.specs.LoadSteps.{Wants, IsRead, IsFault, root_frame, LoadStepped}
 use Rattle.pagable_world.specs.Events.{Step, Run, Tabled, StartedItem, StartedListed, IsNew}
-use Rattle.pagable_plain_world.specs.Samples.{empty, lone, first, second, first_load, pinned_kind, all_of, key_begun, dropped}
+use Rattle.pagable_plain_world.specs.Samples.{empty, lone, first, first_load, pinned_kind, all_of, key_begun, dropped}
 use Rattle.pagable_plain_world.specs.SampleSeen.{sample, sample_types, bare, referring, child_kind, reading, first_table, first_worker, nothing_written, tabled, working, listed_tabled, listed_working}
 
 -- A blob asks for its next key under the kind that is read there; it is read to its end, or refused, and not both.

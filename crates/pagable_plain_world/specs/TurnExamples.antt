@@ -19,7 +19,7 @@ use Rattle.pagable_world.specs.Interleaved.{WaitsRightly, ClaimsAreMet, HasLetGo
 use Rattle.pagable_world.specs.Alone.{DeepIsRefused, LoadIsSound}
 use Rattle.pagable_world.specs.Over.{WorkerRun, SameResults}
 use Rattle.pagable_plain_world.specs.Samples.{empty, none_of, all_of, pinned_kind, dropped}
-use Rattle.pagable_plain_world.specs.SampleSeen.{sample, bare, reading, first_table, first_worker, first_identity, nothing_written, one_written, one_reference, item_worker, working, answered, claiming, claimed, slot_open, slot_known, reading_steps}
+use Rattle.pagable_plain_world.specs.SampleSeen.{sample, bare, reading, first_table, first_worker, first_identity, nothing_written, one_written, item_worker, working, answered, claimed, slot_open, slot_known, reading_steps}
 use Rattle.pagable_plain_world.specs.SampleRuns.{meaningless, empty_trees}
 use Rattle.pagable_plain_world.specs.SampleTurns.{bare_load, faulty_load, pin_reference, pinned_by_worker, pinned_third, written_by_worker, pages_of, trees_of, waiting_for_other, wait_event, wait_reply, fail_reply, sound_world, refused_reply, load_event, failed_slot}
 

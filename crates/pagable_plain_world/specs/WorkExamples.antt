@@ -1,7 +1,6 @@
 -- Of what workers do, meet and may do in which order, and of the bounds, examples and near misses.
 use Rattle.std.specs.Prelude.{ℕ, ◌≢◌, ◌<◌, [], ◌∷◌, Option, Some, None, Ok}
 use Rattle.pagable_model.specs.declared.numbers.ArcRef.{ArcRef}
-use Rattle.pagable_model.specs.declared.numbers.HandleNumber.{HandleNumber}
 use Rattle.pagable_model.specs.declared.numbers.Identity.{Identity}
 use Rattle.pagable_model.specs.Blob.{Blob}
 use Rattle.pagable_model.specs.Deep.{longest_path}
