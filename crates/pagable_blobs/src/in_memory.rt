@@ -6,9 +6,9 @@ ghost use Rattle.pagable_core.specs.Data.{blob_of};
 ghost use Rattle.pagable_blobs.specs.Blobs.{stored_in};
 ghost use Rattle.pagable_blobs.specs.Found.{IsFound};
 
+use pagable_codec::Env;
 use pagable_core::{PagableData, PagableStorage};
 use pagable_flavors::{DataKey, Error};
-use pagable_codec::Env;
 use std::alloc::Global;
 use std::collections::HashMap;
 use std::marker::PhantomData;

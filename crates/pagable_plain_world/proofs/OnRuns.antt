@@ -17,7 +17,8 @@ use Rattle.pagable_world.specs.declared.events.WorkerAnswer.{WorkerAnswer}
 use Rattle.pagable_world.specs.State.{one, held, pins, has_key, is_listed}
 use Rattle.pagable_world.specs.Words.{Among}
 use Rattle.pagable_world.specs.Whole.{Whole, KeyIs, HasType}
-use Rattle.pagable_world.specs.Seen.{IsLawful, IsSettled, SameHandles, references_in, digest}
+use Rattle.pagable_world.specs.Seen.{IsLawful, IsSettled, digest}
+use Rattle.pagable_model.specs.References.{SameHandles, references_in}
 use Rattle.pagable_world.specs.Pages.{WellFormed, HasValue, IsWhole}
 use Rattle.pagable_world.specs.Stands.{NodeStands, here, away, none-stands, ValueStands, Represents, TreeWorld}
 use Rattle.pagable_world.specs.Interleaved.{GivesTree, ClaimsAreDistinct, IsInterleaved}

@@ -14,7 +14,7 @@ use Rattle.pagable_world.specs.declared.rows.Mode.TheVariants as modes
 use Rattle.pagable_world.specs.declared.rows.Owner.TheVariants as owners
 use Rattle.pagable_world.specs.declared.events.LoadAnswer.TheVariants as ends
 use Rattle.pagable_world.specs.Whole.{Whole, Root, OpenLoad, of_cell, of_type, of_key}
-use Rattle.pagable_world.specs.Seen.{references_in}
+use Rattle.pagable_model.specs.References.{references_in}
 use Rattle.pagable_world.specs.Falls.{Falls, nobody}
 use Rattle.pagable_world.specs.Handles.{row_of}
 use Rattle.pagable_world.specs.LoadSteps.{Wants, IsRead, IsFault, root_frame, RootIsRead, LoadStepped}

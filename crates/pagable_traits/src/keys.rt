@@ -6,8 +6,8 @@ ghost use Rattle.pagable_model.specs.Keys.{KeyOrder, same_key, ordered, number_o
 ghost use Rattle.std.specs.Int.{w8, w16, w32, w64, w128};
 ghost use Rattle.pagable_model.specs.Keyed.{RefersToNothing, unsigned_refers_to_nothing, text_refers_to_nothing, letter_refers_to_nothing, number_is_same, text_is_same, number_is_ordered, text_is_ordered};
 
-use pagable_codec::env::Env;
 use crate::traits::OneMeaning;
+use pagable_codec::env::Env;
 
 /// A type whose values may be keys of a map or items of a set: two values are equal exactly if they mean the same, and
 /// no value refers to anything. Equal values hash alike by the law of `Hash`. So a map has one form, whatever values

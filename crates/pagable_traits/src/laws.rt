@@ -15,10 +15,10 @@ ghost use Rattle.std.specs.Box.{boxed_slice_items};
 ghost use Rattle.pagable_model.specs.declared.error.Error.{Error as Refusal};
 ghost use Rattle.pagable_model.specs.declared.numbers.ArcRef.{ArcRef as Reference};
 
-use pagable_codec::env::Env;
 use crate::keys::{PagableKey, PagableOrdKey};
 use crate::traits::{Carried, PagableDeserialize, PagableSerialize};
 use indexmap::{IndexMap, IndexSet};
+use pagable_codec::env::Env;
 use smallvec::SmallVec;
 use std::alloc::Global;
 use std::boxed::BoxedSlice;

@@ -3,10 +3,10 @@
 ghost use Rattle.std.specs.Int.{w8, w16, w32, w64, w128};
 ghost use Rattle.pagable_model.specs.OneForm.{HasOneFormThroughout, nothing_has_one_form, unsigned_has_one_form, signed_has_one_form, flag_has_one_form, text_has_one_form, letter_has_one_form, optional_has_one_form, list_has_one_form, both_has_one_form, sorted_map_has_one_form, placed_map_has_one_form, sorted_set_has_one_form, placed_set_has_one_form, run_has_one_form};
 
-use pagable_codec::env::Env;
 use crate::keys::{PagableKey, PagableOrdKey};
 use crate::traits::OneMeaning;
 use indexmap::{IndexMap, IndexSet};
+use pagable_codec::env::Env;
 use smallvec::SmallVec;
 use std::boxed::BoxedSlice;
 use std::collections::{BTreeMap, BTreeSet};

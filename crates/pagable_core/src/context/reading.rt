@@ -6,8 +6,8 @@ ghost use Rattle.pagable_core.specs.Fields.{references_of};
 
 use crate::context::keys::PagableKeys;
 use crate::context::references::References;
-use pagable_flavors::{DataKey, Error, PagableSlice};
 use pagable_codec::{ArcRef, Env, Kind, PagableCursor, PagableDeserializer, Reader};
+use pagable_flavors::{DataKey, Error, PagableSlice};
 
 /// A deserializer over the bytes and keys of one blob. `B` reads the bytes; `R` answers for its references and lends
 /// the environment. What is left of bytes and keys after a value is accepted.

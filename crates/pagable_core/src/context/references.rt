@@ -5,8 +5,8 @@ ghost use Rattle.pagable_model.specs.declared.numbers.ArcRef.{ArcRef as Referenc
 ghost use Rattle.pagable_model.specs.declared.error.Error.{Error as Refusal};
 ghost use Rattle.pagable_model.specs.declared.error.Error.TheVariants.{WrongKind};
 
-use pagable_flavors::{DataKey, Error};
 use pagable_codec::{ArcRef, Env, Kind};
+use pagable_flavors::{DataKey, Error};
 
 /// What lends a deserializer its environment and answers for its references. An answer depends on the place of the
 /// reference in the blob, its key and its kind alone, so that a blob may be read again from its front.

@@ -4,8 +4,8 @@ ghost use Rattle.std.specs.Prelude.{◌≡◌, refl, [], length, IsOk, IfOk};
 ghost use Rattle.pagable_core.specs.Context.{nothing, out_of};
 ghost use Rattle.pagable_core.specs.Fields.{written, levels_written, writers_environment, with_written};
 
-use pagable_flavors::{Error, PagableVecFlavor};
 use pagable_codec::{ArcRef, Env, PagableCursor, PagableSerializer};
+use pagable_flavors::{Error, PagableVecFlavor};
 use std::alloc::Global;
 
 /// A value in bytes, with its references in the order in which they were written.

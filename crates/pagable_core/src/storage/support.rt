@@ -4,8 +4,8 @@ ghost use Rattle.std.specs.Prelude.{◌≡◌, refl};
 ghost use Rattle.pagable_core.specs.Context.{nothing, pair_out};
 ghost use Rattle.pagable_core.specs.Fields.{paged, levels_paged, pagings_environment, with_paged};
 
-use pagable_flavors::{Error, PagableVecFlavor};
 use pagable_codec::{ArcRef, Env, PagableCursor, PagableSerializer};
+use pagable_flavors::{Error, PagableVecFlavor};
 use std::alloc::Global;
 
 /// The serializer that page-out writes a value to. It is lent the environment, and its writing takes no lock.

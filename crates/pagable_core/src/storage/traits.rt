@@ -7,8 +7,8 @@ ghost use Rattle.pagable_core.specs.Data.{blob_of};
 ghost use Rattle.pagable_model.specs.Stored.{Adds, RefusesFetch, RefusesStore, RefusesFlush};
 
 use crate::storage::data::PagableData;
-use pagable_flavors::{DataKey, Error};
 use pagable_codec::Env;
+use pagable_flavors::{DataKey, Error};
 use std::alloc::Global;
 use std::sync::Arc;
 

@@ -7,11 +7,11 @@ ghost use Rattle.pagable_model.specs.Shape.{flag, letter, nothing};
 ghost use Rattle.pagable_model.specs.Standing.{Is};
 ghost use Rattle.pagable_model.specs.Causes.{never_is_own_reading, never_is_own_writing, memory_is_own_writing};
 
+use crate::traits::{Carried, OneMeaning, PagableDeserialize, PagableSerialize};
 use pagable_codec::deserializer::PagableDeserializer;
 use pagable_codec::env::Env;
 use pagable_codec::reader::Reader;
 use pagable_codec::serializer::PagableSerializer;
-use crate::traits::{Carried, OneMeaning, PagableDeserialize, PagableSerialize};
 use pagable_flavors::Error;
 use std::alloc::Global;
 

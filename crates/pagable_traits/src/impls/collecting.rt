@@ -6,10 +6,10 @@ ghost use Rattle.pagable_model.specs.Reading.{items, read};
 ghost use Rattle.pagable_model.specs.Standing.{handles_at, MovesOn, GivesSome};
 ghost use Rattle.pagable_model.specs.Collected.{Collected};
 
+use crate::traits::PagableDeserialize;
 use pagable_codec::deserializer::PagableDeserializer;
 use pagable_codec::env::Env;
 use pagable_codec::parts::places_for;
-use crate::traits::PagableDeserialize;
 use pagable_flavors::Error;
 use std::alloc::Global;
 

@@ -7,11 +7,11 @@ ghost use Rattle.pagable_model.specs.Shape.{optional, both};
 ghost use Rattle.pagable_model.specs.Causes.{memory_or_is_own_reading, memory_or_is_own_writing, either_is_own_reading, either_is_own_writing};
 ghost use Rattle.pagable_model.specs.Lifted.{MeansOption, option_has_meaning, option_is_meaning, option_single, MeansPair, pair_has_meaning, pair_is_meaning, pair_single};
 
+use crate::traits::{Carried, OneMeaning, PagableDeserialize, PagableSerialize};
 use pagable_codec::deserializer::PagableDeserializer;
 use pagable_codec::env::Env;
 use pagable_codec::parts::{read_flag, write_flag};
 use pagable_codec::serializer::PagableSerializer;
-use crate::traits::{Carried, OneMeaning, PagableDeserialize, PagableSerialize};
 use pagable_flavors::Error;
 use std::alloc::Global;
 

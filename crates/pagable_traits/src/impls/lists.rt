@@ -10,12 +10,12 @@ ghost use Rattle.pagable_model.specs.Writing.{nesting, WritesSome, WritesSomeAll
 ghost use Rattle.pagable_model.specs.Causes.{memory_or_is_own_reading, memory_or_is_own_writing};
 ghost use Rattle.pagable_model.specs.Lifted.{MeanAll, MeansList, list_has_meaning, list_is_meaning, list_single};
 
+use crate::traits::{Carried, OneMeaning, PagableDeserialize, PagableSerialize};
 use pagable_codec::deserializer::PagableDeserializer;
 use pagable_codec::env::Env;
 use pagable_codec::parts::{places_for, read_count, write_count};
 use pagable_codec::reader::Reader;
 use pagable_codec::serializer::PagableSerializer;
-use crate::traits::{Carried, OneMeaning, PagableDeserialize, PagableSerialize};
 use pagable_flavors::Error;
 use std::alloc::Global;
 

@@ -9,13 +9,13 @@ ghost use Rattle.pagable_model.specs.Writing.{nesting, WritesSome, WritesSomeAll
 ghost use Rattle.pagable_model.specs.Causes.{memory_or_is_own_reading, memory_or_is_own_writing, either_is_own_reading, either_is_own_writing};
 ghost use Rattle.pagable_model.specs.Lifted.{MeanAll, MeansList, MeansPair, list_has_meaning, pair_has_meaning, list_is_meaning, pair_is_meaning, list_single, pair_single};
 
+use crate::impls::collecting::{Collects, collect_items};
+use crate::keys::PagableOrdKey;
+use crate::traits::{Carried, OneMeaning, PagableDeserialize, PagableSerialize};
 use pagable_codec::deserializer::PagableDeserializer;
 use pagable_codec::env::Env;
-use crate::impls::collecting::{Collects, collect_items};
 use pagable_codec::parts::{read_count, write_count};
-use crate::keys::PagableOrdKey;
 use pagable_codec::serializer::PagableSerializer;
-use crate::traits::{Carried, OneMeaning, PagableDeserialize, PagableSerialize};
 use pagable_flavors::Error;
 use std::alloc::Global;
 use std::collections::BTreeMap;

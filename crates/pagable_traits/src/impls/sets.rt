@@ -10,15 +10,15 @@ ghost use Rattle.pagable_model.specs.Writing.{nesting, WritesSomeAll, RefusedAll
 ghost use Rattle.pagable_model.specs.Causes.{memory_or_is_own_reading, memory_or_is_own_writing};
 ghost use Rattle.pagable_model.specs.Lifted.{MeanAll, MeansList, list_has_meaning, list_is_meaning, list_single};
 
-use pagable_codec::deserializer::PagableDeserializer;
-use pagable_codec::env::Env;
 use crate::impls::collecting::{Collects, collect_items};
 use crate::impls::lists::write_items;
-use pagable_codec::parts::{read_count, write_count};
 use crate::keys::{PagableKey, PagableOrdKey};
-use pagable_codec::serializer::PagableSerializer;
 use crate::traits::{Carried, OneMeaning, PagableDeserialize, PagableSerialize};
 use indexmap::IndexSet;
+use pagable_codec::deserializer::PagableDeserializer;
+use pagable_codec::env::Env;
+use pagable_codec::parts::{read_count, write_count};
+use pagable_codec::serializer::PagableSerializer;
 use pagable_flavors::Error;
 use std::alloc::Global;
 use std::collections::BTreeSet;

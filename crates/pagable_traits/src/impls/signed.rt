@@ -8,11 +8,11 @@ ghost use Rattle.pagable_model.specs.Shape.{signed};
 ghost use Rattle.pagable_model.specs.Standing.{Is};
 ghost use Rattle.pagable_model.specs.Causes.{never_is_own_reading, memory_is_own_writing};
 
+use crate::traits::{Carried, OneMeaning, PagableDeserialize, PagableSerialize};
 use pagable_codec::deserializer::PagableDeserializer;
 use pagable_codec::env::Env;
 use pagable_codec::reader::Reader;
 use pagable_codec::serializer::PagableSerializer;
-use crate::traits::{Carried, OneMeaning, PagableDeserialize, PagableSerialize};
 use pagable_flavors::Error;
 use std::alloc::Global;
 

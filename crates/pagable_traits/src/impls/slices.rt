@@ -9,11 +9,11 @@ ghost use Rattle.pagable_model.specs.Writing.{nesting, WritesSome, Refused, IsRe
 ghost use Rattle.pagable_model.specs.Causes.{memory_or_is_own_reading, memory_or_is_own_writing};
 ghost use Rattle.pagable_model.specs.Lifted.{MeansList, list_has_meaning, list_is_meaning, list_single};
 
+use crate::impls::lists::{write_items, write_list};
+use crate::traits::{Carried, OneMeaning, PagableDeserialize, PagableSerialize};
 use pagable_codec::deserializer::PagableDeserializer;
 use pagable_codec::env::Env;
-use crate::impls::lists::{write_items, write_list};
 use pagable_codec::serializer::PagableSerializer;
-use crate::traits::{Carried, OneMeaning, PagableDeserialize, PagableSerialize};
 use pagable_flavors::Error;
 use std::alloc::Global;
 use std::boxed::BoxedSlice;

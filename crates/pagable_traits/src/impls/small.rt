@@ -7,13 +7,13 @@ ghost use Rattle.pagable_model.specs.Shape.{list};
 ghost use Rattle.pagable_model.specs.Causes.{memory_or_is_own_reading, memory_or_is_own_writing};
 ghost use Rattle.pagable_model.specs.Lifted.{MeansList, list_has_meaning, list_is_meaning, list_single};
 
-use pagable_codec::deserializer::PagableDeserializer;
-use pagable_codec::env::Env;
 use crate::impls::collecting::{Collects, collect_items};
 use crate::impls::lists::write_list;
+use crate::traits::{Carried, OneMeaning, PagableDeserialize, PagableSerialize};
+use pagable_codec::deserializer::PagableDeserializer;
+use pagable_codec::env::Env;
 use pagable_codec::parts::read_count;
 use pagable_codec::serializer::PagableSerializer;
-use crate::traits::{Carried, OneMeaning, PagableDeserialize, PagableSerialize};
 use pagable_flavors::Error;
 use smallvec::SmallVec;
 use std::alloc::Global;
