@@ -1,6 +1,6 @@
 use Rattle.std.proofs.Common.{arith}
 use Rattle.pagable_codec.proofs.Writing.{grows_trans, grows_writes, grows_same, only_memory}
-use Rattle.pagable_traits.proofs.Parts.{grows_added_bytes}
+use Rattle.pagable_codec.proofs.Adding.{grows_added_bytes}
 use Rattle.pagable_samples.proofs.Nesting.{writes_down, refused_down, refused_deep, only_deep, writes_end, writes_more, no_first, no_rest, refused_memory_alone}
 use Rattle.pagable_samples.proofs.nested.+writing_lists.Goals as goal
 
