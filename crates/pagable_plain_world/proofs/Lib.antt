@@ -19,3 +19,4 @@ mod OnSteps
 mod OnWork
 mod OnRuns
 mod OnTurns
+mod Births

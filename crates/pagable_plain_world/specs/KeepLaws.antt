@@ -4,6 +4,7 @@ use Rattle.pagable_model.specs.declared.error.Error.{Error}
 use Rattle.pagable_model.specs.declared.numbers.HandleNumber.{HandleNumber}
 use Rattle.pagable_model.specs.declared.numbers.Kind.{Kind}
 use Rattle.pagable_model.specs.Blob.{Blob}
+use Rattle.pagable_world.specs.declared.rows.Mode.{Mode}
 use Rattle.pagable_world.specs.declared.rows.Owner.{Owner}
 use Rattle.pagable_world.specs.declared.rows.Owner.TheVariants as owners
 use Rattle.pagable_world.specs.declared.answers.Pinning.{Pinning}
@@ -15,7 +16,7 @@ use Rattle.pagable_world.specs.Pages.{IsWhole}
 use Rattle.pagable_world.specs.Seen.{Seen}
 use Rattle.pagable_world.specs.Steps.{CallStep}
 use Rattle.pagable_world.specs.Storing.{RecallCall, FetchCall, StoreCall, FlushCall}
-use Rattle.pagable_world.specs.Handles.{CloneCall, PinCall, UnpinCall, ReleaseCall, LoosenCall, ScheduleCall, TakeCall}
+use Rattle.pagable_world.specs.Handles.{BirthCall, AwayBirthCall, CloneCall, PinCall, UnpinCall, ReleaseCall, LoosenCall, ScheduleCall, TakeCall}
 
 -- A clone of the caller's keeps the world whole, and so it does where it is refused.
 abbrev pub CloneKeeps : Type 0
@@ -73,3 +74,10 @@ IsLook _ = ⊥
 -- A look-up changes nothing.
 abbrev pub LookChangesNothing : {N B W : Type 0} → Seen N B W → Type 0
 LookChangesNothing {N} {B} {W} m = (w w' : Whole) (me : Owner) (call : Call N B) (reply : Reply N B) → IsLook call → CallStep m w me call reply w' → w' ≡ w
+
+-- So does a new node of a value, which takes the handles that it refers to; and a new cell that is away.
+abbrev pub BirthKeeps : {N B W : Type 0} → Seen N B W → Type 0
+BirthKeeps {N} m = (w w' : Whole) (x : N) (mode : Mode) (r : Result HandleNumber (Error × N)) → IsWhole w → BirthCall w owners.Caller x (m.node_type x) (m.references x) mode r w' → IsWhole w'
+
+abbrev pub AwayBirthKeeps : Type 0
+AwayBirthKeeps = (w w' : Whole) (t key : ℕ) (r : Result HandleNumber Error) → IsWhole w → AwayBirthCall w owners.Caller t key r w' → IsWhole w'

@@ -4,7 +4,7 @@ ghost use Rattle.pagable_world.specs.Seen.{Seen};
 ghost use Rattle.pagable_plain_world.specs.FallLaws.{IsThere, IsOne, IsGivenAlone, PinsAreAFilter, TwoLevelsFall, TwoLevelsAreReleased, LoneIsListed};
 ghost use Rattle.pagable_plain_world.specs.RunLaws.{RunsJoin, NewIsWhole};
 ghost use Rattle.pagable_plain_world.specs.Bridges.{ReleasesToday, UnpinsToday};
-ghost use Rattle.pagable_plain_world.specs.KeepLaws.{CloneKeeps, PinKeeps, UnpinKeeps, ReleaseKeeps, LoosenKeeps, ScheduleKeeps, TakeKeeps, RecallKeeps, FetchKeeps, StoreKeeps, FlushKeeps, LookChangesNothing};
+ghost use Rattle.pagable_plain_world.specs.KeepLaws.{BirthKeeps, AwayBirthKeeps, CloneKeeps, PinKeeps, UnpinKeeps, ReleaseKeeps, LoosenKeeps, ScheduleKeeps, TakeKeeps, RecallKeeps, FetchKeeps, StoreKeeps, FlushKeeps, LookChangesNothing};
 ghost use Rattle.pagable_plain_world.specs.NearMisses.{NewNodeHasItsValue, NoLoadInMemory, OnlyLooseIsUnfit, ItemIsAtOne, FirstIsTheRoot, NoWaitForFree};
 
 /// How values of this type are seen, with blobs B and what is written W: any values, so that a law is one of all.
@@ -53,6 +53,12 @@ pub fn calls_keep_whole()
     ensures fetch { FetchKeeps }
     ensures store { StoreKeeps }
     ensures flush { FlushKeeps }
+{}
+
+/// So do births: a new node takes the handles that its value refers to.
+pub fn births_keep_whole<N: SeenAs<B, W>, B, W>()
+    ensures birth { BirthKeeps N.seen }
+    ensures away_birth { AwayBirthKeeps }
 {}
 
 /// A look-up changes nothing.
