@@ -20,3 +20,4 @@ mod OnWork
 mod OnRuns
 mod OnTurns
 mod Births
+mod Backward

@@ -206,7 +206,7 @@ both-true true false some = absurd (omega arith)
 both-true false b some = absurd (omega arith)
 
 -- an entry of the list has a row, which the list owns
-entry-row : (w : Whole) → IsWhole w → (h : HandleNumber) → Among w.list h → (row : HandleRow) × HasRowOf w h row × (row.owner ≡ owners.List)
+pub entry-row : (w : Whole) → IsWhole w → (h : HandleNumber) → Among w.list h → (row : HandleRow) × HasRowOf w h row × (row.owner ≡ owners.List)
 entry-row w whole h among =
     let a = at-most-sum (λ x. one (is_entry_of h.0 x)) w.list h among in
     let b = whole.owners_there.listed h.0 in

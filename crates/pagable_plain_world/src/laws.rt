@@ -3,7 +3,7 @@
 ghost use Rattle.pagable_world.specs.Seen.{Seen};
 ghost use Rattle.pagable_plain_world.specs.FallLaws.{IsThere, IsOne, IsGivenAlone, PinsAreAFilter, TwoLevelsFall, TwoLevelsAreReleased, LoneIsListed};
 ghost use Rattle.pagable_plain_world.specs.RunLaws.{RunsJoin, NewIsWhole};
-ghost use Rattle.pagable_plain_world.specs.Bridges.{ReleasesToday, UnpinsToday};
+ghost use Rattle.pagable_plain_world.specs.Bridges.{ReleasesToday, ReleaseIsToday, UnpinsToday};
 ghost use Rattle.pagable_plain_world.specs.KeepLaws.{BirthKeeps, AwayBirthKeeps, CloneKeeps, PinKeeps, UnpinKeeps, ReleaseKeeps, LoosenKeeps, ScheduleKeeps, TakeKeeps, RecallKeeps, FetchKeeps, StoreKeeps, FlushKeeps, LookChangesNothing};
 ghost use Rattle.pagable_plain_world.specs.NearMisses.{NewNodeHasItsValue, NoLoadInMemory, OnlyLooseIsUnfit, ItemIsAtOne, FirstIsTheRoot, NoWaitForFree};
 
@@ -31,6 +31,11 @@ pub fn given_fall_alone()
 /// A release as today's tables do it is one of the whole world.
 pub fn releases_today()
     ensures { ReleasesToday }
+{}
+
+/// And a release of the whole world, where no value owns a handle, is one as today's tables do it.
+pub fn release_is_today()
+    ensures { ReleaseIsToday }
 {}
 
 /// An unpin as today's tables do it is one of the whole world.
