@@ -1,6 +1,6 @@
 -- Where no value owns a handle, a release of the whole world is one as today's tables do it.
-use Rattle.std.proofs.Common.{◌≡◌, ℕ, suc, zero, ◌+◌, ◌<◌, ◌≤◌, ◌==◌, ◌&&◌, Bool, true, false, cond, List, [], ◌∷◌, ◌++◌, length, map, sum_by, refl, ap, sym, ◌∙◌, subst, inl, inr, arith}
-use Rattle.std.specs.Prelude.{filter, not, nat_lt, nat_eq, ◌≢◌, ◌⊎◌, Result, Ok, Err, Some, slice_get}
+use Rattle.std.proofs.Common.{◌≡◌, ℕ, suc, zero, ◌+◌, ◌<◌, ◌≤◌, ◌==◌, ◌&&◌, Bool, true, false, cond, List, [], ◌∷◌, ◌++◌, length, map, refl, ap, sym, ◌∙◌, subst, inl, inr, arith}
+use Rattle.std.specs.Prelude.{filter, not, nat_lt, nat_eq, Result, Ok, Err, Some, slice_get}
 use Rattle.std.specs.List.{remove}
 use Rattle.std.proofs.lemmas.Bool.Decides.{nat_tests}
 use Rattle.std.proofs.lemmas.List.{append-nil}
@@ -19,8 +19,8 @@ use Rattle.pagable_world.specs.declared.rows.HandleRow.{HandleRow}
 use Rattle.pagable_world.specs.declared.rows.LoadRow.{LoadRow}
 use Rattle.pagable_world.specs.State.{one, pins, held, pin_of, handle_of, is_pinning, is_shared, has_key}
 use Rattle.pagable_world.specs.Cells.{Cell, CellsFollow}
-use Rattle.pagable_world.specs.World.{World, greatest, enlisted, Leaves, HasKey, NeedsListing, NeedsNoListing, Prepared, CannotMake}
-use Rattle.pagable_world.specs.Words.{Among, times}
+use Rattle.pagable_world.specs.World.{greatest, enlisted, Leaves, NeedsListing, NeedsNoListing, CannotMake}
+use Rattle.pagable_world.specs.Words.{Among}
 use Rattle.pagable_world.specs.Least.{keyed, keyed_at, sharing, share_of}
 use Rattle.pagable_world.specs.Whole.{Whole, is_cell}
 use Rattle.pagable_world.specs.Falls.{MustList, Falls, AreNewEntries, IsListRefusal, TellsListing, left_rows, only_handle}
