@@ -33,12 +33,12 @@ use Rattle.pagable_plain_world.proofs.Places.{unique}
 use Rattle.pagable_plain_world.proofs.Keeping.{among-get, pushed, stays-whole}
 use Rattle.pagable_plain_world.proofs.Dropping.{number-below}
 
-same-if : {X : Type 0} (b : Bool) (f : X → ℕ) (x y : X) → (b ≡ true → f y ≡ f x) → f (if b then y else x) ≡ f x
+pub same-if : {X : Type 0} (b : Bool) (f : X → ℕ) (x y : X) → (b ≡ true → f y ≡ f x) → f (if b then y else x) ≡ f x
 same-if true f x y same = same refl
 same-if false f x y same = refl
 
 -- a sum over the list with some changed, where the change doesn't count
-sum-changed : {X : Type 0} (f : X → ℕ) (test : X → Bool) (g : X → X) (xs : List X) → ((x : X) → Among xs x → test x ≡ true → f (g x) ≡ f x) → sum_by f (changed test g xs) ≡ sum_by f xs
+pub sum-changed : {X : Type 0} (f : X → ℕ) (test : X → Bool) (g : X → X) (xs : List X) → ((x : X) → Among xs x → test x ≡ true → f (g x) ≡ f x) → sum_by f (changed test g xs) ≡ sum_by f xs
 sum-changed f test g [] same = refl
 sum-changed f test g (x ∷ xs) same =
     let a = sum_by-cons f (if test x then g x else x) (changed test g xs) in

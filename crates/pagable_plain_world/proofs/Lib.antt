@@ -21,3 +21,4 @@ mod OnRuns
 mod OnTurns
 mod Births
 mod Backward
+mod Rekeying

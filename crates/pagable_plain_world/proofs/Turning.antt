@@ -172,7 +172,7 @@ mode-whole w h row mode whole at mine share =
     subst IsWhole (sym (ap (λ rows. record w { rows = rows }) same))
     (turned-whole w whole at.0.0 row new at.0.1 refl refl share w.list (caller-at-hand row.owner mine) (caller-at-hand row.owner mine) (λ q. refl) (λ listed. let a : is_listed row.owner ≡ true = ap is_listed listed in let b : is_listed row.owner ≡ false = ap is_listed mine in absurd (grind (arith, nat_tests))))
 
-loose-unshared : (m : Mode) → is_loose m ≡ true → is_shared m ≡ false
+pub loose-unshared : (m : Mode) → is_loose m ≡ true → is_shared m ≡ false
 loose-unshared modes.LoosePinned e = refl
 loose-unshared modes.LooseUnpinned e = refl
 loose-unshared modes.Pinned e = refl
