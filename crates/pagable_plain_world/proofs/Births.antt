@@ -1,6 +1,6 @@
 -- A new node, with its value's references or with a key, keeps the world whole.
-use Rattle.std.proofs.Common.{◌≡◌, ℕ, suc, zero, ◌+◌, ◌<◌, ◌≤◌, ◌==◌, ◌&&◌, ◌||◌, Bool, true, false, List, [], ◌∷◌, ◌++◌, length, get_or, map, sum_by, refl, ap, sym, ◌∙◌, subst, inl, inr, arith}
-use Rattle.std.specs.Prelude.{◌⊎◌, not, nat_lt, if◌then◌else◌, Some, Result, Ok, Err, slice_get}
+use Rattle.std.proofs.Common.{◌≡◌, ℕ, suc, zero, ◌+◌, ◌<◌, ◌≤◌, ◌==◌, ◌&&◌, ◌||◌, Bool, true, false, List, [], ◌∷◌, ◌++◌, length, get_or, sum_by, refl, ap, sym, ◌∙◌, subst, inl, inr, arith}
+use Rattle.std.specs.Prelude.{◌⊎◌, nat_lt, if◌then◌else◌, Ok, Err}
 use Rattle.std.specs.List.{AllPairs}
 use Rattle.std.proofs.lemmas.Bool.Decides.{nat_tests}
 use Rattle.std.proofs.lemmas.List.{length-map}
@@ -21,7 +21,7 @@ use Rattle.pagable_world.specs.Cells.{Cell}
 use Rattle.pagable_world.specs.World.{greatest}
 use Rattle.pagable_world.specs.Words.{Among, times, changed}
 use Rattle.pagable_world.specs.Least.{sharing, share_of, keyed, keyed_at}
-use Rattle.pagable_world.specs.Whole.{Whole, is_owner, is_cell, is_entry_of, HasRowOf, HasType}
+use Rattle.pagable_world.specs.Whole.{Whole, is_owner, is_cell, HasRowOf, HasType}
 use Rattle.pagable_world.specs.Seen.{Seen}
 use Rattle.pagable_world.specs.Kinds.{FitsMode}
 use Rattle.pagable_world.specs.Causes.{AreReferences}
@@ -33,12 +33,12 @@ use Rattle.pagable_plain_world.proofs.Places.{unique}
 use Rattle.pagable_plain_world.proofs.Keeping.{among-get, pushed, stays-whole}
 use Rattle.pagable_plain_world.proofs.Dropping.{number-below}
 
-same-if : {X : Type 0} (b : Bool) (f : X → ℕ) (x y : X) → (b ≡ true → f y ≡ f x) → f (if b then y else x) ≡ f x
+pub same-if : {X : Type 0} (b : Bool) (f : X → ℕ) (x y : X) → (b ≡ true → f y ≡ f x) → f (if b then y else x) ≡ f x
 same-if true f x y same = same refl
 same-if false f x y same = refl
 
 -- a sum over the list with some changed, where the change doesn't count
-sum-changed : {X : Type 0} (f : X → ℕ) (test : X → Bool) (g : X → X) (xs : List X) → ((x : X) → Among xs x → test x ≡ true → f (g x) ≡ f x) → sum_by f (changed test g xs) ≡ sum_by f xs
+pub sum-changed : {X : Type 0} (f : X → ℕ) (test : X → Bool) (g : X → X) (xs : List X) → ((x : X) → Among xs x → test x ≡ true → f (g x) ≡ f x) → sum_by f (changed test g xs) ≡ sum_by f xs
 sum-changed f test g [] same = refl
 sum-changed f test g (x ∷ xs) same =
     let a = sum_by-cons f (if test x then g x else x) (changed test g xs) in

@@ -61,7 +61,7 @@ unshared-mode modes.Shared other = absurd (other refl)
 
 module _ (w : Whole) (whole : IsWhole w) (h : HandleNumber) (i : ℕ) (row : HandleRow) (there : slice_get w.rows i ≡ Some row) (number : row.number.0 ≡ h.0) (owner : row.owner ≡ owners.Caller) where
   -- the caller's handle isn't in the list
-  unlisted : (q : HandleNumber) → Among w.list q → not (only_handle h q.0) ≡ true
+  pub unlisted : (q : HandleNumber) → Among w.list q → not (only_handle h q.0) ≡ true
   unlisted q among = part (q.0 == h.0) refl
     where
       owned : (x : HandleRow) → Among w.rows x → 0 < is_entry h.0 x → ⊥
@@ -90,7 +90,7 @@ module _ (w : Whole) (whole : IsWhole w) (h : HandleNumber) (i : ℕ) (row : Han
   list-stays = append-nil _ ∙ filter-all (λ q. not (only_handle h q.0)) w.list unlisted
 
   -- the handle's row leaves, and no other
-  row-goes : left_rows (only_handle h) w.rows ≡ remove w.rows i
+  pub row-goes : left_rows (only_handle h) w.rows ≡ remove w.rows i
   row-goes =
       let mine = same-number row.number.0 h.0 number in
       let few = sum-le (λ y. one (not (not (only_handle h y.number.0)))) (is_number h.0) w.rows (λ y among. grind (arith, nat_tests)) in
@@ -132,7 +132,7 @@ module _ (w : Whole) (whole : IsWhole w) (h : HandleNumber) (i : ℕ) (row : Han
       decide false e = let none : held row.node.0 rows ≡ 0 = grind (arith, nat_tests) in leaves none (follows.goes none)
 
   -- of other nodes no handle leaves
-  others-stay : (q : ℕ) → (q == row.node.0) ≡ false → held q (remove w.rows i) ≡ held q w.rows
+  pub others-stay : (q : ℕ) → (q == row.node.0) ≡ false → held q (remove w.rows i) ≡ held q w.rows
   others-stay q e = let a = sum-remove (handle_of q) w.rows i row there in grind (arith, nat_tests)
 
   -- the world without the handle

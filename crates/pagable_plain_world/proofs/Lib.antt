@@ -20,3 +20,5 @@ mod OnWork
 mod OnRuns
 mod OnTurns
 mod Births
+mod Backward
+mod Rekeying

@@ -172,7 +172,7 @@ mode-whole w h row mode whole at mine share =
     subst IsWhole (sym (ap (λ rows. record w { rows = rows }) same))
     (turned-whole w whole at.0.0 row new at.0.1 refl refl share w.list (caller-at-hand row.owner mine) (caller-at-hand row.owner mine) (λ q. refl) (λ listed. let a : is_listed row.owner ≡ true = ap is_listed listed in let b : is_listed row.owner ≡ false = ap is_listed mine in absurd (grind (arith, nat_tests))))
 
-loose-unshared : (m : Mode) → is_loose m ≡ true → is_shared m ≡ false
+pub loose-unshared : (m : Mode) → is_loose m ≡ true → is_shared m ≡ false
 loose-unshared modes.LoosePinned e = refl
 loose-unshared modes.LooseUnpinned e = refl
 loose-unshared modes.Pinned e = refl
@@ -206,7 +206,7 @@ both-true true false some = absurd (omega arith)
 both-true false b some = absurd (omega arith)
 
 -- an entry of the list has a row, which the list owns
-entry-row : (w : Whole) → IsWhole w → (h : HandleNumber) → Among w.list h → (row : HandleRow) × HasRowOf w h row × (row.owner ≡ owners.List)
+pub entry-row : (w : Whole) → IsWhole w → (h : HandleNumber) → Among w.list h → (row : HandleRow) × HasRowOf w h row × (row.owner ≡ owners.List)
 entry-row w whole h among =
     let a = at-most-sum (λ x. one (is_entry_of h.0 x)) w.list h among in
     let b = whole.owners_there.listed h.0 in

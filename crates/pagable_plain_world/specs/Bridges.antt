@@ -28,3 +28,9 @@ UnpinsToday =
     (w : Whole) (loads : List LoadRow) (h : HandleNumber) (r : Result (Unit {0}) Error) (v : World)
     → IsWhole w → OwnsNothing w.rows → w.closed ≡ false → Unpinned (today loads w) h r v
     → (w' : Whole) × (today loads w' ≡ v) × UnpinCall w owners.Caller h r w'
+
+-- And where no value owns a handle, a release of the whole world is one as today's tables do it.
+abbrev pub ReleaseIsToday : Type 0
+ReleaseIsToday =
+    (w w' : Whole) (loads : List LoadRow) (h : HandleNumber) (r : Result (Unit {0}) Error)
+    → IsWhole w → OwnsNothing w.rows → ReleaseCall w owners.Caller h r w' → w.closed ≡ false → Released (today loads w) h r (today loads w')

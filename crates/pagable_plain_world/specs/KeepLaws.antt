@@ -16,7 +16,7 @@ use Rattle.pagable_world.specs.Pages.{IsWhole}
 use Rattle.pagable_world.specs.Seen.{Seen}
 use Rattle.pagable_world.specs.Steps.{CallStep}
 use Rattle.pagable_world.specs.Storing.{RecallCall, FetchCall, StoreCall, FlushCall}
-use Rattle.pagable_world.specs.Handles.{BirthCall, AwayBirthCall, CloneCall, PinCall, UnpinCall, ReleaseCall, LoosenCall, ScheduleCall, TakeCall}
+use Rattle.pagable_world.specs.Handles.{BirthCall, AwayBirthCall, CloneCall, PinCall, UnpinCall, ReleaseCall, LoosenCall, SetKeyCall, ScheduleCall, TakeCall}
 
 -- A clone of the caller's keeps the world whole, and so it does where it is refused.
 abbrev pub CloneKeeps : Type 0
@@ -81,3 +81,7 @@ BirthKeeps {N} m = (w w' : Whole) (x : N) (mode : Mode) (r : Result HandleNumber
 
 abbrev pub AwayBirthKeeps : Type 0
 AwayBirthKeeps = (w w' : Whole) (t key : ℕ) (r : Result HandleNumber Error) → IsWhole w → AwayBirthCall w owners.Caller t key r w' → IsWhole w'
+
+-- So does setting a key, and whatever falls with the value that goes.
+abbrev pub SetKeyKeeps : Type 0
+SetKeyKeeps = (w w' : Whole) (h : HandleNumber) (key : ℕ) (r : Result (Unit {0}) Error) → IsWhole w → SetKeyCall w owners.Caller h key r w' → IsWhole w'

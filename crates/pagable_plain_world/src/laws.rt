@@ -3,8 +3,8 @@
 ghost use Rattle.pagable_world.specs.Seen.{Seen};
 ghost use Rattle.pagable_plain_world.specs.FallLaws.{IsThere, IsOne, IsGivenAlone, PinsAreAFilter, TwoLevelsFall, TwoLevelsAreReleased, LoneIsListed};
 ghost use Rattle.pagable_plain_world.specs.RunLaws.{RunsJoin, NewIsWhole};
-ghost use Rattle.pagable_plain_world.specs.Bridges.{ReleasesToday, UnpinsToday};
-ghost use Rattle.pagable_plain_world.specs.KeepLaws.{BirthKeeps, AwayBirthKeeps, CloneKeeps, PinKeeps, UnpinKeeps, ReleaseKeeps, LoosenKeeps, ScheduleKeeps, TakeKeeps, RecallKeeps, FetchKeeps, StoreKeeps, FlushKeeps, LookChangesNothing};
+ghost use Rattle.pagable_plain_world.specs.Bridges.{ReleasesToday, ReleaseIsToday, UnpinsToday};
+ghost use Rattle.pagable_plain_world.specs.KeepLaws.{BirthKeeps, AwayBirthKeeps, CloneKeeps, PinKeeps, UnpinKeeps, ReleaseKeeps, SetKeyKeeps, LoosenKeeps, ScheduleKeeps, TakeKeeps, RecallKeeps, FetchKeeps, StoreKeeps, FlushKeeps, LookChangesNothing};
 ghost use Rattle.pagable_plain_world.specs.NearMisses.{NewNodeHasItsValue, NoLoadInMemory, OnlyLooseIsUnfit, ItemIsAtOne, FirstIsTheRoot, NoWaitForFree};
 
 /// How values of this type are seen, with blobs B and what is written W: any values, so that a law is one of all.
@@ -31,6 +31,11 @@ pub fn given_fall_alone()
 /// A release as today's tables do it is one of the whole world.
 pub fn releases_today()
     ensures { ReleasesToday }
+{}
+
+/// And a release of the whole world, where no value owns a handle, is one as today's tables do it.
+pub fn release_is_today()
+    ensures { ReleaseIsToday }
 {}
 
 /// An unpin as today's tables do it is one of the whole world.
@@ -66,10 +71,11 @@ pub fn look_changes_nothing<N: SeenAs<B, W>, B, W>()
     ensures { LookChangesNothing N.seen }
 {}
 
-/// So do an unpin and a release, whatever falls with them.
+/// So do an unpin, a release and a key that is set, whatever falls with them.
 pub fn falls_keep_whole()
     ensures unpin { UnpinKeeps }
     ensures release { ReleaseKeeps }
+    ensures set_key { SetKeyKeeps }
 {}
 
 /// The number of pins is the length of the list of the node's pinning handles.
