@@ -30,3 +30,4 @@ pub mod Headline
 pub mod Alone
 pub mod Over
 pub mod Results
+pub mod MachineSteps

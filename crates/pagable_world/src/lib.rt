@@ -6,6 +6,7 @@ pub mod answers;
 pub mod cached;
 pub mod calls;
 pub mod events;
+pub mod machine;
 pub mod rows;
 
 pub use answers::{Beginning, EndRefusal, Pinning};
@@ -15,4 +16,5 @@ pub use events::{
     Claim, Event, EventReply, LoadAnswer, LoadReply, PinStep, TableNumber, Took, WorkerAnswer,
     WorkerReply,
 };
+pub use machine::MachineCall;
 pub use rows::{HandleRow, LoadRow, Mode, NodeRow, Owner};

@@ -1,0 +1,110 @@
+-- The plain world of a machine, for values that hold no references: tables without counts, and the store; and what one call
+-- answers and does to it.
+use Rattle.std.specs.Prelude.{ℕ, ◌≡◌, ◌≢◌, ◌≤◌, ◌⊎◌, Bool, List, [], length, sum_by, Option, Some, None, Result, Ok, Err}
+use Rattle.pagable_model.specs.declared.error.Error.{Error}
+use Rattle.pagable_model.specs.declared.error.Error.TheVariants as errors
+use Rattle.pagable_model.specs.declared.numbers.ArcRef.{ArcRef}
+use Rattle.pagable_model.specs.declared.numbers.HandleNumber.{HandleNumber}
+use Rattle.pagable_model.specs.declared.numbers.LoadNumber.{LoadNumber}
+use Rattle.pagable_model.specs.declared.numbers.NodeNumber.{NodeNumber}
+use Rattle.pagable_model.specs.Blob.{Blob}
+use Rattle.pagable_model.specs.Stored.{Adds, RefusesFetch, RefusesStore}
+use Rattle.pagable_world.specs.declared.rows.Mode.{Mode}
+use Rattle.pagable_world.specs.declared.rows.Mode.TheVariants as modes
+use Rattle.pagable_world.specs.declared.rows.LoadRow.{LoadRow}
+use Rattle.pagable_world.specs.declared.calls.Found.{Found}
+use Rattle.pagable_world.specs.declared.calls.Found.TheVariants as founds
+use Rattle.pagable_world.specs.declared.calls.Reply.{Reply}
+use Rattle.pagable_world.specs.declared.machine.MachineCall.{MachineCall}
+use Rattle.pagable_world.specs.declared.machine.MachineCall.TheVariants as calls
+use Rattle.pagable_world.specs.Cells.{Cell}
+use Rattle.pagable_world.specs.World.{World, greatest, HasCell, CannotBear}
+use Rattle.pagable_world.specs.Calls.{Born, PinnedBy, Unpinned, Released, Counts, KeyIs, AwayIs, NodeIs, Took, KeySet, Begun, HasLoad, IsNoLoad, Ended, Dropped}
+use Rattle.pagable_world.specs.Steps.{AnswersMade, AnswersHandle, AnswersPin, AnswersDone, AnswersCount, AnswersKey, AnswersAway, AnswersNode, AnswersType, AnswersLength, AnswersTaken, AnswersBlob, AnswersStored, AnswersBegun, AnswersFound, AnswersEnded}
+
+pub record MachineWorld : Type 0 where
+  pub tables : World
+  -- what is stored under each key, whether the storage was closed, and how often it failed
+  pub stored : ℕ → Option Blob
+  pub closed : Bool
+  pub failures : ℕ
+
+-- how values of the type N, blobs handed in (B) and blobs answered (C) are seen
+pub record MachineSeen (N B C : Type 0) : Type 0 where
+  pub type_of : N → ℕ
+  pub references : N → List ArcRef
+  pub digest : Blob → ℕ
+  pub blob_of : B → Blob
+  pub found : C → Blob
+
+-- the tables went on, and the storage stayed
+abbrev pub OnlyTables : MachineWorld → MachineWorld → Type 0
+OnlyTables w w' = w' ≡ record w { tables = w'.tables }
+
+-- nothing changed but how often the storage failed, which never falls
+pub record OnlyFailures (w w' : MachineWorld) : Type 0 where
+  pub rest : w' ≡ record w { failures = w'.failures }
+  pub rises : w.failures ≤ w'.failures
+
+-- A new cell of a value without references. Or why not, and the value.
+abbrev pub BearsValue : {N B C : Type 0} → MachineSeen N B C → MachineWorld → N → Mode → Result HandleNumber (Error × N) → MachineWorld → Type 0
+BearsValue m w x mode (Ok k) w' = (m.references x ≡ []) × Born w.tables (m.type_of x) mode (Ok k) w'.tables × OnlyTables w w'
+BearsValue m w x mode (Err (e, y)) w' = (y ≡ x) × (w' ≡ w) × (((e ≡ errors.NoSuchHandle) × (m.references x ≢ [])) ⊎ (e ≡ errors.OutOfMemory) ⊎ CannotBear w.tables e)
+
+-- the type of the node, if it is live
+abbrev pub TypeIs : World → NodeNumber → Option ℕ → Type 0
+TypeIs w node (Some t) = (cell : Cell) × HasCell w node cell × (cell.node_type ≡ t)
+TypeIs w node None = (cell : Cell) → ¬ HasCell w node cell
+
+-- the blob under the key, or why it isn't found
+abbrev pub FindsBlob : {N B C : Type 0} → MachineSeen N B C → MachineWorld → ℕ → Result C Error → MachineWorld → Type 0
+FindsBlob m w key (Ok b) w' = (w.stored key ≡ Some (m.found b)) × OnlyFailures w w'
+FindsBlob m w key (Err e) w' = RefusesFetch key (w.stored key) w.failures w'.failures e × OnlyFailures w w'
+
+-- The blob stands under its key from now on. Or why not.
+abbrev pub StoresBlob : {N B C : Type 0} → MachineSeen N B C → MachineWorld → Blob → Result ℕ Error → MachineWorld → Type 0
+StoresBlob m w b (Ok key) w' =
+    (key ≡ m.digest b) × Adds key b w.stored w'.stored × (w.closed ≡ false) × (w.failures ≤ w'.failures) × (w' ≡ record w { stored = w'.stored; failures = w'.failures })
+StoresBlob m w b (Err e) w' = RefusesStore b (w.stored (m.digest b)) w.closed w.failures w'.failures e × OnlyFailures w w'
+
+-- the blob under the key that the load reads, or why it isn't found
+abbrev pub LoadFinds : {N B C : Type 0} → MachineSeen N B C → MachineWorld → LoadNumber → Result (Found C) Error → MachineWorld → Type 0
+LoadFinds m w l (Ok (founds.Blob b)) w' = (p : ℕ) × (load : LoadRow) × HasLoad w.tables l p load × FindsBlob m w load.key (Ok b) w'
+LoadFinds m w l (Ok (founds.Cached k)) w' = ⊥
+LoadFinds m w l (Err e) w' = (IsNoLoad w.tables l × (e ≡ errors.NoSuchHandle) × (w' ≡ w)) ⊎ ((p : ℕ) × (load : LoadRow) × HasLoad w.tables l p load × FindsBlob m w load.key (Err e) w')
+
+-- why a load stays open: there is none, its value has references or is of another type, or no handle can be made
+abbrev pub EndsLater : {N B C : Type 0} → MachineSeen N B C → MachineWorld → LoadNumber → N → Error → Type 0
+EndsLater m w l x errors.NoSuchHandle = IsNoLoad w.tables l ⊎ (m.references x ≢ [])
+EndsLater m w l x errors.WrongKind = (p : ℕ) × (load : LoadRow) × (cell : Cell) × HasLoad w.tables l p load × HasCell w.tables load.node cell × (cell.node_type ≢ m.type_of x)
+EndsLater m w l x errors.NumbersSpent = w.tables.last_handle ≡ greatest
+EndsLater m w l x errors.OutOfMemory = Unit {0}
+EndsLater m w l x _ = ⊥
+
+-- A load ends with a value of its node's type. Where the value comes back, the load stays open; else it is closed.
+abbrev pub EndsLoad : {N B C : Type 0} → MachineSeen N B C → MachineWorld → LoadNumber → N → Result HandleNumber (Error × Option N) → MachineWorld → Type 0
+EndsLoad m w l x (Ok k) w' =
+    ((p : ℕ) × (load : LoadRow) × (cell : Cell) × HasLoad w.tables l p load × HasCell w.tables load.node cell × (cell.node_type ≡ m.type_of x)) × (m.references x ≡ []) × Ended w.tables l (Ok k) w'.tables × OnlyTables w w'
+EndsLoad m w l x (Err (e, Some y)) w' = (y ≡ x) × EndsLater m w l x e × (w' ≡ w)
+EndsLoad m w l x (Err (e, None)) w' = Ended w.tables l (Err (record { error = e; closed = true })) w'.tables × OnlyTables w w'
+
+-- The world may give this reply to the call, and go on to the new world.
+abbrev pub CallDoes : {N B C : Type 0} → MachineSeen N B C → MachineWorld → MachineCall N B → Reply N C → MachineWorld → Type 0
+CallDoes m w (calls.NewLoose x) reply w' = AnswersMade reply (λ r. BearsValue m w x modes.LoosePinned r w')
+CallDoes m w (calls.Pin h) reply w' = AnswersPin reply (λ r. PinnedBy w.tables h r w'.tables × OnlyTables w w')
+CallDoes m w (calls.Unpin h) reply w' = AnswersDone reply (λ r. Unpinned w.tables h r w'.tables × OnlyTables w w')
+CallDoes m w (calls.Release h) reply w' = AnswersDone reply (λ r. Released w.tables h r w'.tables × OnlyTables w w')
+CallDoes m w (calls.SetDataKey h key) reply w' = AnswersDone reply (λ r. KeySet w.tables h key r w'.tables × OnlyTables w w')
+CallDoes m w (calls.Count h) reply w' = AnswersCount reply (λ r. Counts w.tables h r × (w' ≡ w))
+CallDoes m w (calls.Key h) reply w' = AnswersKey reply (λ r. KeyIs w.tables h r × (w' ≡ w))
+CallDoes m w (calls.IsPagedOut h) reply w' = AnswersAway reply (λ r. AwayIs w.tables h r × (w' ≡ w))
+CallDoes m w (calls.NodeOf h) reply w' = AnswersNode reply (λ r. NodeIs w.tables h r × (w' ≡ w))
+CallDoes m w (calls.NodeLive n) reply w' = AnswersType reply (λ t. TypeIs w.tables n t × (w' ≡ w))
+CallDoes m w calls.Pending reply w' = AnswersLength reply (λ n. (n ≡ length w.tables.list) × (w' ≡ w))
+CallDoes m w (calls.TakePending i) reply w' = AnswersTaken reply (λ h. Took w.tables i h w'.tables × OnlyTables w w')
+CallDoes m w (calls.Fetch key) reply w' = AnswersBlob reply (λ r. FindsBlob m w key r w')
+CallDoes m w (calls.Store b) reply w' = AnswersStored reply (λ r. StoresBlob m w (m.blob_of b) r w')
+CallDoes m w (calls.LoadBegin h) reply w' = AnswersBegun reply (λ r. Begun w.tables h r w'.tables × OnlyTables w w')
+CallDoes m w (calls.LoadFetch l) reply w' = AnswersFound reply (λ r. LoadFinds m w l r w')
+CallDoes m w (calls.LoadEnd l x) reply w' = AnswersEnded reply (λ r. EndsLoad m w l x r w')
+CallDoes m w (calls.LoadDrop l) reply w' = AnswersDone reply (λ r. Dropped w.tables l r w'.tables × OnlyTables w w')
