@@ -37,3 +37,4 @@ pub mod Alone
 pub mod Over
 pub mod Results
 pub mod MachineSteps
+pub mod MachineRuns

@@ -1,6 +1,6 @@
 -- The plain world of a machine, for values that hold no references: tables without counts, and the store; and what one call
 -- answers and does to it.
-use Rattle.std.specs.Prelude.{ℕ, ◌≡◌, ◌≢◌, ◌≤◌, ◌⊎◌, Bool, List, [], length, sum_by, Option, Some, None, Result, Ok, Err}
+use Rattle.std.specs.Prelude.{ℕ, ◌≡◌, ◌≢◌, ◌≤◌, ◌⊎◌, Bool, true, false, All, List, [], length, Option, Some, None, Result, Ok, Err}
 use Rattle.pagable_model.specs.declared.error.Error.{Error}
 use Rattle.pagable_model.specs.declared.error.Error.TheVariants as errors
 use Rattle.pagable_model.specs.declared.numbers.ArcRef.{ArcRef}
@@ -18,8 +18,10 @@ use Rattle.pagable_world.specs.declared.calls.Reply.{Reply}
 use Rattle.pagable_world.specs.declared.machine.MachineCall.{MachineCall}
 use Rattle.pagable_world.specs.declared.machine.MachineCall.TheVariants as calls
 use Rattle.pagable_world.specs.Cells.{Cell}
-use Rattle.pagable_world.specs.World.{World, greatest, HasCell, CannotBear}
+use Rattle.pagable_world.specs.World.{World, plain, greatest, HasCell, CannotBear}
 use Rattle.pagable_world.specs.Calls.{Born, PinnedBy, Unpinned, Released, Counts, KeyIs, AwayIs, NodeIs, Took, KeySet, Begun, HasLoad, IsNoLoad, Ended, Dropped}
+use Rattle.pagable_world.specs.Shown.{Shown}
+use Rattle.pagable_world.specs.TodayTrees.{Sight}
 use Rattle.pagable_world.specs.Steps.{AnswersMade, AnswersHandle, AnswersPin, AnswersDone, AnswersCount, AnswersKey, AnswersAway, AnswersNode, AnswersType, AnswersLength, AnswersTaken, AnswersBlob, AnswersStored, AnswersBegun, AnswersFound, AnswersEnded}
 
 pub record MachineWorld : Type 0 where
@@ -29,13 +31,20 @@ pub record MachineWorld : Type 0 where
   pub closed : Bool
   pub failures : ℕ
 
--- how values of the type N, blobs handed in (B) and blobs answered (C) are seen
-pub record MachineSeen (N B C : Type 0) : Type 0 where
-  pub type_of : N → ℕ
+-- How values of the type N, storages (S), environments (E), blobs handed in (B) and blobs answered (C) are seen: the members of
+-- the caller's traits.
+pub record MachineSight (N S E B C : Type 0) : Type 1 where
+  pub sight : Sight N S E
   pub references : N → List ArcRef
   pub digest : Blob → ℕ
   pub blob_of : B → Blob
   pub found : C → Blob
+  pub is_closed : S → Bool
+  pub failed : S → ℕ
+
+-- the plain world that a pager is
+abbrev pub world_of : {N S E B C : Type 0} → MachineSight N S E B C → Shown N S E → MachineWorld
+world_of m v = record { tables = plain v.book; stored = m.sight.stored v.storage; closed = m.is_closed v.storage; failures = m.failed v.storage }
 
 -- the tables went on, and the storage stayed
 abbrev pub OnlyTables : MachineWorld → MachineWorld → Type 0
@@ -47,49 +56,49 @@ pub record OnlyFailures (w w' : MachineWorld) : Type 0 where
   pub rises : w.failures ≤ w'.failures
 
 -- A new cell of a value without references. Or why not, and the value.
-abbrev pub BearsValue : {N B C : Type 0} → MachineSeen N B C → MachineWorld → N → Mode → Result HandleNumber (Error × N) → MachineWorld → Type 0
-BearsValue m w x mode (Ok k) w' = (m.references x ≡ []) × Born w.tables (m.type_of x) mode (Ok k) w'.tables × OnlyTables w w'
+abbrev pub BearsValue : {N S E B C : Type 0} → MachineSight N S E B C → MachineWorld → N → Mode → Result HandleNumber (Error × N) → MachineWorld → Type 0
+BearsValue m w x mode (Ok k) w' = (m.references x ≡ []) × Born w.tables (m.sight.type_of x) mode (Ok k) w'.tables × OnlyTables w w'
 BearsValue m w x mode (Err (e, y)) w' = (y ≡ x) × (w' ≡ w) × (((e ≡ errors.NoSuchHandle) × (m.references x ≢ [])) ⊎ (e ≡ errors.OutOfMemory) ⊎ CannotBear w.tables e)
 
 -- the type of the node, if it is live
 abbrev pub TypeIs : World → NodeNumber → Option ℕ → Type 0
 TypeIs w node (Some t) = (cell : Cell) × HasCell w node cell × (cell.node_type ≡ t)
-TypeIs w node None = (cell : Cell) → ¬ HasCell w node cell
+TypeIs w node None = All (λ cell. cell.number ≢ node.0) w.cells
 
 -- the blob under the key, or why it isn't found
-abbrev pub FindsBlob : {N B C : Type 0} → MachineSeen N B C → MachineWorld → ℕ → Result C Error → MachineWorld → Type 0
+abbrev pub FindsBlob : {N S E B C : Type 0} → MachineSight N S E B C → MachineWorld → ℕ → Result C Error → MachineWorld → Type 0
 FindsBlob m w key (Ok b) w' = (w.stored key ≡ Some (m.found b)) × OnlyFailures w w'
 FindsBlob m w key (Err e) w' = RefusesFetch key (w.stored key) w.failures w'.failures e × OnlyFailures w w'
 
 -- The blob stands under its key from now on. Or why not.
-abbrev pub StoresBlob : {N B C : Type 0} → MachineSeen N B C → MachineWorld → Blob → Result ℕ Error → MachineWorld → Type 0
+abbrev pub StoresBlob : {N S E B C : Type 0} → MachineSight N S E B C → MachineWorld → Blob → Result ℕ Error → MachineWorld → Type 0
 StoresBlob m w b (Ok key) w' =
     (key ≡ m.digest b) × Adds key b w.stored w'.stored × (w.closed ≡ false) × (w.failures ≤ w'.failures) × (w' ≡ record w { stored = w'.stored; failures = w'.failures })
 StoresBlob m w b (Err e) w' = RefusesStore b (w.stored (m.digest b)) w.closed w.failures w'.failures e × OnlyFailures w w'
 
 -- the blob under the key that the load reads, or why it isn't found
-abbrev pub LoadFinds : {N B C : Type 0} → MachineSeen N B C → MachineWorld → LoadNumber → Result (Found C) Error → MachineWorld → Type 0
+abbrev pub LoadFinds : {N S E B C : Type 0} → MachineSight N S E B C → MachineWorld → LoadNumber → Result (Found C) Error → MachineWorld → Type 0
 LoadFinds m w l (Ok (founds.Blob b)) w' = (p : ℕ) × (load : LoadRow) × HasLoad w.tables l p load × FindsBlob m w load.key (Ok b) w'
 LoadFinds m w l (Ok (founds.Cached k)) w' = ⊥
 LoadFinds m w l (Err e) w' = (IsNoLoad w.tables l × (e ≡ errors.NoSuchHandle) × (w' ≡ w)) ⊎ ((p : ℕ) × (load : LoadRow) × HasLoad w.tables l p load × FindsBlob m w load.key (Err e) w')
 
 -- why a load stays open: there is none, its value has references or is of another type, or no handle can be made
-abbrev pub EndsLater : {N B C : Type 0} → MachineSeen N B C → MachineWorld → LoadNumber → N → Error → Type 0
+abbrev pub EndsLater : {N S E B C : Type 0} → MachineSight N S E B C → MachineWorld → LoadNumber → N → Error → Type 0
 EndsLater m w l x errors.NoSuchHandle = IsNoLoad w.tables l ⊎ (m.references x ≢ [])
-EndsLater m w l x errors.WrongKind = (p : ℕ) × (load : LoadRow) × (cell : Cell) × HasLoad w.tables l p load × HasCell w.tables load.node cell × (cell.node_type ≢ m.type_of x)
+EndsLater m w l x errors.WrongKind = (p : ℕ) × (load : LoadRow) × (cell : Cell) × HasLoad w.tables l p load × HasCell w.tables load.node cell × (cell.node_type ≢ m.sight.type_of x)
 EndsLater m w l x errors.NumbersSpent = w.tables.last_handle ≡ greatest
 EndsLater m w l x errors.OutOfMemory = Unit {0}
 EndsLater m w l x _ = ⊥
 
 -- A load ends with a value of its node's type. Where the value comes back, the load stays open; else it is closed.
-abbrev pub EndsLoad : {N B C : Type 0} → MachineSeen N B C → MachineWorld → LoadNumber → N → Result HandleNumber (Error × Option N) → MachineWorld → Type 0
+abbrev pub EndsLoad : {N S E B C : Type 0} → MachineSight N S E B C → MachineWorld → LoadNumber → N → Result HandleNumber (Error × Option N) → MachineWorld → Type 0
 EndsLoad m w l x (Ok k) w' =
-    ((p : ℕ) × (load : LoadRow) × (cell : Cell) × HasLoad w.tables l p load × HasCell w.tables load.node cell × (cell.node_type ≡ m.type_of x)) × (m.references x ≡ []) × Ended w.tables l (Ok k) w'.tables × OnlyTables w w'
+    ((p : ℕ) × (load : LoadRow) × (cell : Cell) × HasLoad w.tables l p load × HasCell w.tables load.node cell × (cell.node_type ≡ m.sight.type_of x)) × (m.references x ≡ []) × Ended w.tables l (Ok k) w'.tables × OnlyTables w w'
 EndsLoad m w l x (Err (e, Some y)) w' = (y ≡ x) × EndsLater m w l x e × (w' ≡ w)
 EndsLoad m w l x (Err (e, None)) w' = Ended w.tables l (Err (record { error = e; closed = true })) w'.tables × OnlyTables w w'
 
 -- The world may give this reply to the call, and go on to the new world.
-abbrev pub CallDoes : {N B C : Type 0} → MachineSeen N B C → MachineWorld → MachineCall N B → Reply N C → MachineWorld → Type 0
+abbrev pub CallDoes : {N S E B C : Type 0} → MachineSight N S E B C → MachineWorld → MachineCall N B → Reply N C → MachineWorld → Type 0
 CallDoes m w (calls.NewLoose x) reply w' = AnswersMade reply (λ r. BearsValue m w x modes.LoosePinned r w')
 CallDoes m w (calls.Pin h) reply w' = AnswersPin reply (λ r. PinnedBy w.tables h r w'.tables × OnlyTables w w')
 CallDoes m w (calls.Unpin h) reply w' = AnswersDone reply (λ r. Unpinned w.tables h r w'.tables × OnlyTables w w')
