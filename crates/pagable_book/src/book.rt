@@ -169,7 +169,7 @@ impl Book {
     /// The type of a node's value, or None where the node is gone.
     pub fn node_type(&self, node: NodeNumber) -> Option<u32>
         ensures live { IfSome result (λ node_type. (cell : Cell) × HasCell (plain self.now) node cell × (cell.node_type ≡ node_type)) }
-        ensures gone { IfNone result (sum_by (is_node node.0) self.now.nodes ≡ 0) }
+        ensures gone { IfNone result (All (λ cell. cell.number ≢ node.0) (plain self.now).cells) }
     {
         let at = tables::node_at(&self.tables.nodes, node)?;
         Some(at.row.node_type)

@@ -1,6 +1,6 @@
 //! The pager: handles of values that may be in memory or in the storage.
 
-ghost use Rattle.std.specs.Prelude.{◌≡◌, ◌+◌, ◌++◌, ◌∷◌, [], OnErr, IfErr, IfOk, IfNone, IfSome, OnOk, Ok, Some, ◌<◌, length, sum_by};
+ghost use Rattle.std.specs.Prelude.{◌≡◌, ◌≢◌, ◌≤◌, ◌+◌, ◌++◌, ◌∷◌, [], All, false, OnErr, IfErr, IfOk, IfNone, IfSome, OnOk, Ok, Some, ◌<◌, length, sum_by};
 ghost use Rattle.std.specs.Arc.{arc_value};
 ghost use Rattle.pagable_model.specs.Blob.{key_of};
 ghost use Rattle.pagable_core.specs.Data.{blob_of};
@@ -111,6 +111,7 @@ where
         node: E::Node,
     ) -> Result<HandleNumber, (Error, E::Node)>
         ensures made { IfOk result (λ k. (k.0 ≡ self.old.book.last_handle + 1) × (plain self.new.book ≡ born (plain self.old.book) (E.Node.type_of node) Mode.LoosePinned)) }
+        ensures alone { OnOk result (E.Node.refs_of node ≡ []) }
         ensures values { OnOk result (self.new.values ≡ self.old.values ++ (self.old.book.last_node + 1, node) ∷ []) }
         ensures trees { OnOk result (BirthOf (record { type_of = E.Node.type_of; means = E.Node.means; shape_of = E.Node.shape_of; parts = E.parts; stored = S.stored }) node self.old self.new) }
         ensures same { SameStore self.old self.new }
@@ -198,7 +199,7 @@ where
     /// The number of the node's value type, or None where the node is gone.
     pub fn node_live(&self, node: NodeNumber) -> Option<u32>
         ensures live { IfSome result (λ node_type. (cell : Cell) × HasCell (plain self.now.book) node cell × (cell.node_type ≡ node_type)) }
-        ensures gone { IfNone result (sum_by (is_node node.0) self.now.book.nodes ≡ 0) }
+        ensures gone { IfNone result (All (λ cell. cell.number ≢ node.0) (plain self.now.book).cells) }
     {
         self.book.node_type(node)
     }
@@ -257,6 +258,9 @@ where
         ensures adds { OnOk result (Adds (key_of E.Hash.digest (blob_of blob)) (blob_of blob) (S.stored self.old.storage) (S.stored self.new.storage)) }
         ensures only { IfErr result (RefusesStore (blob_of blob) (S.stored self.old.storage (key_of E.Hash.digest (blob_of blob))) (S.is_closed self.old.storage) (S.failed self.old.storage) (S.failed self.new.storage)) }
         ensures err { OnErr result (S.stored self.new.storage ≡ S.stored self.old.storage) }
+        ensures was_open { OnOk result (S.is_closed self.old.storage ≡ false) }
+        ensures open { S.is_closed self.new.storage ≡ S.is_closed self.old.storage }
+        ensures later { S.failed self.old.storage ≤ S.failed self.new.storage }
         ensures trees { EachWorld (record { type_of = E.Node.type_of; means = E.Node.means; shape_of = E.Node.shape_of; parts = E.parts; stored = S.stored }) self.old self.new Always (λ w w'. w'.plain ≡ w.plain) }
         ensures same { OnlyStore self.old self.new }
     {
@@ -269,6 +273,8 @@ where
         ensures only { IfErr result (RefusesFetch key (S.stored self.old.storage key) (S.failed self.old.storage) (S.failed self.new.storage)) }
         ensures trees { EachWorld (record { type_of = E.Node.type_of; means = E.Node.means; shape_of = E.Node.shape_of; parts = E.parts; stored = S.stored }) self.old self.new Always (λ w w'. w'.plain ≡ w.plain) }
         ensures stored { S.stored self.new.storage ≡ S.stored self.old.storage }
+        ensures open { S.is_closed self.new.storage ≡ S.is_closed self.old.storage }
+        ensures later { S.failed self.old.storage ≤ S.failed self.new.storage }
         ensures same { OnlyStore self.old self.new }
     {
         self.storage.fetch_data_blocking(alloc, key)
@@ -295,6 +301,8 @@ where
         ensures fetched { LoadFetched (λ blob. blob_of (arc_value blob)) load self.old.book (S.stored self.old.storage) (S.failed self.old.storage) (S.failed self.new.storage) result }
         ensures same { OnlyStore self.old self.new }
         ensures stored { S.stored self.new.storage ≡ S.stored self.old.storage }
+        ensures open { S.is_closed self.new.storage ≡ S.is_closed self.old.storage }
+        ensures later { S.failed self.old.storage ≤ S.failed self.new.storage }
     {
         let key = self.book.load_key_of(load)?;
         match want {
@@ -317,6 +325,7 @@ where
         node: E::Node,
     ) -> Result<HandleNumber, (Error, Option<E::Node>)>
         ensures step { IfOk result (λ k. Ended (plain self.old.book) load (Ok k) (plain self.new.book)) }
+        ensures alone { OnOk result (E.Node.refs_of node ≡ []) }
         ensures trees { EachWorld (record { type_of = E.Node.type_of; means = E.Node.means; shape_of = E.Node.shape_of; parts = E.parts; stored = S.stored }) self.old self.new (ReadFits (record { type_of = E.Node.type_of; means = E.Node.means; shape_of = E.Node.shape_of; parts = E.parts; stored = S.stored }) load node) (λ w w'. EndedAs load result w.plain w'.plain) }
         ensures installs { OnOk result (InstallsValue E.Node.type_of load node self.old self.new) }
         ensures closed { IfErr result (λ e. IfNone e.1 (ClosedBy load e.0 self.old self.new)) }
@@ -344,6 +353,7 @@ where
     // The load's node, if the value may end the load: it holds no references, and is of the node's type.
     fn fits(&self, alloc: Global, load: LoadNumber, node: &E::Node) -> Result<NodeNumber, Error>
         ensures ok { IfOk result (FitsLoad E.Node.type_of load node.now self.now.book) }
+        ensures alone { OnOk result (E.Node.refs_of node.now ≡ []) }
         ensures refused { IfErr result (StaysOpen E.Node.type_of E.Node.refs_of load node.now self.now) }
     {
         let (cell, node_type) = self.book.load_cell(load)?;

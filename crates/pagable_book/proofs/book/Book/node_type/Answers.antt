@@ -1,7 +1,15 @@
-use Rattle.std.proofs.Common.{refl, ap}
-use Rattle.pagable_world.specs.Cells.{cell_of}
+use Rattle.std.proofs.Common.{rules, refl, ap, ◌≡◌, ◌≢◌, ◌∙◌, ℕ, All, sum_by}
+use Rattle.pagable_world.specs.State.{is_node}
+use Rattle.pagable_world.specs.Cells.{Cell, cell_of, cells_of}
+use Rattle.pagable_book.proofs.Here.{all-apart, cells-nodes}
 use Rattle.pagable_book.proofs.Settling.{cell-at}
 use Rattle.pagable_book.proofs.book.Book.node_type.Goals as goal
+
+pub returns-in_err-at-clause-gone : goal.returns-in_err-at-clause-gone
+returns-in_err-at-clause-gone c =
+    let none : sum_by (is_node c.args.node.0) c.args.self.now.nodes ≡ 0 = search rules in
+    let all : All (λ (cell : Cell). cell.number ≢ c.args.node.0) (cells_of c.args.self.now.nodes) = all-apart (λ (cell : Cell). cell.number) c.args.node.0 (cells_of c.args.self.now.nodes) (cells-nodes c.args.node.0 c.args.self.now.nodes ∙ none) in
+    search rules
 
 pub returns-clause-live : goal.returns-clause-live
 returns-clause-live c =
