@@ -47,7 +47,7 @@ ClosedBy load e old new = Ended (plain old.book) load (Err (record { error = e; 
 abbrev pub LoadFetched : {B : Type 0} → (B → Blob) → LoadNumber → State → (ℕ → Option Blob) → ℕ → ℕ → Result (Either ArcRef B) Error → Type 0
 LoadFetched blob_of load book stored before after (Ok (eithers.Right blob)) = (p : ℕ) × (row : LoadRow) × HasLoad (plain book) load p row × (stored row.key ≡ Some (blob_of blob))
 LoadFetched blob_of load book stored before after (Ok (eithers.Left reference)) = ⊥
-LoadFetched blob_of load book stored before after (Err e) = (IsNoLoad (plain book) load × (e ≡ errors.NoSuchHandle)) ⊎ ((p : ℕ) × (row : LoadRow) × HasLoad (plain book) load p row × RefusesFetch row.key (stored row.key) before after e)
+LoadFetched blob_of load book stored before after (Err e) = (IsNoLoad (plain book) load × (e ≡ errors.NoSuchHandle) × (after ≡ before)) ⊎ ((p : ℕ) × (row : LoadRow) × HasLoad (plain book) load p row × RefusesFetch row.key (stored row.key) before after e)
 
 -- the end of a load: the step of the tables, or nothing where the value comes back
 abbrev pub EndedAs : {N : Type 0} → LoadNumber → Result HandleNumber (Error × Option N) → World → World → Type 0

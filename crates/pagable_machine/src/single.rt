@@ -1,0 +1,262 @@
+//! Each call of the pager as the machine makes it: a step of the plain world, with a reply of the call's type.
+
+ghost use Rattle.std.specs.Prelude.{◌≡◌};
+ghost use Rattle.std.specs.Arc.{arc_value};
+ghost use Rattle.pagable_model.specs.Blob.{key_of};
+ghost use Rattle.pagable_core.specs.Data.{blob_of};
+ghost use Rattle.pagable_world.specs.MachineSteps.{CallDoes, world_of};
+ghost use Rattle.pagable_world.specs.MachineRuns.{LeadsOn};
+
+use either::Either;
+use pagable_codec::{Env, NodeSet};
+use pagable_core::{PagableData, PagableStorage};
+use pagable_flavors::{DataKey, Error};
+use pagable_model::{HandleNumber, LoadNumber, NodeNumber};
+use pagable_pager::{Pager, Want};
+use pagable_world::{Found, MachineCall, Reply};
+use std::alloc::Global;
+use std::sync::Arc;
+
+// A new cell that holds the value.
+fn new_loose<E: Env, S: PagableStorage<E>>(
+    pager: &mut Pager<E, S>,
+    alloc: Global,
+    node: E::Node,
+) -> Reply<E::Node, Arc<PagableData>>
+where
+    E::Node: NodeSet<E>,
+    ensures does { CallDoes (record { sight = record { type_of = E.Node.type_of; means = E.Node.means; shape_of = E.Node.shape_of; parts = E.parts; stored = S.stored }; references = E.Node.refs_of; digest = key_of E.Hash.digest; blob_of = blob_of; found = λ (b : Arc PagableData Global). blob_of (arc_value b); is_closed = S.is_closed; failed = S.failed }) (world_of (record { sight = record { type_of = E.Node.type_of; means = E.Node.means; shape_of = E.Node.shape_of; parts = E.parts; stored = S.stored }; references = E.Node.refs_of; digest = key_of E.Hash.digest; blob_of = blob_of; found = λ (b : Arc PagableData Global). blob_of (arc_value b); is_closed = S.is_closed; failed = S.failed }) pager.old) (MachineCall.NewLoose node) result (world_of (record { sight = record { type_of = E.Node.type_of; means = E.Node.means; shape_of = E.Node.shape_of; parts = E.parts; stored = S.stored }; references = E.Node.refs_of; digest = key_of E.Hash.digest; blob_of = blob_of; found = λ (b : Arc PagableData Global). blob_of (arc_value b); is_closed = S.is_closed; failed = S.failed }) pager.new) }
+    ensures leads { LeadsOn (record { sight = record { type_of = E.Node.type_of; means = E.Node.means; shape_of = E.Node.shape_of; parts = E.parts; stored = S.stored }; references = E.Node.refs_of; digest = key_of E.Hash.digest; blob_of = blob_of; found = λ (b : Arc PagableData Global). blob_of (arc_value b); is_closed = S.is_closed; failed = S.failed }) pager.old (MachineCall.NewLoose node) result pager.new }
+{
+    Reply::Made(pager.new_loose(alloc, node))
+}
+
+// A pin, or the key under which the value has to be read first.
+fn pin<E: Env, S: PagableStorage<E>>(
+    pager: &mut Pager<E, S>,
+    handle: HandleNumber,
+) -> Reply<E::Node, Arc<PagableData>>
+where
+    E::Node: NodeSet<E>,
+    ensures does { CallDoes (record { sight = record { type_of = E.Node.type_of; means = E.Node.means; shape_of = E.Node.shape_of; parts = E.parts; stored = S.stored }; references = E.Node.refs_of; digest = key_of E.Hash.digest; blob_of = blob_of; found = λ (b : Arc PagableData Global). blob_of (arc_value b); is_closed = S.is_closed; failed = S.failed }) (world_of (record { sight = record { type_of = E.Node.type_of; means = E.Node.means; shape_of = E.Node.shape_of; parts = E.parts; stored = S.stored }; references = E.Node.refs_of; digest = key_of E.Hash.digest; blob_of = blob_of; found = λ (b : Arc PagableData Global). blob_of (arc_value b); is_closed = S.is_closed; failed = S.failed }) pager.old) (MachineCall.Pin handle) result (world_of (record { sight = record { type_of = E.Node.type_of; means = E.Node.means; shape_of = E.Node.shape_of; parts = E.parts; stored = S.stored }; references = E.Node.refs_of; digest = key_of E.Hash.digest; blob_of = blob_of; found = λ (b : Arc PagableData Global). blob_of (arc_value b); is_closed = S.is_closed; failed = S.failed }) pager.new) }
+    ensures leads { LeadsOn (record { sight = record { type_of = E.Node.type_of; means = E.Node.means; shape_of = E.Node.shape_of; parts = E.parts; stored = S.stored }; references = E.Node.refs_of; digest = key_of E.Hash.digest; blob_of = blob_of; found = λ (b : Arc PagableData Global). blob_of (arc_value b); is_closed = S.is_closed; failed = S.failed }) pager.old (MachineCall.Pin handle) result pager.new }
+{
+    Reply::Pin(pager.pin(handle))
+}
+
+// A loose handle lets its pin go.
+fn unpin<E: Env, S: PagableStorage<E>>(
+    pager: &mut Pager<E, S>,
+    handle: HandleNumber,
+) -> Reply<E::Node, Arc<PagableData>>
+where
+    E::Node: NodeSet<E>,
+    ensures does { CallDoes (record { sight = record { type_of = E.Node.type_of; means = E.Node.means; shape_of = E.Node.shape_of; parts = E.parts; stored = S.stored }; references = E.Node.refs_of; digest = key_of E.Hash.digest; blob_of = blob_of; found = λ (b : Arc PagableData Global). blob_of (arc_value b); is_closed = S.is_closed; failed = S.failed }) (world_of (record { sight = record { type_of = E.Node.type_of; means = E.Node.means; shape_of = E.Node.shape_of; parts = E.parts; stored = S.stored }; references = E.Node.refs_of; digest = key_of E.Hash.digest; blob_of = blob_of; found = λ (b : Arc PagableData Global). blob_of (arc_value b); is_closed = S.is_closed; failed = S.failed }) pager.old) (MachineCall.Unpin handle) result (world_of (record { sight = record { type_of = E.Node.type_of; means = E.Node.means; shape_of = E.Node.shape_of; parts = E.parts; stored = S.stored }; references = E.Node.refs_of; digest = key_of E.Hash.digest; blob_of = blob_of; found = λ (b : Arc PagableData Global). blob_of (arc_value b); is_closed = S.is_closed; failed = S.failed }) pager.new) }
+    ensures leads { LeadsOn (record { sight = record { type_of = E.Node.type_of; means = E.Node.means; shape_of = E.Node.shape_of; parts = E.parts; stored = S.stored }; references = E.Node.refs_of; digest = key_of E.Hash.digest; blob_of = blob_of; found = λ (b : Arc PagableData Global). blob_of (arc_value b); is_closed = S.is_closed; failed = S.failed }) pager.old (MachineCall.Unpin handle) result pager.new }
+{
+    Reply::Done(pager.unpin(handle))
+}
+
+// A handle is given up.
+fn release<E: Env, S: PagableStorage<E>>(
+    pager: &mut Pager<E, S>,
+    handle: HandleNumber,
+) -> Reply<E::Node, Arc<PagableData>>
+where
+    E::Node: NodeSet<E>,
+    ensures does { CallDoes (record { sight = record { type_of = E.Node.type_of; means = E.Node.means; shape_of = E.Node.shape_of; parts = E.parts; stored = S.stored }; references = E.Node.refs_of; digest = key_of E.Hash.digest; blob_of = blob_of; found = λ (b : Arc PagableData Global). blob_of (arc_value b); is_closed = S.is_closed; failed = S.failed }) (world_of (record { sight = record { type_of = E.Node.type_of; means = E.Node.means; shape_of = E.Node.shape_of; parts = E.parts; stored = S.stored }; references = E.Node.refs_of; digest = key_of E.Hash.digest; blob_of = blob_of; found = λ (b : Arc PagableData Global). blob_of (arc_value b); is_closed = S.is_closed; failed = S.failed }) pager.old) (MachineCall.Release handle) result (world_of (record { sight = record { type_of = E.Node.type_of; means = E.Node.means; shape_of = E.Node.shape_of; parts = E.parts; stored = S.stored }; references = E.Node.refs_of; digest = key_of E.Hash.digest; blob_of = blob_of; found = λ (b : Arc PagableData Global). blob_of (arc_value b); is_closed = S.is_closed; failed = S.failed }) pager.new) }
+    ensures leads { LeadsOn (record { sight = record { type_of = E.Node.type_of; means = E.Node.means; shape_of = E.Node.shape_of; parts = E.parts; stored = S.stored }; references = E.Node.refs_of; digest = key_of E.Hash.digest; blob_of = blob_of; found = λ (b : Arc PagableData Global). blob_of (arc_value b); is_closed = S.is_closed; failed = S.failed }) pager.old (MachineCall.Release handle) result pager.new }
+{
+    Reply::Done(pager.release(handle))
+}
+
+// The cell of a loose handle gets the key.
+fn set_data_key<E: Env, S: PagableStorage<E>>(
+    pager: &mut Pager<E, S>,
+    handle: HandleNumber,
+    key: DataKey,
+) -> Reply<E::Node, Arc<PagableData>>
+where
+    E::Node: NodeSet<E>,
+    ensures does { CallDoes (record { sight = record { type_of = E.Node.type_of; means = E.Node.means; shape_of = E.Node.shape_of; parts = E.parts; stored = S.stored }; references = E.Node.refs_of; digest = key_of E.Hash.digest; blob_of = blob_of; found = λ (b : Arc PagableData Global). blob_of (arc_value b); is_closed = S.is_closed; failed = S.failed }) (world_of (record { sight = record { type_of = E.Node.type_of; means = E.Node.means; shape_of = E.Node.shape_of; parts = E.parts; stored = S.stored }; references = E.Node.refs_of; digest = key_of E.Hash.digest; blob_of = blob_of; found = λ (b : Arc PagableData Global). blob_of (arc_value b); is_closed = S.is_closed; failed = S.failed }) pager.old) (MachineCall.SetDataKey handle key) result (world_of (record { sight = record { type_of = E.Node.type_of; means = E.Node.means; shape_of = E.Node.shape_of; parts = E.parts; stored = S.stored }; references = E.Node.refs_of; digest = key_of E.Hash.digest; blob_of = blob_of; found = λ (b : Arc PagableData Global). blob_of (arc_value b); is_closed = S.is_closed; failed = S.failed }) pager.new) }
+    ensures leads { LeadsOn (record { sight = record { type_of = E.Node.type_of; means = E.Node.means; shape_of = E.Node.shape_of; parts = E.parts; stored = S.stored }; references = E.Node.refs_of; digest = key_of E.Hash.digest; blob_of = blob_of; found = λ (b : Arc PagableData Global). blob_of (arc_value b); is_closed = S.is_closed; failed = S.failed }) pager.old (MachineCall.SetDataKey handle key) result pager.new }
+{
+    Reply::Done(pager.set_data_key(handle, key))
+}
+
+// How many handles pin the node.
+fn count<E: Env, S: PagableStorage<E>>(
+    pager: &mut Pager<E, S>,
+    handle: HandleNumber,
+) -> Reply<E::Node, Arc<PagableData>>
+where
+    E::Node: NodeSet<E>,
+    ensures does { CallDoes (record { sight = record { type_of = E.Node.type_of; means = E.Node.means; shape_of = E.Node.shape_of; parts = E.parts; stored = S.stored }; references = E.Node.refs_of; digest = key_of E.Hash.digest; blob_of = blob_of; found = λ (b : Arc PagableData Global). blob_of (arc_value b); is_closed = S.is_closed; failed = S.failed }) (world_of (record { sight = record { type_of = E.Node.type_of; means = E.Node.means; shape_of = E.Node.shape_of; parts = E.parts; stored = S.stored }; references = E.Node.refs_of; digest = key_of E.Hash.digest; blob_of = blob_of; found = λ (b : Arc PagableData Global). blob_of (arc_value b); is_closed = S.is_closed; failed = S.failed }) pager.old) (MachineCall.Count handle) result (world_of (record { sight = record { type_of = E.Node.type_of; means = E.Node.means; shape_of = E.Node.shape_of; parts = E.parts; stored = S.stored }; references = E.Node.refs_of; digest = key_of E.Hash.digest; blob_of = blob_of; found = λ (b : Arc PagableData Global). blob_of (arc_value b); is_closed = S.is_closed; failed = S.failed }) pager.new) }
+    ensures leads { LeadsOn (record { sight = record { type_of = E.Node.type_of; means = E.Node.means; shape_of = E.Node.shape_of; parts = E.parts; stored = S.stored }; references = E.Node.refs_of; digest = key_of E.Hash.digest; blob_of = blob_of; found = λ (b : Arc PagableData Global). blob_of (arc_value b); is_closed = S.is_closed; failed = S.failed }) pager.old (MachineCall.Count handle) result pager.new }
+{
+    Reply::Count(pager.count(handle))
+}
+
+// The key of the node.
+fn key<E: Env, S: PagableStorage<E>>(
+    pager: &mut Pager<E, S>,
+    handle: HandleNumber,
+) -> Reply<E::Node, Arc<PagableData>>
+where
+    E::Node: NodeSet<E>,
+    ensures does { CallDoes (record { sight = record { type_of = E.Node.type_of; means = E.Node.means; shape_of = E.Node.shape_of; parts = E.parts; stored = S.stored }; references = E.Node.refs_of; digest = key_of E.Hash.digest; blob_of = blob_of; found = λ (b : Arc PagableData Global). blob_of (arc_value b); is_closed = S.is_closed; failed = S.failed }) (world_of (record { sight = record { type_of = E.Node.type_of; means = E.Node.means; shape_of = E.Node.shape_of; parts = E.parts; stored = S.stored }; references = E.Node.refs_of; digest = key_of E.Hash.digest; blob_of = blob_of; found = λ (b : Arc PagableData Global). blob_of (arc_value b); is_closed = S.is_closed; failed = S.failed }) pager.old) (MachineCall.Key handle) result (world_of (record { sight = record { type_of = E.Node.type_of; means = E.Node.means; shape_of = E.Node.shape_of; parts = E.parts; stored = S.stored }; references = E.Node.refs_of; digest = key_of E.Hash.digest; blob_of = blob_of; found = λ (b : Arc PagableData Global). blob_of (arc_value b); is_closed = S.is_closed; failed = S.failed }) pager.new) }
+    ensures leads { LeadsOn (record { sight = record { type_of = E.Node.type_of; means = E.Node.means; shape_of = E.Node.shape_of; parts = E.parts; stored = S.stored }; references = E.Node.refs_of; digest = key_of E.Hash.digest; blob_of = blob_of; found = λ (b : Arc PagableData Global). blob_of (arc_value b); is_closed = S.is_closed; failed = S.failed }) pager.old (MachineCall.Key handle) result pager.new }
+{
+    Reply::KeyFound(pager.key(handle))
+}
+
+// Whether the node's value has to be read first.
+fn is_paged_out<E: Env, S: PagableStorage<E>>(
+    pager: &mut Pager<E, S>,
+    handle: HandleNumber,
+) -> Reply<E::Node, Arc<PagableData>>
+where
+    E::Node: NodeSet<E>,
+    ensures does { CallDoes (record { sight = record { type_of = E.Node.type_of; means = E.Node.means; shape_of = E.Node.shape_of; parts = E.parts; stored = S.stored }; references = E.Node.refs_of; digest = key_of E.Hash.digest; blob_of = blob_of; found = λ (b : Arc PagableData Global). blob_of (arc_value b); is_closed = S.is_closed; failed = S.failed }) (world_of (record { sight = record { type_of = E.Node.type_of; means = E.Node.means; shape_of = E.Node.shape_of; parts = E.parts; stored = S.stored }; references = E.Node.refs_of; digest = key_of E.Hash.digest; blob_of = blob_of; found = λ (b : Arc PagableData Global). blob_of (arc_value b); is_closed = S.is_closed; failed = S.failed }) pager.old) (MachineCall.IsPagedOut handle) result (world_of (record { sight = record { type_of = E.Node.type_of; means = E.Node.means; shape_of = E.Node.shape_of; parts = E.parts; stored = S.stored }; references = E.Node.refs_of; digest = key_of E.Hash.digest; blob_of = blob_of; found = λ (b : Arc PagableData Global). blob_of (arc_value b); is_closed = S.is_closed; failed = S.failed }) pager.new) }
+    ensures leads { LeadsOn (record { sight = record { type_of = E.Node.type_of; means = E.Node.means; shape_of = E.Node.shape_of; parts = E.parts; stored = S.stored }; references = E.Node.refs_of; digest = key_of E.Hash.digest; blob_of = blob_of; found = λ (b : Arc PagableData Global). blob_of (arc_value b); is_closed = S.is_closed; failed = S.failed }) pager.old (MachineCall.IsPagedOut handle) result pager.new }
+{
+    Reply::Away(pager.is_paged_out(handle))
+}
+
+// The node of a handle.
+fn node_of<E: Env, S: PagableStorage<E>>(
+    pager: &mut Pager<E, S>,
+    handle: HandleNumber,
+) -> Reply<E::Node, Arc<PagableData>>
+where
+    E::Node: NodeSet<E>,
+    ensures does { CallDoes (record { sight = record { type_of = E.Node.type_of; means = E.Node.means; shape_of = E.Node.shape_of; parts = E.parts; stored = S.stored }; references = E.Node.refs_of; digest = key_of E.Hash.digest; blob_of = blob_of; found = λ (b : Arc PagableData Global). blob_of (arc_value b); is_closed = S.is_closed; failed = S.failed }) (world_of (record { sight = record { type_of = E.Node.type_of; means = E.Node.means; shape_of = E.Node.shape_of; parts = E.parts; stored = S.stored }; references = E.Node.refs_of; digest = key_of E.Hash.digest; blob_of = blob_of; found = λ (b : Arc PagableData Global). blob_of (arc_value b); is_closed = S.is_closed; failed = S.failed }) pager.old) (MachineCall.NodeOf handle) result (world_of (record { sight = record { type_of = E.Node.type_of; means = E.Node.means; shape_of = E.Node.shape_of; parts = E.parts; stored = S.stored }; references = E.Node.refs_of; digest = key_of E.Hash.digest; blob_of = blob_of; found = λ (b : Arc PagableData Global). blob_of (arc_value b); is_closed = S.is_closed; failed = S.failed }) pager.new) }
+    ensures leads { LeadsOn (record { sight = record { type_of = E.Node.type_of; means = E.Node.means; shape_of = E.Node.shape_of; parts = E.parts; stored = S.stored }; references = E.Node.refs_of; digest = key_of E.Hash.digest; blob_of = blob_of; found = λ (b : Arc PagableData Global). blob_of (arc_value b); is_closed = S.is_closed; failed = S.failed }) pager.old (MachineCall.NodeOf handle) result pager.new }
+{
+    Reply::Node(pager.node_of(handle))
+}
+
+// The type of a node, if it is live.
+fn node_live<E: Env, S: PagableStorage<E>>(
+    pager: &mut Pager<E, S>,
+    node: NodeNumber,
+) -> Reply<E::Node, Arc<PagableData>>
+where
+    E::Node: NodeSet<E>,
+    ensures does { CallDoes (record { sight = record { type_of = E.Node.type_of; means = E.Node.means; shape_of = E.Node.shape_of; parts = E.parts; stored = S.stored }; references = E.Node.refs_of; digest = key_of E.Hash.digest; blob_of = blob_of; found = λ (b : Arc PagableData Global). blob_of (arc_value b); is_closed = S.is_closed; failed = S.failed }) (world_of (record { sight = record { type_of = E.Node.type_of; means = E.Node.means; shape_of = E.Node.shape_of; parts = E.parts; stored = S.stored }; references = E.Node.refs_of; digest = key_of E.Hash.digest; blob_of = blob_of; found = λ (b : Arc PagableData Global). blob_of (arc_value b); is_closed = S.is_closed; failed = S.failed }) pager.old) (MachineCall.NodeLive node) result (world_of (record { sight = record { type_of = E.Node.type_of; means = E.Node.means; shape_of = E.Node.shape_of; parts = E.parts; stored = S.stored }; references = E.Node.refs_of; digest = key_of E.Hash.digest; blob_of = blob_of; found = λ (b : Arc PagableData Global). blob_of (arc_value b); is_closed = S.is_closed; failed = S.failed }) pager.new) }
+    ensures leads { LeadsOn (record { sight = record { type_of = E.Node.type_of; means = E.Node.means; shape_of = E.Node.shape_of; parts = E.parts; stored = S.stored }; references = E.Node.refs_of; digest = key_of E.Hash.digest; blob_of = blob_of; found = λ (b : Arc PagableData Global). blob_of (arc_value b); is_closed = S.is_closed; failed = S.failed }) pager.old (MachineCall.NodeLive node) result pager.new }
+{
+    Reply::NodeType(pager.node_live(node))
+}
+
+// How long the list is.
+fn pending<E: Env, S: PagableStorage<E>>(
+    pager: &mut Pager<E, S>,
+) -> Reply<E::Node, Arc<PagableData>>
+where
+    E::Node: NodeSet<E>,
+    ensures does { CallDoes (record { sight = record { type_of = E.Node.type_of; means = E.Node.means; shape_of = E.Node.shape_of; parts = E.parts; stored = S.stored }; references = E.Node.refs_of; digest = key_of E.Hash.digest; blob_of = blob_of; found = λ (b : Arc PagableData Global). blob_of (arc_value b); is_closed = S.is_closed; failed = S.failed }) (world_of (record { sight = record { type_of = E.Node.type_of; means = E.Node.means; shape_of = E.Node.shape_of; parts = E.parts; stored = S.stored }; references = E.Node.refs_of; digest = key_of E.Hash.digest; blob_of = blob_of; found = λ (b : Arc PagableData Global). blob_of (arc_value b); is_closed = S.is_closed; failed = S.failed }) pager.old) (MachineCall.Pending) result (world_of (record { sight = record { type_of = E.Node.type_of; means = E.Node.means; shape_of = E.Node.shape_of; parts = E.parts; stored = S.stored }; references = E.Node.refs_of; digest = key_of E.Hash.digest; blob_of = blob_of; found = λ (b : Arc PagableData Global). blob_of (arc_value b); is_closed = S.is_closed; failed = S.failed }) pager.new) }
+    ensures leads { LeadsOn (record { sight = record { type_of = E.Node.type_of; means = E.Node.means; shape_of = E.Node.shape_of; parts = E.parts; stored = S.stored }; references = E.Node.refs_of; digest = key_of E.Hash.digest; blob_of = blob_of; found = λ (b : Arc PagableData Global). blob_of (arc_value b); is_closed = S.is_closed; failed = S.failed }) pager.old (MachineCall.Pending) result pager.new }
+{
+    Reply::Length(pager.pending() as u64)
+}
+
+// The entry at this place moves to the caller.
+fn take_pending<E: Env, S: PagableStorage<E>>(
+    pager: &mut Pager<E, S>,
+    place: u64,
+) -> Reply<E::Node, Arc<PagableData>>
+where
+    E::Node: NodeSet<E>,
+    ensures does { CallDoes (record { sight = record { type_of = E.Node.type_of; means = E.Node.means; shape_of = E.Node.shape_of; parts = E.parts; stored = S.stored }; references = E.Node.refs_of; digest = key_of E.Hash.digest; blob_of = blob_of; found = λ (b : Arc PagableData Global). blob_of (arc_value b); is_closed = S.is_closed; failed = S.failed }) (world_of (record { sight = record { type_of = E.Node.type_of; means = E.Node.means; shape_of = E.Node.shape_of; parts = E.parts; stored = S.stored }; references = E.Node.refs_of; digest = key_of E.Hash.digest; blob_of = blob_of; found = λ (b : Arc PagableData Global). blob_of (arc_value b); is_closed = S.is_closed; failed = S.failed }) pager.old) (MachineCall.TakePending place) result (world_of (record { sight = record { type_of = E.Node.type_of; means = E.Node.means; shape_of = E.Node.shape_of; parts = E.parts; stored = S.stored }; references = E.Node.refs_of; digest = key_of E.Hash.digest; blob_of = blob_of; found = λ (b : Arc PagableData Global). blob_of (arc_value b); is_closed = S.is_closed; failed = S.failed }) pager.new) }
+    ensures leads { LeadsOn (record { sight = record { type_of = E.Node.type_of; means = E.Node.means; shape_of = E.Node.shape_of; parts = E.parts; stored = S.stored }; references = E.Node.refs_of; digest = key_of E.Hash.digest; blob_of = blob_of; found = λ (b : Arc PagableData Global). blob_of (arc_value b); is_closed = S.is_closed; failed = S.failed }) pager.old (MachineCall.TakePending place) result pager.new }
+{
+    Reply::Taken(pager.take_pending(place as usize))
+}
+
+// The blob under a key.
+fn fetch<E: Env, S: PagableStorage<E>>(
+    pager: &mut Pager<E, S>,
+    alloc: Global,
+    key: DataKey,
+) -> Reply<E::Node, Arc<PagableData>>
+where
+    E::Node: NodeSet<E>,
+    ensures does { CallDoes (record { sight = record { type_of = E.Node.type_of; means = E.Node.means; shape_of = E.Node.shape_of; parts = E.parts; stored = S.stored }; references = E.Node.refs_of; digest = key_of E.Hash.digest; blob_of = blob_of; found = λ (b : Arc PagableData Global). blob_of (arc_value b); is_closed = S.is_closed; failed = S.failed }) (world_of (record { sight = record { type_of = E.Node.type_of; means = E.Node.means; shape_of = E.Node.shape_of; parts = E.parts; stored = S.stored }; references = E.Node.refs_of; digest = key_of E.Hash.digest; blob_of = blob_of; found = λ (b : Arc PagableData Global). blob_of (arc_value b); is_closed = S.is_closed; failed = S.failed }) pager.old) (MachineCall.Fetch key) result (world_of (record { sight = record { type_of = E.Node.type_of; means = E.Node.means; shape_of = E.Node.shape_of; parts = E.parts; stored = S.stored }; references = E.Node.refs_of; digest = key_of E.Hash.digest; blob_of = blob_of; found = λ (b : Arc PagableData Global). blob_of (arc_value b); is_closed = S.is_closed; failed = S.failed }) pager.new) }
+    ensures leads { LeadsOn (record { sight = record { type_of = E.Node.type_of; means = E.Node.means; shape_of = E.Node.shape_of; parts = E.parts; stored = S.stored }; references = E.Node.refs_of; digest = key_of E.Hash.digest; blob_of = blob_of; found = λ (b : Arc PagableData Global). blob_of (arc_value b); is_closed = S.is_closed; failed = S.failed }) pager.old (MachineCall.Fetch key) result pager.new }
+{
+    Reply::Fetched(pager.fetch(alloc, key))
+}
+
+// A blob is stored.
+fn store<E: Env, S: PagableStorage<E>>(
+    pager: &mut Pager<E, S>,
+    alloc: Global,
+    blob: PagableData,
+) -> Reply<E::Node, Arc<PagableData>>
+where
+    E::Node: NodeSet<E>,
+    ensures does { CallDoes (record { sight = record { type_of = E.Node.type_of; means = E.Node.means; shape_of = E.Node.shape_of; parts = E.parts; stored = S.stored }; references = E.Node.refs_of; digest = key_of E.Hash.digest; blob_of = blob_of; found = λ (b : Arc PagableData Global). blob_of (arc_value b); is_closed = S.is_closed; failed = S.failed }) (world_of (record { sight = record { type_of = E.Node.type_of; means = E.Node.means; shape_of = E.Node.shape_of; parts = E.parts; stored = S.stored }; references = E.Node.refs_of; digest = key_of E.Hash.digest; blob_of = blob_of; found = λ (b : Arc PagableData Global). blob_of (arc_value b); is_closed = S.is_closed; failed = S.failed }) pager.old) (MachineCall.Store blob) result (world_of (record { sight = record { type_of = E.Node.type_of; means = E.Node.means; shape_of = E.Node.shape_of; parts = E.parts; stored = S.stored }; references = E.Node.refs_of; digest = key_of E.Hash.digest; blob_of = blob_of; found = λ (b : Arc PagableData Global). blob_of (arc_value b); is_closed = S.is_closed; failed = S.failed }) pager.new) }
+    ensures leads { LeadsOn (record { sight = record { type_of = E.Node.type_of; means = E.Node.means; shape_of = E.Node.shape_of; parts = E.parts; stored = S.stored }; references = E.Node.refs_of; digest = key_of E.Hash.digest; blob_of = blob_of; found = λ (b : Arc PagableData Global). blob_of (arc_value b); is_closed = S.is_closed; failed = S.failed }) pager.old (MachineCall.Store blob) result pager.new }
+{
+    Reply::Stored(pager.store(alloc, blob))
+}
+
+// A load begins.
+fn load_begin<E: Env, S: PagableStorage<E>>(
+    pager: &mut Pager<E, S>,
+    handle: HandleNumber,
+) -> Reply<E::Node, Arc<PagableData>>
+where
+    E::Node: NodeSet<E>,
+    ensures does { CallDoes (record { sight = record { type_of = E.Node.type_of; means = E.Node.means; shape_of = E.Node.shape_of; parts = E.parts; stored = S.stored }; references = E.Node.refs_of; digest = key_of E.Hash.digest; blob_of = blob_of; found = λ (b : Arc PagableData Global). blob_of (arc_value b); is_closed = S.is_closed; failed = S.failed }) (world_of (record { sight = record { type_of = E.Node.type_of; means = E.Node.means; shape_of = E.Node.shape_of; parts = E.parts; stored = S.stored }; references = E.Node.refs_of; digest = key_of E.Hash.digest; blob_of = blob_of; found = λ (b : Arc PagableData Global). blob_of (arc_value b); is_closed = S.is_closed; failed = S.failed }) pager.old) (MachineCall.LoadBegin handle) result (world_of (record { sight = record { type_of = E.Node.type_of; means = E.Node.means; shape_of = E.Node.shape_of; parts = E.parts; stored = S.stored }; references = E.Node.refs_of; digest = key_of E.Hash.digest; blob_of = blob_of; found = λ (b : Arc PagableData Global). blob_of (arc_value b); is_closed = S.is_closed; failed = S.failed }) pager.new) }
+    ensures leads { LeadsOn (record { sight = record { type_of = E.Node.type_of; means = E.Node.means; shape_of = E.Node.shape_of; parts = E.parts; stored = S.stored }; references = E.Node.refs_of; digest = key_of E.Hash.digest; blob_of = blob_of; found = λ (b : Arc PagableData Global). blob_of (arc_value b); is_closed = S.is_closed; failed = S.failed }) pager.old (MachineCall.LoadBegin handle) result pager.new }
+{
+    Reply::Begun(pager.load_begin(handle))
+}
+
+// A load ends.
+fn load_end<E: Env, S: PagableStorage<E>>(
+    pager: &mut Pager<E, S>,
+    alloc: Global,
+    load: LoadNumber,
+    node: E::Node,
+) -> Reply<E::Node, Arc<PagableData>>
+where
+    E::Node: NodeSet<E>,
+    ensures does { CallDoes (record { sight = record { type_of = E.Node.type_of; means = E.Node.means; shape_of = E.Node.shape_of; parts = E.parts; stored = S.stored }; references = E.Node.refs_of; digest = key_of E.Hash.digest; blob_of = blob_of; found = λ (b : Arc PagableData Global). blob_of (arc_value b); is_closed = S.is_closed; failed = S.failed }) (world_of (record { sight = record { type_of = E.Node.type_of; means = E.Node.means; shape_of = E.Node.shape_of; parts = E.parts; stored = S.stored }; references = E.Node.refs_of; digest = key_of E.Hash.digest; blob_of = blob_of; found = λ (b : Arc PagableData Global). blob_of (arc_value b); is_closed = S.is_closed; failed = S.failed }) pager.old) (MachineCall.LoadEnd load node) result (world_of (record { sight = record { type_of = E.Node.type_of; means = E.Node.means; shape_of = E.Node.shape_of; parts = E.parts; stored = S.stored }; references = E.Node.refs_of; digest = key_of E.Hash.digest; blob_of = blob_of; found = λ (b : Arc PagableData Global). blob_of (arc_value b); is_closed = S.is_closed; failed = S.failed }) pager.new) }
+    ensures leads { LeadsOn (record { sight = record { type_of = E.Node.type_of; means = E.Node.means; shape_of = E.Node.shape_of; parts = E.parts; stored = S.stored }; references = E.Node.refs_of; digest = key_of E.Hash.digest; blob_of = blob_of; found = λ (b : Arc PagableData Global). blob_of (arc_value b); is_closed = S.is_closed; failed = S.failed }) pager.old (MachineCall.LoadEnd load node) result pager.new }
+{
+    Reply::LoadEnded(pager.load_end(alloc, load, node))
+}
+
+// A load is given up.
+fn load_drop<E: Env, S: PagableStorage<E>>(
+    pager: &mut Pager<E, S>,
+    load: LoadNumber,
+) -> Reply<E::Node, Arc<PagableData>>
+where
+    E::Node: NodeSet<E>,
+    ensures does { CallDoes (record { sight = record { type_of = E.Node.type_of; means = E.Node.means; shape_of = E.Node.shape_of; parts = E.parts; stored = S.stored }; references = E.Node.refs_of; digest = key_of E.Hash.digest; blob_of = blob_of; found = λ (b : Arc PagableData Global). blob_of (arc_value b); is_closed = S.is_closed; failed = S.failed }) (world_of (record { sight = record { type_of = E.Node.type_of; means = E.Node.means; shape_of = E.Node.shape_of; parts = E.parts; stored = S.stored }; references = E.Node.refs_of; digest = key_of E.Hash.digest; blob_of = blob_of; found = λ (b : Arc PagableData Global). blob_of (arc_value b); is_closed = S.is_closed; failed = S.failed }) pager.old) (MachineCall.LoadDrop load) result (world_of (record { sight = record { type_of = E.Node.type_of; means = E.Node.means; shape_of = E.Node.shape_of; parts = E.parts; stored = S.stored }; references = E.Node.refs_of; digest = key_of E.Hash.digest; blob_of = blob_of; found = λ (b : Arc PagableData Global). blob_of (arc_value b); is_closed = S.is_closed; failed = S.failed }) pager.new) }
+    ensures leads { LeadsOn (record { sight = record { type_of = E.Node.type_of; means = E.Node.means; shape_of = E.Node.shape_of; parts = E.parts; stored = S.stored }; references = E.Node.refs_of; digest = key_of E.Hash.digest; blob_of = blob_of; found = λ (b : Arc PagableData Global). blob_of (arc_value b); is_closed = S.is_closed; failed = S.failed }) pager.old (MachineCall.LoadDrop load) result pager.new }
+{
+    Reply::Done(pager.load_drop(load))
+}
+
+// The blob of a load's root.
+fn load_fetch<E: Env, S: PagableStorage<E>>(
+    pager: &mut Pager<E, S>,
+    alloc: Global,
+    load: LoadNumber,
+) -> Reply<E::Node, Arc<PagableData>>
+where
+    E::Node: NodeSet<E>,
+    ensures does { CallDoes (record { sight = record { type_of = E.Node.type_of; means = E.Node.means; shape_of = E.Node.shape_of; parts = E.parts; stored = S.stored }; references = E.Node.refs_of; digest = key_of E.Hash.digest; blob_of = blob_of; found = λ (b : Arc PagableData Global). blob_of (arc_value b); is_closed = S.is_closed; failed = S.failed }) (world_of (record { sight = record { type_of = E.Node.type_of; means = E.Node.means; shape_of = E.Node.shape_of; parts = E.parts; stored = S.stored }; references = E.Node.refs_of; digest = key_of E.Hash.digest; blob_of = blob_of; found = λ (b : Arc PagableData Global). blob_of (arc_value b); is_closed = S.is_closed; failed = S.failed }) pager.old) (MachineCall.LoadFetch load) result (world_of (record { sight = record { type_of = E.Node.type_of; means = E.Node.means; shape_of = E.Node.shape_of; parts = E.parts; stored = S.stored }; references = E.Node.refs_of; digest = key_of E.Hash.digest; blob_of = blob_of; found = λ (b : Arc PagableData Global). blob_of (arc_value b); is_closed = S.is_closed; failed = S.failed }) pager.new) }
+    ensures leads { LeadsOn (record { sight = record { type_of = E.Node.type_of; means = E.Node.means; shape_of = E.Node.shape_of; parts = E.parts; stored = S.stored }; references = E.Node.refs_of; digest = key_of E.Hash.digest; blob_of = blob_of; found = λ (b : Arc PagableData Global). blob_of (arc_value b); is_closed = S.is_closed; failed = S.failed }) pager.old (MachineCall.LoadFetch load) result pager.new }
+{
+    match pager.load_fetch(alloc, load, Want::Root) {
+        Ok(Either::Right(blob)) => Reply::LoadFound(Ok(Found::Blob(blob))),
+        Ok(Either::Left(_)) => unreachable!(),
+        Err(e) => Reply::LoadFound(Err(e)),
+    }
+}
