@@ -10,7 +10,7 @@ use Rattle.pagable_world.specs.Calls.{HasLoad, Ended}
 use Rattle.pagable_world.specs.Values.{value_of_node, SameValues, ValueComes, ValueIsThere}
 use Rattle.pagable_world.specs.declared.rows.LoadRow.{LoadRow}
 use Rattle.pagable_world.specs.declared.answers.EndRefusal.{EndRefusal}
-use Rattle.pagable_pager.specs.Loads.{FitsLoad}
+use Rattle.pagable_world.specs.LoadEnds.{FitsLoad}
 
 -- what the book says of the load's node, whose value comes or is there
 abbrev pub Comes : LoadNumber → State → State → Type 0

@@ -9,8 +9,8 @@ use Rattle.std.proofs.lemmas.List.Sums.{sum_by-cons, sum_by_push, sum_by-le-sum_
 use Rattle.pagable_world.specs.State.{State, one, value_at}
 use Rattle.pagable_world.specs.Values.{value_with, values_of, value_of_node, SameValues, ValueComes}
 use Rattle.pagable_world.specs.declared.rows.NodeRow.{NodeRow}
-use Rattle.pagable_pager.specs.InStep.{is_value, InStep, kept}
-use Rattle.pagable_pager.specs.Shown.{value_of}
+use Rattle.pagable_world.specs.InStep.{is_value, InStep, kept}
+use Rattle.pagable_pager.specs.Rows.{value_of}
 use Rattle.pagable_pager.specs.declared.pagable_arc.values.ValueRow.{ValueRow}
 
 one-more : {X Y : Type 0} (g : X → Y) (b : Bool) (x : X) (l : List X) (m : List Y) → map g l ≡ m → map g (cond b (x ∷ l) l) ≡ cond b (g x ∷ m) m

@@ -31,12 +31,14 @@ use Rattle.pagable_model.specs.declared.numbers.NodeNumber.{NodeNumber}
 use Rattle.pagable_world.specs.Values.{value_of_node}
 use Rattle.pagable_world.specs.Calls.{PinnedBy, Unpinned, Released, Took, KeySet, Begun, HasLoad, Ended, Dropped}
 use Rattle.pagable_world.specs.declared.rows.HandleRow.{HandleRow}
-use Rattle.pagable_pager.specs.Shown.{Shown, SameStore, OnlyStore, Unchanged, value_of}
-use Rattle.pagable_pager.specs.Loads.{Installs, ClosedBy, StaysOpen}
+use Rattle.pagable_world.specs.Shown.{Shown, SameStore, OnlyStore, Unchanged}
+use Rattle.pagable_pager.specs.Rows.{value_of}
+use Rattle.pagable_world.specs.LoadEnds.{InstallsValue, ClosedBy, StaysOpen, EndedAs}
 use Rattle.pagable_pager.specs.declared.pagable_arc.values.ValueRow.{ValueRow}
-use Rattle.pagable_pager.specs.Lending.{IsLent}
-use Rattle.pagable_pager.specs.InStep.{InStep, is_value, kept}
-use Rattle.pagable_pager.specs.Trees.{Sight, MeansTree, CellFits, TreeWorld, Represents, KeepsTrees, EachWorld, Always, KeyReads, KeyFits, LendsTree, StandsEmpty, BirthOf, ReadFits, EndedAs}
+use Rattle.pagable_world.specs.Lending.{IsLent}
+use Rattle.pagable_world.specs.InStep.{InStep, is_value, kept}
+use Rattle.pagable_world.specs.Stands.{SameTrees}
+use Rattle.pagable_world.specs.TodayTrees.{Sight, MeansTree, CellFits, TodayWorld, RepresentsToday, EachWorld, Always, KeyReads, SetKeyFits, LendsTree, StandsEmpty, BirthOf, ReadFits}
 
 -- what a change of the plain world keeps of its cells
 pub record KeepsCells (w w' : World) : Type 1 where
@@ -105,8 +107,8 @@ pub cells-move : {N S E : Type 0} (g : Sight N S E) (old new : Shown N S E) (tre
 cells-move g old new tree cells storage env all = All-weaker (λ cell. CellFits g old cell (tree cell.number)) (λ cell. CellFits g new cell (tree cell.number)) (λ cell. cell-moves g old new cell (tree cell.number) storage env) cells all
 
 -- a step that keeps all trees, by what it keeps of the values and of the cells
-pub keeping : {N S E : Type 0} (g : Sight N S E) (old new : Shown N S E) (step : World → World → Type 0) (w : TreeWorld) → Represents g old w → step (plain old.book) (plain new.book) → All (λ x. MeansTree g x.1 (w.tree x.0)) new.values → All (λ cell. CellFits g new cell (w.tree cell.number)) (plain new.book).cells
-    → (w' : TreeWorld) × step w.plain w'.plain × KeepsTrees w w' × Represents g new w'
+pub keeping : {N S E : Type 0} (g : Sight N S E) (old new : Shown N S E) (step : World → World → Type 0) (w : TodayWorld) → RepresentsToday g old w → step (plain old.book) (plain new.book) → All (λ x. MeansTree g x.1 (w.tree x.0)) new.values → All (λ cell. CellFits g new cell (w.tree cell.number)) (plain new.book).cells
+    → (w' : TodayWorld) × step w.plain w'.plain × SameTrees w.plain.last_node w.tree w'.tree × RepresentsToday g new w'
 keeping g old new step w rep done values cells =
     let P : World → Type 0 = λ x. step x (plain new.book) in
     (record { plain = plain new.book; tree = w.tree }, subst P (sym rep.same) done, λ n made. refl, record { same = refl; values = values; cells = cells })
@@ -137,7 +139,7 @@ keyed-fits g old cell key t fits reads =
       key = λ k has. let same : key ≡ k = cc in let P : ℕ → Type 0 = λ q. KeyReads g old q t in subst P same reads;
     }
 
-keyed-cells : {N S E : Type 0} (g : Sight N S E) (old new : Shown N S E) (h : HandleNumber) (key : ℕ) (r : Result (Unit {0}) Error) (w : TreeWorld) → KeySet (plain old.book) h key r (plain new.book) → w.plain ≡ plain old.book → All (λ cell. CellFits g old cell (w.tree cell.number)) (plain old.book).cells → KeyFits g old h key w
+keyed-cells : {N S E : Type 0} (g : Sight N S E) (old new : Shown N S E) (h : HandleNumber) (key : ℕ) (r : Result (Unit {0}) Error) (w : TodayWorld) → KeySet (plain old.book) h key r (plain new.book) → w.plain ≡ plain old.book → All (λ cell. CellFits g old cell (w.tree cell.number)) (plain old.book).cells → SetKeyFits g old h key w
     → All (λ cell. CellFits g old cell (w.tree cell.number)) (plain new.book).cells
 keyed-cells g old new h key (Ok u) w (i, row, own, inl stays) same all asked = All-same (λ cell. CellFits g old cell (w.tree cell.number)) (plain new.book).cells (plain old.book).cells (ap (λ (x : World). x.cells) stays.1) all
 keyed-cells g old new h key (Ok u) w (i, row, own, inr (loose, (j, cell, at, number, step))) same all asked =
@@ -151,7 +153,7 @@ keyed-cells g old new h key (Err e) w s same all asked = All-same (λ cell. Cell
 
 -- a key that fits is set
 pub keeps-keyed : {N S E : Type 0} (g : Sight N S E) (old new : Shown N S E) (h : HandleNumber) (key : ℕ) (r : Result (Unit {0}) Error) → KeySet (plain old.book) h key r (plain new.book) → new.values ≡ kept new.book old.values → new.storage ≡ old.storage → new.env ≡ old.env
-    → EachWorld g old new (KeyFits g old h key) (λ w w'. KeySet w.plain h key r w'.plain)
+    → EachWorld g old new (SetKeyFits g old h key) (λ w w'. KeySet w.plain h key r w'.plain)
 keeps-keyed g old new h key r done values storage env w rep asked =
     let P : Cell → Type 0 = λ cell. CellFits g old cell (w.tree cell.number) in
     keeping g old new (λ x y. KeySet x h key r y) w rep done
@@ -277,7 +279,7 @@ closed-cells w w' l e (inl (stays, same, rest)) = absurd (let bad : true ≡ fal
 closed-cells w w' l e (inr (closed, (p, load, has, why, closes))) = follow-cells load.node.0 _ w w' closes.follows
 
 -- the value that a load installs means its node's tree
-pub installed-means : {N S E : Type 0} (g : Sight N S E) (old new : Shown N S E) (load : LoadNumber) (x : N) (w : TreeWorld) → Represents g old w → ReadFits g load x w → Installs g.type_of load x old new → All (λ y. MeansTree g y.1 (w.tree y.0)) new.values
+pub installed-means : {N S E : Type 0} (g : Sight N S E) (old new : Shown N S E) (load : LoadNumber) (x : N) (w : TodayWorld) → RepresentsToday g old w → ReadFits g load x w → InstallsValue g.type_of load x old new → All (λ y. MeansTree g y.1 (w.tree y.0)) new.values
 installed-means {N} g old new load x w rep asked (number, fits, inl (away, e)) =
     let M : ℕ × N → Type 0 = λ y. MeansTree g y.1 (w.tree y.0) in
     let Has : World → Type 0 = λ u. HasLoad u load fits.0 fits.1 in
@@ -286,7 +288,7 @@ installed-means {N} g old new load x w rep asked (number, fits, inl (away, e)) =
 installed-means g old new load x w rep asked (number, fits, inr (there, e)) = All-same (λ y. MeansTree g y.1 (w.tree y.0)) new.values old.values e rep.values
 
 -- a load ends
-pub keeps-ended : {N S E : Type 0} (g : Sight N S E) (refs_of : N → List ArcRef) (load : LoadNumber) (x : N) (old new : Shown N S E) (r : Result HandleNumber (Error × Option N)) → IfOk r (λ k. Ended (plain old.book) load (Ok k) (plain new.book)) → OnOk r (Installs g.type_of load x old new) → IfErr r (λ e. IfNone e.1 (ClosedBy load e.0 old new))
+pub keeps-ended : {N S E : Type 0} (g : Sight N S E) (refs_of : N → List ArcRef) (load : LoadNumber) (x : N) (old new : Shown N S E) (r : Result HandleNumber (Error × Option N)) → IfOk r (λ k. Ended (plain old.book) load (Ok k) (plain new.book)) → OnOk r (InstallsValue g.type_of load x old new) → IfErr r (λ e. IfNone e.1 (ClosedBy load e.0 old new))
     → IfErr r (λ e. IfSome e.1 (λ y. (y ≡ x) × Unchanged old new × StaysOpen g.type_of refs_of load x old e.0)) → SameStore old new → EachWorld g old new (ReadFits g load x) (λ w w'. EndedAs load r w.plain w'.plain)
 keeps-ended {N} g refs_of load x old new (Ok k) step installs closed back same w rep asked =
     keeping g old new (λ a b. EndedAs {N = N} load (Ok k) a b) w rep step (installed-means g old new load x w rep asked installs)

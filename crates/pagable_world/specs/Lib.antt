@@ -4,6 +4,11 @@ pub mod World
 pub mod Refusals
 pub mod Values
 pub mod Calls
+pub mod Shown
+pub mod InStep
+pub mod Lending
+pub mod LoadEnds
+pub mod Births
 pub mod Words
 pub mod Least
 pub mod Kinds
@@ -17,6 +22,7 @@ pub mod Seen
 pub mod Pages
 pub mod Steps
 pub mod Stands
+pub mod TodayTrees
 pub mod LoadSteps
 pub mod Met
 pub mod WorkerSteps

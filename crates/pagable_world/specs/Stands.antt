@@ -52,9 +52,13 @@ pub record Represents {N B W : Type 0} (m : Seen N B W) (s : Pages N) (u : TreeW
   pub stands : (n : ℕ) → 0 < held n s.world.rows → NodeStands m s (record { 0 = n }) (u.tree n)
   pub typed : (n : ℕ) → 0 < held n s.world.rows → HasType s.world (record { 0 = n }) (u.tree n).type
 
+-- each node up to the one with this number keeps its tree
+abbrev pub SameTrees : ℕ → (ℕ → Tree) → (ℕ → Tree) → Type 0
+SameTrees last old new = (n : ℕ) → n ≤ last → new n ≡ old n
+
 -- a node keeps the tree that it was made with, for ever
 abbrev pub KeepsTrees : TreeWorld → TreeWorld → Type 0
-KeepsTrees u u' = (n : ℕ) → n ≤ u.plain.last.node → u'.tree n ≡ u.tree n
+KeepsTrees u u' = SameTrees u.plain.last.node u.tree u'.tree
 
 -- what the references lead to
 abbrev pub kids_of : TreeWorld → List ArcRef → List Kid

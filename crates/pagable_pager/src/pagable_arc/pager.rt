@@ -11,12 +11,12 @@ ghost use Rattle.pagable_world.specs.World.{plain, born, HasCell};
 ghost use Rattle.pagable_world.specs.Refusals.{IsUnknown};
 ghost use Rattle.pagable_world.specs.Calls.{PinnedBy, Unpinned, Released, Counts, KeyIs, AwayIs, NodeIs, Took, KeySet, Begun, Ended, Dropped};
 ghost use Rattle.pagable_world.specs.Values.{value_of_node};
-ghost use Rattle.pagable_pager.specs.Births.{RefusesNew};
-ghost use Rattle.pagable_pager.specs.InStep.{InStep, kept};
-ghost use Rattle.pagable_pager.specs.Lending.{IsLent, PinsNothing};
-ghost use Rattle.pagable_pager.specs.Loads.{ClosedBy, FitsLoad, Installs, LoadFetched, StaysOpen};
-ghost use Rattle.pagable_pager.specs.Trees.{Always, BirthOf, EachWorld, EndedAs, KeyFits, LendsTree, ReadFits, Sight, StandsEmpty};
-ghost use Rattle.pagable_pager.specs.Shown.{OnlyBook, SameStore, OnlyStore, Unchanged};
+ghost use Rattle.pagable_world.specs.Shown.{OnlyBook, SameStore, OnlyStore, Unchanged};
+ghost use Rattle.pagable_world.specs.InStep.{InStep, kept};
+ghost use Rattle.pagable_world.specs.Lending.{IsLent, PinsNothing};
+ghost use Rattle.pagable_world.specs.LoadEnds.{ClosedBy, EndedAs, FitsLoad, InstallsValue, LoadFetched, StaysOpen};
+ghost use Rattle.pagable_world.specs.Births.{RefusesNew};
+ghost use Rattle.pagable_world.specs.TodayTrees.{Always, BirthOf, EachWorld, SetKeyFits, LendsTree, ReadFits, Sight, StandsEmpty};
 
 use crate::pagable_arc::values;
 use crate::pagable_arc::values::ValueRow;
@@ -55,8 +55,9 @@ impl<E: Env, S: PagableStorage<E>> Model for Pager<E, S>
 where
     E::Node: NodeSet<E>,
 {
-    ghost use Rattle.pagable_pager.specs.Shown.{Shown, value_of};
-    ghost use Rattle.pagable_pager.specs.InStep.{InStep};
+    ghost use Rattle.pagable_world.specs.Shown.{Shown};
+    ghost use Rattle.pagable_world.specs.InStep.{InStep};
+    ghost use Rattle.pagable_pager.specs.Rows.{value_of};
     ghost use Rattle.std.specs.Prelude.{map};
 
     ghost Value = { Shown E.Node S E };
@@ -224,7 +225,7 @@ where
     /// and NotYours.
     pub fn set_data_key(&mut self, handle: HandleNumber, key: DataKey) -> Result<(), Error>
         ensures step { KeySet (plain self.old.book) handle key result (plain self.new.book) }
-        ensures trees { EachWorld (record { type_of = E.Node.type_of; means = E.Node.means; shape_of = E.Node.shape_of; parts = E.parts; stored = S.stored }) self.old self.new (KeyFits (record { type_of = E.Node.type_of; means = E.Node.means; shape_of = E.Node.shape_of; parts = E.parts; stored = S.stored }) self.old handle key) (λ w w'. KeySet w.plain handle key result w'.plain) }
+        ensures trees { EachWorld (record { type_of = E.Node.type_of; means = E.Node.means; shape_of = E.Node.shape_of; parts = E.parts; stored = S.stored }) self.old self.new (SetKeyFits (record { type_of = E.Node.type_of; means = E.Node.means; shape_of = E.Node.shape_of; parts = E.parts; stored = S.stored }) self.old handle key) (λ w w'. KeySet w.plain handle key result w'.plain) }
         ensures values { self.new.values ≡ kept self.new.book self.old.values }
         ensures same { SameStore self.old self.new }
     {
@@ -291,7 +292,7 @@ where
         want: Want,
     ) -> Result<Either<ArcRef, Arc<PagableData>>, Error>
         ensures trees { EachWorld (record { type_of = E.Node.type_of; means = E.Node.means; shape_of = E.Node.shape_of; parts = E.parts; stored = S.stored }) self.old self.new Always (λ w w'. w'.plain ≡ w.plain) }
-        ensures fetched { LoadFetched load self.old.book (S.stored self.old.storage) (S.failed self.old.storage) (S.failed self.new.storage) result }
+        ensures fetched { LoadFetched (λ blob. blob_of (arc_value blob)) load self.old.book (S.stored self.old.storage) (S.failed self.old.storage) (S.failed self.new.storage) result }
         ensures same { OnlyStore self.old self.new }
         ensures stored { S.stored self.new.storage ≡ S.stored self.old.storage }
     {
@@ -317,7 +318,7 @@ where
     ) -> Result<HandleNumber, (Error, Option<E::Node>)>
         ensures step { IfOk result (λ k. Ended (plain self.old.book) load (Ok k) (plain self.new.book)) }
         ensures trees { EachWorld (record { type_of = E.Node.type_of; means = E.Node.means; shape_of = E.Node.shape_of; parts = E.parts; stored = S.stored }) self.old self.new (ReadFits (record { type_of = E.Node.type_of; means = E.Node.means; shape_of = E.Node.shape_of; parts = E.parts; stored = S.stored }) load node) (λ w w'. EndedAs load result w.plain w'.plain) }
-        ensures installs { OnOk result (Installs E.Node.type_of load node self.old self.new) }
+        ensures installs { OnOk result (InstallsValue E.Node.type_of load node self.old self.new) }
         ensures closed { IfErr result (λ e. IfNone e.1 (ClosedBy load e.0 self.old self.new)) }
         ensures back { IfErr result (λ e. IfSome e.1 (λ x. (x ≡ node) × Unchanged self.old self.new × StaysOpen E.Node.type_of E.Node.refs_of load node self.old e.0)) }
         ensures same { SameStore self.old self.new }
@@ -365,7 +366,7 @@ where
     ) -> Result<HandleNumber, (Error, Option<E::Node>)>
         requires { FitsLoad E.Node.type_of load node self.old.book cell }
         ensures step { IfOk result (λ k. Ended (plain self.old.book) load (Ok k) (plain self.new.book)) }
-        ensures installs { OnOk result (Installs E.Node.type_of load node self.old self.new) }
+        ensures installs { OnOk result (InstallsValue E.Node.type_of load node self.old self.new) }
         ensures closed { IfErr result (λ e. IfNone e.1 (ClosedBy load e.0 self.old self.new)) }
         ensures back { IfErr result (λ e. IfSome e.1 (λ x. (x ≡ node) × Unchanged self.old self.new × StaysOpen E.Node.type_of E.Node.refs_of load node self.old e.0)) }
         ensures same { SameStore self.old self.new }
@@ -387,7 +388,7 @@ where
         requires fits { FitsLoad E.Node.type_of load node self.old.book cell }
         requires there { 0 < value_of_node cell.0 self.old.book }
         ensures step { IfOk result (λ k. Ended (plain self.old.book) load (Ok k) (plain self.new.book)) }
-        ensures installs { OnOk result (Installs E.Node.type_of load node self.old self.new) }
+        ensures installs { OnOk result (InstallsValue E.Node.type_of load node self.old self.new) }
         ensures closed { IfErr result (λ e. IfNone e.1 (ClosedBy load e.0 self.old self.new)) }
         ensures back { IfErr result (λ e. IfSome e.1 (λ x. (x ≡ node) × Unchanged self.old self.new × StaysOpen E.Node.type_of E.Node.refs_of load node self.old e.0)) }
         ensures same { SameStore self.old self.new }
@@ -414,7 +415,7 @@ where
         requires fits { FitsLoad E.Node.type_of load node self.old.book cell }
         requires away { value_of_node cell.0 self.old.book ≡ 0 }
         ensures step { IfOk result (λ k. Ended (plain self.old.book) load (Ok k) (plain self.new.book)) }
-        ensures installs { OnOk result (Installs E.Node.type_of load node self.old self.new) }
+        ensures installs { OnOk result (InstallsValue E.Node.type_of load node self.old self.new) }
         ensures closed { IfErr result (λ e. IfNone e.1 (ClosedBy load e.0 self.old self.new)) }
         ensures back { IfErr result (λ e. IfSome e.1 (λ x. (x ≡ node) × Unchanged self.old self.new × StaysOpen E.Node.type_of E.Node.refs_of load node self.old e.0)) }
         ensures same { SameStore self.old self.new }

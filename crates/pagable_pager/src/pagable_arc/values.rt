@@ -2,8 +2,8 @@
 
 ghost use Rattle.std.specs.Prelude.{◌≡◌, ◌<◌, ◌==◌, IfNone, IfSome, length, map, nat_lt, slice_index_or, sum_by};
 ghost use Rattle.pagable_world.specs.State.{one};
-ghost use Rattle.pagable_pager.specs.InStep.{kept};
-ghost use Rattle.pagable_pager.specs.Shown.{value_of};
+ghost use Rattle.pagable_world.specs.InStep.{kept};
+ghost use Rattle.pagable_pager.specs.Rows.{value_of};
 ghost use Rattle.pagable_pager.specs.declared.pagable_arc.values.ValueRow.{ValueRow};
 
 use pagable_book::Book;

@@ -1,5 +1,5 @@
 use Rattle.std.proofs.Common.{◌≡◌, ◌+◌, refl, ◌++◌, ◌∷◌, [], map, arith, sym}
-use Rattle.pagable_pager.specs.Shown.{value_of}
+use Rattle.pagable_pager.specs.Rows.{value_of}
 use Rattle.pagable_pager.proofs.Keeping.{in-comes, values-push}
 use Rattle.pagable_pager.proofs.Kept.{birth, none-there}
 use Rattle.pagable_pager.proofs.pagable_arc.pager.Pager.add_cell.Goals as goal

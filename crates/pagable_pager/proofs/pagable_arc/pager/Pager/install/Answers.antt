@@ -1,6 +1,6 @@
 use Rattle.std.proofs.Common.{◌≡◌, ◌++◌, ◌∷◌, [], map, arith, inl, refl}
 use Rattle.std.proofs.lemmas.Grind.{common_steps}
-use Rattle.pagable_pager.specs.Shown.{value_of}
+use Rattle.pagable_pager.specs.Rows.{value_of}
 use Rattle.pagable_pager.proofs.Keeping.{in-kept, in-comes, values-push}
 use Rattle.pagable_pager.proofs.Ending.{installed, closed-step}
 use Rattle.pagable_pager.proofs.pagable_arc.pager.Pager.install.Goals as goal

@@ -1,5 +1,5 @@
 use Rattle.std.proofs.Common.{map, refl}
-use Rattle.pagable_pager.specs.Shown.{value_of}
+use Rattle.pagable_pager.specs.Rows.{value_of}
 use Rattle.pagable_pager.proofs.Keeping.{in-kept}
 use Rattle.pagable_world.specs.Calls.{Dropped}
 use Rattle.pagable_pager.proofs.Kept.{keeps-kept, drop-cells}

@@ -1,35 +1,31 @@
--- How a load ends and what it fetches.
-use Rattle.std.specs.Prelude.{◌≡◌, ◌≢◌, ◌++◌, ◌∷◌, ◌⊎◌, [], ℕ, List, Option, Some, Result, Ok, Err, true}
-use Rattle.std.specs.Arc.{arc_value}
-use Rattle.std.specs.Global.{Global}
-use Rattle.std.specs.declared.sync.Arc.{Arc}
+-- How a load of today's ends and what it fetches.
+use Rattle.std.specs.Prelude.{◌≡◌, ◌≢◌, ◌++◌, ◌∷◌, ◌⊎◌, [], ℕ, List, Option, Some, None, Result, Ok, Err, true}
 use Rattle.either.specs.declared.Either.{Either}
 use Rattle.either.specs.declared.Either.TheVariants as eithers
 use Rattle.pagable_model.specs.Blob.{Blob}
 use Rattle.pagable_model.specs.declared.error.Error.{Error}
 use Rattle.pagable_model.specs.declared.error.Error.TheVariants as errors
 use Rattle.pagable_model.specs.declared.numbers.ArcRef.{ArcRef}
+use Rattle.pagable_model.specs.declared.numbers.HandleNumber.{HandleNumber}
 use Rattle.pagable_model.specs.declared.numbers.LoadNumber.{LoadNumber}
 use Rattle.pagable_model.specs.declared.numbers.NodeNumber.{NodeNumber}
-use Rattle.pagable_core.specs.Data.{blob_of}
 use Rattle.pagable_model.specs.Stored.{RefusesFetch}
-use Rattle.pagable_core.specs.declared.storage.data.PagableData.{PagableData}
 use Rattle.pagable_world.specs.State.{State}
 use Rattle.pagable_world.specs.Values.{value_of_node}
 use Rattle.pagable_world.specs.Cells.{Cell}
-use Rattle.pagable_world.specs.World.{plain, greatest, HasCell}
+use Rattle.pagable_world.specs.World.{World, plain, greatest, HasCell}
 use Rattle.pagable_world.specs.Calls.{HasLoad, IsNoLoad, Ended}
 use Rattle.pagable_world.specs.declared.rows.LoadRow.{LoadRow}
-use Rattle.pagable_pager.specs.InStep.{kept}
-use Rattle.pagable_pager.specs.Shown.{Shown}
+use Rattle.pagable_world.specs.InStep.{kept}
+use Rattle.pagable_world.specs.Shown.{Shown}
 
 -- the load is open, for this node, whose value is of the handed value's type
 abbrev pub FitsLoad : {N : Type 0} → (N → ℕ) → LoadNumber → N → State → NodeNumber → Type 0
 FitsLoad type_of load node book number = (p : ℕ) × (row : LoadRow) × (cell : Cell) × HasLoad (plain book) load p row × (row.node ≡ number) × HasCell (plain book) number cell × (cell.node_type ≡ type_of node)
 
 -- The value becomes its node's, if that has none in memory. Else the old value stays.
-abbrev pub Installs : {N S E : Type 0} → (N → ℕ) → LoadNumber → N → Shown N S E → Shown N S E → Type 0
-Installs type_of load node old new =
+abbrev pub InstallsValue : {N S E : Type 0} → (N → ℕ) → LoadNumber → N → Shown N S E → Shown N S E → Type 0
+InstallsValue type_of load node old new =
     (number : NodeNumber)
     × FitsLoad type_of load node old.book number
     × (((value_of_node number.0 old.book ≡ 0) × (new.values ≡ old.values ++ (number.0, node) ∷ [])) ⊎ ((value_of_node number.0 old.book ≡ 1) × (new.values ≡ old.values)))
@@ -46,8 +42,15 @@ StaysOpen type_of refs_of load node old _ = ⊥
 abbrev pub ClosedBy : {N S E : Type 0} → LoadNumber → Error → Shown N S E → Shown N S E → Type 0
 ClosedBy load e old new = Ended (plain old.book) load (Err (record { error = e; closed = true })) (plain new.book) × (new.values ≡ kept new.book old.values)
 
--- the blob under the load's key, or why there is none: no such load is open, or the storage refuses the key
-abbrev pub LoadFetched : LoadNumber → State → (ℕ → Option Blob) → ℕ → ℕ → Result (Either ArcRef (Arc PagableData Global)) Error → Type 0
-LoadFetched load book stored before after (Ok (eithers.Right blob)) = (p : ℕ) × (row : LoadRow) × HasLoad (plain book) load p row × (stored row.key ≡ Some (blob_of (arc_value blob)))
-LoadFetched load book stored before after (Ok (eithers.Left reference)) = ⊥
-LoadFetched load book stored before after (Err e) = (IsNoLoad (plain book) load × (e ≡ errors.NoSuchHandle)) ⊎ ((p : ℕ) × (row : LoadRow) × HasLoad (plain book) load p row × RefusesFetch row.key (stored row.key) before after e)
+-- the blob under the load's key, where answers are seen as blobs by blob_of; or why there is none: no such load is open, or
+-- the storage refuses the key
+abbrev pub LoadFetched : {B : Type 0} → (B → Blob) → LoadNumber → State → (ℕ → Option Blob) → ℕ → ℕ → Result (Either ArcRef B) Error → Type 0
+LoadFetched blob_of load book stored before after (Ok (eithers.Right blob)) = (p : ℕ) × (row : LoadRow) × HasLoad (plain book) load p row × (stored row.key ≡ Some (blob_of blob))
+LoadFetched blob_of load book stored before after (Ok (eithers.Left reference)) = ⊥
+LoadFetched blob_of load book stored before after (Err e) = (IsNoLoad (plain book) load × (e ≡ errors.NoSuchHandle)) ⊎ ((p : ℕ) × (row : LoadRow) × HasLoad (plain book) load p row × RefusesFetch row.key (stored row.key) before after e)
+
+-- the end of a load: the step of the tables, or nothing where the value comes back
+abbrev pub EndedAs : {N : Type 0} → LoadNumber → Result HandleNumber (Error × Option N) → World → World → Type 0
+EndedAs load (Ok k) w w' = Ended w load (Ok k) w'
+EndedAs load (Err (e, Some x)) w w' = w' ≡ w
+EndedAs load (Err (e, None)) w w' = Ended w load (Err (record { error = e; closed = true })) w'

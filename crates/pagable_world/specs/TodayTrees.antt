@@ -1,8 +1,7 @@
--- Worlds with trees, whose values never leave memory, and when a pager stands for one. Values hold no references yet, so
--- that what they mean is a meaning in which every reference is followed.
-use Rattle.std.specs.Prelude.{◌≡◌, ◌≤◌, ◌+◌, ℕ, Option, Some, None, true, All, Result, Ok, Err}
+-- Today's worlds with trees, whose values never leave memory, and when a pager stands for one. Values hold no references yet,
+-- so that what they mean is a meaning in which every reference is followed.
+use Rattle.std.specs.Prelude.{◌≡◌, ◌+◌, ℕ, Option, true, All}
 use Rattle.pagable_model.specs.declared.data_key.OptionalDataKey.TheVariants as optional
-use Rattle.pagable_model.specs.declared.error.Error.{Error}
 use Rattle.pagable_model.specs.declared.numbers.ArcRef.{ArcRef}
 use Rattle.pagable_model.specs.declared.numbers.HandleNumber.{HandleNumber}
 use Rattle.pagable_model.specs.declared.numbers.LoadNumber.{LoadNumber}
@@ -15,10 +14,11 @@ use Rattle.pagable_world.specs.State.{is_loose}
 use Rattle.pagable_world.specs.Cells.{Cell}
 use Rattle.pagable_world.specs.World.{World, plain, born}
 use Rattle.pagable_world.specs.Refusals.{HasRow, IsOwn}
-use Rattle.pagable_world.specs.Calls.{HasLoad, Ended}
+use Rattle.pagable_world.specs.Calls.{HasLoad}
 use Rattle.pagable_world.specs.declared.rows.HandleRow.{HandleRow}
 use Rattle.pagable_world.specs.declared.rows.LoadRow.{LoadRow}
-use Rattle.pagable_pager.specs.Shown.{Shown}
+use Rattle.pagable_world.specs.Shown.{Shown}
+use Rattle.pagable_world.specs.Stands.{SameTrees}
 
 -- How values and blobs are seen: the type of a value and what it may mean, how values are spelled, and what is stored.
 pub record Sight (N S E : Type 0) : Type 1 where
@@ -42,53 +42,43 @@ pub record CellFits {N S E : Type 0} (g : Sight N S E) (v : Shown N S E) (cell :
   pub typed : cell.node_type ≡ t.type
   pub key : (key : ℕ) → cell.key ≡ optional.Some key → KeyReads g v key t
 
--- the plain world, and the tree that each node was made with
-pub record TreeWorld : Type 0 where
+-- today's plain world, and the tree that each node was made with
+pub record TodayWorld : Type 0 where
   pub plain : World
   pub tree : ℕ → Tree
 
 -- The pager stands for the world: its tables are the same, each value in memory means its node's tree, and each node that is
 -- live fits its tree. So a node whose value is away stands for its tree by its key.
-pub record Represents {N S E : Type 0} (g : Sight N S E) (v : Shown N S E) (w : TreeWorld) : Type 0 where
+pub record RepresentsToday {N S E : Type 0} (g : Sight N S E) (v : Shown N S E) (w : TodayWorld) : Type 0 where
   pub same : w.plain ≡ plain v.book
   pub values : All (λ x. MeansTree g x.1 (w.tree x.0)) v.values
   pub cells : All (λ cell. CellFits g v cell (w.tree cell.number)) (plain v.book).cells
 
--- each node that was ever made keeps its tree
-abbrev pub KeepsTrees : TreeWorld → TreeWorld → Type 0
-KeepsTrees w w' = (n : ℕ) → n ≤ w.plain.last_node → w'.tree n ≡ w.tree n
-
 -- From each world that the old state stands for, and of which the premise is true, this step leads to one that the new
 -- state stands for, and each node keeps its tree.
-abbrev pub EachWorld : {N S E : Type 0} → Sight N S E → Shown N S E → Shown N S E → (TreeWorld → Type 0) → (TreeWorld → TreeWorld → Type 0) → Type 0
-EachWorld g old new premise step = (w : TreeWorld) → Represents g old w → premise w → (w' : TreeWorld) × step w w' × KeepsTrees w w' × Represents g new w'
+abbrev pub EachWorld : {N S E : Type 0} → Sight N S E → Shown N S E → Shown N S E → (TodayWorld → Type 0) → (TodayWorld → TodayWorld → Type 0) → Type 0
+EachWorld g old new premise step = (w : TodayWorld) → RepresentsToday g old w → premise w → (w' : TodayWorld) × step w w' × SameTrees w.plain.last_node w.tree w'.tree × RepresentsToday g new w'
 
 -- nothing is asked
-abbrev pub Always : TreeWorld → Type 0
+abbrev pub Always : TodayWorld → Type 0
 Always w = Unit {0}
 
 -- the key that is set through a loose handle reads as the tree of its node
-abbrev pub KeyFits : {N S E : Type 0} → Sight N S E → Shown N S E → HandleNumber → ℕ → TreeWorld → Type 0
-KeyFits g v handle key w = (i : ℕ) (row : HandleRow) → IsOwn w.plain handle i row → is_loose row.mode ≡ true → KeyReads g v key (w.tree row.node.0)
+abbrev pub SetKeyFits : {N S E : Type 0} → Sight N S E → Shown N S E → HandleNumber → ℕ → TodayWorld → Type 0
+SetKeyFits g v handle key w = (i : ℕ) (row : HandleRow) → IsOwn w.plain handle i row → is_loose row.mode ≡ true → KeyReads g v key (w.tree row.node.0)
 
 -- the value that was read for a load means the tree of the load's node
-abbrev pub ReadFits : {N S E : Type 0} → Sight N S E → LoadNumber → N → TreeWorld → Type 0
+abbrev pub ReadFits : {N S E : Type 0} → Sight N S E → LoadNumber → N → TodayWorld → Type 0
 ReadFits g load x w = (p : ℕ) (row : LoadRow) → HasLoad w.plain load p row → MeansTree g x (w.tree row.node.0)
 
 -- what a handle lends means the tree of its node
 abbrev pub LendsTree : {N S E : Type 0} → Sight N S E → Shown N S E → HandleNumber → N → Type 0
-LendsTree g v handle x = (w : TreeWorld) → Represents g v w → (i : ℕ) × (row : HandleRow) × HasRow w.plain handle i row × MeansTree g x (w.tree row.node.0)
+LendsTree g v handle x = (w : TodayWorld) → RepresentsToday g v w → (i : ℕ) × (row : HandleRow) × HasRow w.plain handle i row × MeansTree g x (w.tree row.node.0)
 
 -- a pager without nodes stands for the world without nodes, whatever trees its later nodes will have
 abbrev pub StandsEmpty : {N S E : Type 0} → Sight N S E → Shown N S E → Type 0
-StandsEmpty g v = (tree : ℕ → Tree) → Represents g v (record { plain = plain v.book; tree = tree })
+StandsEmpty g v = (tree : ℕ → Tree) → RepresentsToday g v (record { plain = plain v.book; tree = tree })
 
 -- A node is born for the value: whichever tree the value means is the new node's.
 abbrev pub BirthOf : {N S E : Type 0} → Sight N S E → N → Shown N S E → Shown N S E → Type 0
 BirthOf g x old new = (t : Tree) → MeansTree g x t → EachWorld g old new Always (λ w w'. (w'.plain ≡ born w.plain (g.type_of x) modes.LoosePinned) × (w'.tree (w.plain.last_node + 1) ≡ t))
-
--- the end of a load: the step of the tables, or nothing where the value comes back
-abbrev pub EndedAs : {N : Type 0} → LoadNumber → Result HandleNumber (Error × Option N) → World → World → Type 0
-EndedAs load (Ok k) w w' = Ended w load (Ok k) w'
-EndedAs load (Err (e, Some x)) w w' = w' ≡ w
-EndedAs load (Err (e, None)) w w' = Ended w load (Err (record { error = e; closed = true })) w'

@@ -1,8 +1,7 @@
--- What contracts see of a pager, and what stays the same.
+-- What contracts see of today's pager, and what stays the same.
 use Rattle.std.specs.Prelude.{◌≡◌, ℕ, List}
 use Rattle.pagable_world.specs.State.{State}
 use Rattle.pagable_world.specs.World.{plain}
-use Rattle.pagable_pager.specs.declared.pagable_arc.values.ValueRow.{ValueRow}
 
 -- the tables, the values in memory by node, the storage and the environment
 pub record Shown (N S E : Type 0) : Type 0 where
@@ -10,10 +9,6 @@ pub record Shown (N S E : Type 0) : Type 0 where
   pub values : List (ℕ × N)
   pub storage : S
   pub env : E
-
--- a value with its node's number
-abbrev pub value_of : {N : Type 0} → ValueRow N → ℕ × N
-value_of row = (row.node.0, row.value)
 
 -- at most the tables changed
 pub record OnlyBook {N S E : Type 0} (old new : Shown N S E) : Type 0 where
