@@ -331,13 +331,17 @@ pub born-step : (old new : State) (node_type : ℕ) (mode : Mode) (r : Result Ha
 born-step old new node_type mode (Ok k) number world err why = (number, world)
 born-step old new node_type mode (Err e) number world err why = (why, ap plain err)
 
+-- the node that will be next has no value
+pub next-valueless : (s : State) → WellFormed s → value_of_node (s.last_node + 1) s ≡ 0
+next-valueless s w = let le = sum_by-le-sum_by (value_with (λ _. true) (s.last_node + 1)) (is_node (s.last_node + 1)) s.nodes (value-le (λ _. true) (s.last_node + 1)) in let f = w.nodes.fresh (s.last_node + 1) (omega arith) in omega arith
+
 pub bear-comes : (old new : State) (node_type : ℕ) (mode : Mode) (r : Result HandleNumber Error) → WellFormed old → WellFormed new → Born (plain old) node_type mode r (plain new) → OnOk r (ValueComes (old.last_node + 1) node_type old new)
 bear-comes old new node_type mode (Ok k) w w' s =
     let node : NodeNumber = record { 0 = old.last_node + 1 } in
     let cell : Cell = record { number = old.last_node + 1; node_type = node_type; key = optional.None } in
     let next : HandleRow = next_row (plain old) node mode owners.Caller in
     record {
-      before = let le = sum_by-le-sum_by (value_with (λ _. true) (old.last_node + 1)) (is_node (old.last_node + 1)) old.nodes (value-le (λ _. true) (old.last_node + 1)) in let f = w.nodes.fresh (old.last_node + 1) (omega arith) in omega arith;
+      before = next-valueless old w;
       now = λ fits.
           let q : ℕ = old.last_node + 1 in
           let b : Bool = nat_lt 0 (pins q (born (plain old) node_type mode).rows) in

@@ -77,6 +77,8 @@ impl Book {
     /// NumbersSpent and OutOfMemory change nothing.
     pub fn add_paged_out(&mut self, node_type: u32, key: DataKey) -> Result<HandleNumber, Error>
         ensures step { BornAway (plain self.old) node_type key result (plain self.new) }
+        ensures unused { All (λ cell. cell.number ≢ self.old.last_node + 1) (plain self.old).cells }
+        ensures before { value_of_node (self.old.last_node + 1) self.old ≡ 0 }
         ensures values { SameValues self.old self.new }
     {
         births::bear(
