@@ -1,5 +1,5 @@
 -- From the step of a call to whose value comes into memory, goes or stays.
-use Rattle.std.proofs.Common.{◌≡◌, ℕ, ◌+◌, ◌<◌, ◌≤◌, ◌==◌, ◌&&◌, Bool, true, false, List, [], ◌∷◌, ◌++◌, set, sum_by, refl, ap, sym, ◌∙◌, subst, arith, get_or, Some, None, Option, Ok, Err, Result, OnOk, OnErr, IfOk, IfErr, slice_get, inl, inr}
+use Rattle.std.proofs.Common.{◌≡◌, ℕ, ◌+◌, ◌<◌, ◌≤◌, ◌==◌, Bool, true, false, List, [], ◌∷◌, ◌++◌, sum_by, refl, ap, sym, ◌∙◌, subst, arith, get_or, Some, None, Option, Ok, Err, Result, OnOk, OnErr, IfOk, IfErr, slice_get, inl, inr}
 use Rattle.std.specs.Prelude.{nat_lt, not, ◌||◌, ◌⊎◌, ◌≢◌}
 use Rattle.std.specs.List.{remove}
 use Rattle.std.proofs.lemmas.Bool.Decides.{nat_tests}
@@ -14,7 +14,6 @@ use Rattle.pagable_model.specs.declared.numbers.LoadNumber.{LoadNumber}
 use Rattle.pagable_model.specs.declared.numbers.NodeNumber.{NodeNumber}
 use Rattle.pagable_world.specs.declared.rows.Mode.{Mode}
 use Rattle.pagable_world.specs.declared.rows.Mode.TheVariants as modes
-use Rattle.pagable_world.specs.declared.rows.Owner.{Owner}
 use Rattle.pagable_world.specs.declared.rows.Owner.TheVariants as owners
 use Rattle.pagable_world.specs.declared.answers.Pinning.{Pinning}
 use Rattle.pagable_world.specs.declared.answers.Pinning.TheVariants as pinnings
@@ -23,13 +22,12 @@ use Rattle.pagable_world.specs.declared.answers.Beginning.TheVariants as beginni
 use Rattle.pagable_world.specs.declared.answers.EndRefusal.{EndRefusal}
 use Rattle.pagable_world.specs.State.{State, WellFormed, one, has_key, is_aside, is_pinning, idle_pin, is_node, is_number, pins, pin_of, held}
 use Rattle.pagable_world.specs.Cells.{Cell, CellsFollow}
-use Rattle.pagable_world.specs.World.{World, plain, next_row, joined, turned, enlisted, born, born_with, rekeyed, opened, HasCell, IsHere, Leaves, Closes, Prepared, CannotBear}
-use Rattle.pagable_world.specs.Refusals.{HasRow, IsOwn, RefusesPinned}
-use Rattle.pagable_world.specs.Calls.{Born, BornAway, Cloned, Loosened, PinnedBy, Unpinned, UnpinnedAt, Released, ReleasedAt, Took, KeySet, Begun, HasLoad, Ended, Dropped}
+use Rattle.pagable_world.specs.World.{World, plain, next_row, joined, turned, enlisted, born, born_with, rekeyed, HasCell, IsHere, Leaves, Closes, Prepared, CannotBear}
+use Rattle.pagable_world.specs.Refusals.{IsOwn, RefusesPinned}
+use Rattle.pagable_world.specs.Calls.{Born, BornAway, Cloned, Loosened, PinnedBy, Unpinned, Released, Took, KeySet, Begun, HasLoad, Ended, Dropped}
 use Rattle.pagable_world.specs.Values.{value_with, values_of, value_of_node, cell_here, here, SameValues, NoValueComes, OnlyItsValueGoes, ValueComes, ValueIsThere}
 use Rattle.pagable_book.proofs.Sums.{sum-set, sum-remove, row-le-sum, no_count, pins-le-held, push-there}
-use Rattle.pagable_book.proofs.Here.{is_cell, cells-nodes, value-le, value-le-one, fitting-parts, no-cell-here, values-here, Once, once-whole, here-at, here-same, here-as-many, here-less, here-pinned, here-still, unpinned-le}
-use Rattle.pagable_world.specs.declared.rows.NodeRow.{NodeRow}
+use Rattle.pagable_book.proofs.Here.{cells-nodes, value-le, value-le-one, fitting-parts, no-cell-here, values-here, Once, once-whole, here-at, here-same, here-as-many, here-less, here-pinned, here-still, unpinned-le}
 use Rattle.pagable_world.specs.declared.rows.HandleRow.{HandleRow}
 use Rattle.pagable_world.specs.declared.rows.LoadRow.{LoadRow}
 
