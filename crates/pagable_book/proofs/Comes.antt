@@ -1,5 +1,5 @@
 -- From the step of a call to whose value comes into memory, goes or stays.
-use Rattle.std.proofs.Common.{◌≡◌, ℕ, ◌+◌, ◌<◌, ◌≤◌, ◌==◌, ◌&&◌, Bool, true, false, List, [], ◌∷◌, ◌++◌, set, sum_by, refl, ap, sym, ◌∙◌, subst, arith, get_or, Some, None, Option, Ok, Err, Result, OnOk, OnErr, IfOk, IfErr, slice_get, inl, inr}
+use Rattle.std.proofs.Common.{◌≡◌, ℕ, ◌+◌, ◌<◌, ◌≤◌, ◌==◌, Bool, true, false, List, [], ◌∷◌, ◌++◌, sum_by, refl, ap, sym, ◌∙◌, subst, arith, get_or, Some, None, Option, Ok, Err, Result, OnOk, OnErr, IfOk, IfErr, slice_get, inl, inr}
 use Rattle.std.specs.Prelude.{nat_lt, not, ◌||◌, ◌⊎◌, ◌≢◌}
 use Rattle.std.specs.List.{remove}
 use Rattle.std.proofs.lemmas.Bool.Decides.{nat_tests}
@@ -7,28 +7,27 @@ use Rattle.std.proofs.lemmas.Bool.{cases_eq}
 use Rattle.std.proofs.lemmas.Option.{get_or_from_slice_get, slice_get_within}
 use Rattle.std.proofs.lemmas.List.Sums.{sum_by_push, sum_by-le-sum_by}
 use Rattle.pagable_model.specs.declared.error.Error.{Error}
+use Rattle.pagable_model.specs.declared.error.Error.TheVariants as errors
 use Rattle.pagable_model.specs.declared.data_key.OptionalDataKey.TheVariants as optional
 use Rattle.pagable_model.specs.declared.numbers.HandleNumber.{HandleNumber}
 use Rattle.pagable_model.specs.declared.numbers.LoadNumber.{LoadNumber}
 use Rattle.pagable_model.specs.declared.numbers.NodeNumber.{NodeNumber}
 use Rattle.pagable_world.specs.declared.rows.Mode.{Mode}
 use Rattle.pagable_world.specs.declared.rows.Mode.TheVariants as modes
-use Rattle.pagable_world.specs.declared.rows.Owner.{Owner}
 use Rattle.pagable_world.specs.declared.rows.Owner.TheVariants as owners
 use Rattle.pagable_world.specs.declared.answers.Pinning.{Pinning}
 use Rattle.pagable_world.specs.declared.answers.Pinning.TheVariants as pinnings
 use Rattle.pagable_world.specs.declared.answers.Beginning.{Beginning}
 use Rattle.pagable_world.specs.declared.answers.Beginning.TheVariants as beginnings
 use Rattle.pagable_world.specs.declared.answers.EndRefusal.{EndRefusal}
-use Rattle.pagable_world.specs.State.{State, WellFormed, one, has_key, is_aside, is_pinning, idle_pin, is_node, pins, pin_of, held}
+use Rattle.pagable_world.specs.State.{State, WellFormed, one, has_key, is_aside, is_pinning, idle_pin, is_node, is_number, pins, pin_of, held}
 use Rattle.pagable_world.specs.Cells.{Cell, CellsFollow}
-use Rattle.pagable_world.specs.World.{World, plain, next_row, joined, turned, enlisted, born, rekeyed, opened, HasCell, IsHere, Leaves, Closes, Prepared, CannotBear}
-use Rattle.pagable_world.specs.Refusals.{HasRow, IsOwn}
-use Rattle.pagable_world.specs.Calls.{Born, PinnedBy, Unpinned, UnpinnedAt, Released, ReleasedAt, Took, KeySet, Begun, HasLoad, Ended, Dropped}
+use Rattle.pagable_world.specs.World.{World, plain, next_row, joined, turned, enlisted, born, born_with, rekeyed, HasCell, IsHere, Leaves, Closes, Prepared, CannotBear}
+use Rattle.pagable_world.specs.Refusals.{IsOwn, RefusesPinned}
+use Rattle.pagable_world.specs.Calls.{Born, BornAway, Cloned, Loosened, PinnedBy, Unpinned, Released, Took, KeySet, Begun, HasLoad, Ended, Dropped}
 use Rattle.pagable_world.specs.Values.{value_with, values_of, value_of_node, cell_here, here, SameValues, NoValueComes, OnlyItsValueGoes, ValueComes, ValueIsThere}
-use Rattle.pagable_book.proofs.Sums.{sum-set, sum-remove, row-le-sum, pins-le-held, push-there}
-use Rattle.pagable_book.proofs.Here.{is_cell, cells-nodes, value-le, value-le-one, fitting-parts, no-cell-here, values-here, Once, once-whole, here-at, here-same, here-as-many, here-less, here-pinned, here-still, unpinned-le}
-use Rattle.pagable_world.specs.declared.rows.NodeRow.{NodeRow}
+use Rattle.pagable_book.proofs.Sums.{sum-set, sum-remove, row-le-sum, no_count, pins-le-held, push-there}
+use Rattle.pagable_book.proofs.Here.{cells-nodes, value-le, value-le-one, fitting-parts, no-cell-here, values-here, Once, once-whole, here-at, here-same, here-as-many, here-less, here-pinned, here-still, unpinned-le}
 use Rattle.pagable_world.specs.declared.rows.HandleRow.{HandleRow}
 use Rattle.pagable_world.specs.declared.rows.LoadRow.{LoadRow}
 
@@ -100,6 +99,34 @@ pin-values old new h (Ok (pinnings.Pinned k)) w w' s =
     same-here old new w w' (λ fits q. ap (λ (x : World). here fits q x) s.6 ∙ through-here fits q (plain old) s.0 s.1 (once-whole old w) s.2.there s.4)
 pin-values old new h (Ok (pinnings.NeedsLoad key)) w w' s = same-plain old new w w' s.5
 pin-values old new h (Err e) w w' s = same-plain old new w w' s.1
+
+-- more pins of what is pinned already
+still-pinned : (m n k : ℕ) → m ≡ n + k → k ≤ n → nat_lt 0 m ≡ nat_lt 0 n
+still-pinned m n k e le = grind (arith, nat_tests)
+
+-- a clone of a pinning handle pins what is pinned, and another one pins nothing
+pub clone-values : (old new : State) (h : HandleNumber) (r : Result HandleNumber Error) → WellFormed old → WellFormed new → Cloned (plain old) h r (plain new) → SameValues old new
+clone-values old new h (Ok k) w w' (i, row, has, number, step) =
+    let next : HandleRow = next_row (plain old) row.node row.mode owners.Caller in
+    same-here old new w w' (λ fits q.
+    let push = sum_by_push (pin_of q) old.handles next in
+    let e = ap (λ (x : World). pins q x.rows) step in
+    let le = row-le-sum (pin_of q) old.handles i row has.0 in
+    here-same fits q (plain old) (plain new) (ap (λ (x : World). x.cells) step) (still-pinned (pins q (plain new).rows) (pins q old.handles) (pin_of q row) (e ∙ push) le))
+clone-values old new h (Err e) w w' s = same-plain old new w w' s.1
+
+-- a handle that is loose from now on pins as before
+pub loosen-values : (old new : State) (h : HandleNumber) (r : Result HandleNumber Error) → WellFormed old → WellFormed new → Loosened (plain old) h r (plain new) → SameValues old new
+loosen-values old new h (Ok k) w w' (i, row, own, mode, is, step) =
+    let loose : HandleRow = record row { mode = modes.LoosePinned } in
+    let pinning : is_pinning row.mode ≡ true = ap is_pinning mode in
+    same-here old new w w' (λ fits q.
+    let put = sum-set (pin_of q) old.handles i row loose own.there in
+    let same : pin_of q loose ≡ pin_of q row = grind (arith, nat_tests) in
+    let e = ap (λ (x : World). pins q x.rows) step in
+    let as_many : pins q (plain new).rows ≡ pins q (plain old).rows = omega arith in
+    here-as-many fits q (plain old) (plain new) (ap (λ (x : World). x.cells) step) as_many)
+loosen-values old new h (Err e) w w' s = same-plain old new w w' s.1
 
 -- what is done for the list keeps the cells and pins, and the row in its place
 pub record Prepares (w : World) (i : ℕ) (row : HandleRow) (mid : World) : Type 0 where
@@ -302,13 +329,17 @@ pub born-step : (old new : State) (node_type : ℕ) (mode : Mode) (r : Result Ha
 born-step old new node_type mode (Ok k) number world err why = (number, world)
 born-step old new node_type mode (Err e) number world err why = (why, ap plain err)
 
+-- the node that will be next has no value
+pub next-valueless : (s : State) → WellFormed s → value_of_node (s.last_node + 1) s ≡ 0
+next-valueless s w = let le = sum_by-le-sum_by (value_with (λ _. true) (s.last_node + 1)) (is_node (s.last_node + 1)) s.nodes (value-le (λ _. true) (s.last_node + 1)) in let f = w.nodes.fresh (s.last_node + 1) (omega arith) in omega arith
+
 pub bear-comes : (old new : State) (node_type : ℕ) (mode : Mode) (r : Result HandleNumber Error) → WellFormed old → WellFormed new → Born (plain old) node_type mode r (plain new) → OnOk r (ValueComes (old.last_node + 1) node_type old new)
 bear-comes old new node_type mode (Ok k) w w' s =
     let node : NodeNumber = record { 0 = old.last_node + 1 } in
     let cell : Cell = record { number = old.last_node + 1; node_type = node_type; key = optional.None } in
     let next : HandleRow = next_row (plain old) node mode owners.Caller in
     record {
-      before = let le = sum_by-le-sum_by (value_with (λ _. true) (old.last_node + 1)) (is_node (old.last_node + 1)) old.nodes (value-le (λ _. true) (old.last_node + 1)) in let f = w.nodes.fresh (old.last_node + 1) (omega arith) in omega arith;
+      before = next-valueless old w;
       now = λ fits.
           let q : ℕ = old.last_node + 1 in
           let b : Bool = nat_lt 0 (pins q (born (plain old) node_type mode).rows) in
@@ -336,6 +367,80 @@ bear-comes old new node_type mode (Err e) w w' s = tt
 pub bear-same : (old new : State) (node_type : ℕ) (mode : Mode) (r : Result HandleNumber Error) → WellFormed old → WellFormed new → Born (plain old) node_type mode r (plain new) → OnErr r (SameValues old new)
 bear-same old new node_type mode (Ok k) w w' s = tt
 bear-same old new node_type mode (Err e) w w' s = same-plain old new w w' s.1
+
+-- no handle pins the node that will be next
+next-unpinned : (s : State) → WellFormed s → pins (s.last_node + 1) s.handles ≡ 0
+next-unpinned s w = sym (w.nodes.counted (s.last_node + 1)) ∙ no_count (s.last_node + 1) s.nodes (w.nodes.fresh (s.last_node + 1) (omega arith))
+
+-- a cell with a key that nothing pins has no value
+keyed-away : (fits : ℕ → Bool) (q key : ℕ) (s : State) (cell : Cell) → WellFormed s → cell.number ≡ s.last_node + 1 → cell.key ≡ optional.Some key → cell_here fits q (nat_lt 0 (pins q s.handles)) cell ≡ 0
+keyed-away fits q key s cell w number has =
+    elim (cases_eq q cell.number) [
+      | inl is ↦
+          let none : pins q s.handles ≡ 0 = ap (λ (n : ℕ). pins n s.handles) (is ∙ number) ∙ next-unpinned s w in
+          let free : nat_lt 0 (pins q s.handles) ≡ false = ap (λ (n : ℕ). nat_lt 0 n) none in
+          let keyed : has_key cell.key ≡ true = ap has_key has in
+          grind (arith, nat_tests)
+      | inr other ↦ grind (arith, nat_tests)
+    ]
+
+-- what the birth of a cell whose value is away ensures is the call's step
+pub away-step : (old new : State) (node_type key : ℕ) (r : Result HandleNumber Error) → IfOk r (λ k. k.0 ≡ old.last_handle + 1) → OnOk r (plain new ≡ born_with (plain old) node_type (optional.Some key) modes.LooseUnpinned) → OnErr r (new ≡ old) → IfErr r (CannotBear (plain old))
+    → BornAway (plain old) node_type key r (plain new)
+away-step old new node_type key (Ok k) number world err why = (number, world)
+away-step old new node_type key (Err e) number world err why = (why, ap plain err)
+
+-- and no value comes by it
+pub away-values : (old new : State) (node_type key : ℕ) (r : Result HandleNumber Error) → WellFormed old → WellFormed new → BornAway (plain old) node_type key r (plain new) → SameValues old new
+away-values old new node_type key (Ok k) w w' s =
+    let cell : Cell = record { number = old.last_node + 1; node_type = node_type; key = optional.Some key } in
+    let next : HandleRow = next_row (plain old) (record { 0 = old.last_node + 1 }) modes.LooseUnpinned owners.Caller in
+    same-here old new w w' (λ fits q.
+    let b : Bool = nat_lt 0 (pins q old.handles) in
+    let pinned : pins q (plain new).rows ≡ pins q old.handles = ap (λ (x : World). pins q x.rows) s.1 ∙ pushed-pins q old.handles next refl in
+    let e = ap (λ (m : ℕ). sum_by (cell_here fits q (nat_lt 0 m)) (plain new).cells) pinned in
+    let f = ap (λ (x : World). sum_by (cell_here fits q b) x.cells) s.1 in
+    let push = sum_by_push (cell_here fits q b) (plain old).cells cell in
+    let none = keyed-away fits q key old cell w refl refl in
+    omega arith)
+away-values old new node_type key (Err e) w w' s = same-plain old new w w' s.1
+
+cases_order : (a b : ℕ) → (a < b) ⊎ (a ≡ b) ⊎ (b < a)
+cases_order a b = grind arith
+
+-- a handle's number is its row's alone
+handle-once : (s : State) (p p' : ℕ) (a b : HandleRow) → WellFormed s → slice_get s.handles p ≡ Some a → slice_get s.handles p' ≡ Some b → a.number.0 ≡ b.number.0 → a ≡ b
+handle-once s p p' a b w at there same =
+    let is : get_or s.handles p a ≡ a = get_or_from_slice_get s.handles p a a at in
+    let is' : get_or s.handles p' a ≡ b = get_or_from_slice_get s.handles p' b a there in
+    let n = ap (λ (h : HandleRow). h.number.0) is in
+    let n' = ap (λ (h : HandleRow). h.number.0) is' in
+    let lt = slice_get_within s.handles p a at in
+    let lt' = slice_get_within s.handles p' b there in
+    elim (cases_order p p') [
+      | inl before ↦ absurd (let o = w.handles.ordered p p' a before lt' in omega arith)
+      | inr (inl equal) ↦ sym is ∙ ap (λ (i : ℕ). get_or s.handles i a) equal ∙ is'
+      | inr (inr after) ↦ absurd (let o = w.handles.ordered p' p a after lt in omega arith)
+    ]
+
+not-refused : (s : State) (h : HandleNumber) (e : Error) (i : ℕ) (row : HandleRow) → WellFormed s → RefusesPinned (plain s) h e → IsOwn (plain s) h i row → row.mode ≡ modes.Pinned → ⊥
+not-refused s h errors.NoSuchHandle i row w unknown own mode =
+    let le = row-le-sum (is_number h.0) s.handles i row own.there in
+    let number : row.number.0 ≡ h.0 = ap (λ (n : HandleNumber). n.0) own.number in
+    let its : is_number h.0 row ≡ 1 = grind (arith, nat_tests) in
+    absurd (omega arith)
+not-refused s h errors.NotYours i row w (j, other, has, foreign) own mode =
+    let same : other ≡ row = handle-once s j i other row w has.0 own.there (ap (λ (n : HandleNumber). n.0) (has.1 ∙ sym own.number)) in
+    foreign (ap (λ (x : HandleRow). x.owner) same ∙ own.owner)
+not-refused s h errors.WrongMode i row w (j, other, its, unfit) own mode =
+    let same : other ≡ row = handle-once s j i other row w its.there own.there (ap (λ (n : HandleNumber). n.0) (its.number ∙ sym own.number)) in
+    unfit (ap (λ (x : HandleRow). x.mode) same ∙ mode)
+not-refused s h _ i row w why own mode = absurd why
+
+-- the caller's own Pinned handle is made loose, whatever else is so
+pub loosen-succeeds : (old : State) (new : World) (h : HandleNumber) (r : Result HandleNumber Error) → WellFormed old → Loosened (plain old) h r new → (i : ℕ) (row : HandleRow) → IsOwn (plain old) h i row → row.mode ≡ modes.Pinned → r ≡ Ok h
+loosen-succeeds old new h (Ok k) w (j, other, its, pinned, is, step) i row own mode = ap Ok is
+loosen-succeeds old new h (Err e) w s i row own mode = absurd (not-refused old h e i row w s.0 own mode)
 
 -- the handle that a load owns doesn't pin, after the caller's handle was pinned too
 own-free : (old : State) (i : ℕ) (row : HandleRow) (h : HandleNumber) (p : ℕ) (load : LoadRow) (w' : World) (q : ℕ) → WellFormed old → IsOwn (plain old) h i row → (c : Closes (through (plain old) i row) p load w') → pin_of q c.row ≡ 0
@@ -368,9 +473,6 @@ end-cells old i row h p load w' w own node c =
     let some = subst P node (through-more (plain old) i row own.there) in
     let le = pins-le-held load.node.0 (remove (through (plain old) i row).rows c.place) in
     c.follows.stays (omega arith)
-
-cases_order : (a b : ℕ) → (a < b) ⊎ (a ≡ b) ⊎ (b < a)
-cases_order a b = grind arith
 
 -- a load's number is its row's alone
 load-once : (s : State) (p p' : ℕ) (a b : LoadRow) → WellFormed s → slice_get s.loads p ≡ Some a → slice_get s.loads p' ≡ Some b → a.number.0 ≡ b.number.0 → a ≡ b

@@ -1,17 +1,16 @@
 -- Whose value is in memory, by the rows and the cells of a plain world.
-use Rattle.std.proofs.Common.{◌≡◌, ℕ, ◌+◌, ◌<◌, ◌≤◌, ◌==◌, ◌&&◌, Bool, true, false, List, [], ◌∷◌, ◌++◌, set, sum_by, refl, ap, sym, ◌∙◌, subst, arith, All, get_or, Some, slice_get, inl, inr}
-use Rattle.std.specs.Prelude.{nat_lt, not, ◌||◌, ◌⊎◌, ◌≢◌}
+use Rattle.std.proofs.Common.{◌≡◌, ℕ, ◌+◌, ◌<◌, ◌≤◌, ◌==◌, Bool, true, false, List, [], ◌∷◌, sum_by, refl, ap, sym, ◌∙◌, arith, All, get_or, Some, slice_get, inl, inr}
+use Rattle.std.specs.Prelude.{nat_lt, not, ◌⊎◌, ◌≢◌}
 use Rattle.std.specs.List.{remove}
 use Rattle.std.proofs.lemmas.Bool.Decides.{nat_tests}
-use Rattle.std.proofs.lemmas.List.Sums.{sum_by-cons, sum_by_push, sum_by-le-sum_by, get_or-le-sum_by}
-use Rattle.pagable_model.specs.declared.data_key.OptionalDataKey.{OptionalDataKey}
+use Rattle.std.proofs.lemmas.List.Sums.{sum_by-cons, sum_by-le-sum_by, get_or-le-sum_by}
 use Rattle.pagable_model.specs.declared.data_key.OptionalDataKey.TheVariants as optional
 use Rattle.pagable_model.specs.declared.numbers.NodeNumber.{NodeNumber}
 use Rattle.pagable_world.specs.State.{State, WellFormed, one, has_key, is_node, is_pinning, count_at, pins, pin_of}
 use Rattle.pagable_world.specs.Cells.{Cell, cell_of, cells_of}
 use Rattle.pagable_world.specs.World.{World, plain, HasCell, IsHere}
 use Rattle.pagable_world.specs.Values.{value_with, values_of, cell_here, here}
-use Rattle.pagable_book.proofs.Sums.{sum-set, sum-remove, row-le-sum, no_count}
+use Rattle.pagable_book.proofs.Sums.{sum-remove, row-le-sum, no_count}
 use Rattle.pagable_world.specs.declared.rows.NodeRow.{NodeRow}
 use Rattle.pagable_world.specs.declared.rows.HandleRow.{HandleRow}
 

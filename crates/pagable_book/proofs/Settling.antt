@@ -74,6 +74,13 @@ whole-unpin s i x n nodes' w at owner mode node r =
     let pinning : is_pinning x.mode ≡ true = ap is_pinning mode in
     whole-turn s i x modes.LooseUnpinned nodes' _ _ w at owner refl r (λ q. grind (arith, nat_tests))
 
+-- a Pinned handle is loose from now on, and pins as before
+pub whole-loosen : (s : State) (i : ℕ) (x : HandleRow) → WellFormed s → slice_get s.handles i ≡ Some x → is_aside x.owner ≡ false → x.mode ≡ modes.Pinned → WellFormed (record s { handles = set s.handles i (record x { mode = modes.LoosePinned }) })
+whole-loosen s i x w at owner mode =
+    let pinning : is_pinning x.mode ≡ true = ap is_pinning mode in
+    let same : Recounted s.nodes s.nodes (λ _. 0) (λ _. 0) = record { same = λ q. refl; counts = λ q. refl; ordered = w.nodes.ordered; cells = refl } in
+    whole-turn s i x modes.LoosePinned s.nodes _ _ w at owner refl same (λ q. grind (arith, nat_tests))
+
 -- no handle was found
 pub none-held : (handles seen : List HandleRow) (node : ℕ) (b : Bool) → seen ≡ handles → b ≡ nat_lt 0 (held node seen) → b ≡ false → held node handles ≡ 0
 none-held handles seen node b same is off = let e = ap (held node) same in grind (arith, nat_tests)

@@ -2,7 +2,7 @@
 
 ghost use Rattle.std.specs.Prelude.{◌≡◌, ℕ, ◌+◌, IfOk, IfErr, OnOk, OnErr};
 ghost use Rattle.pagable_world.specs.State.{WellFormed, one, is_pinning};
-ghost use Rattle.pagable_world.specs.World.{plain, born, CannotBear};
+ghost use Rattle.pagable_world.specs.World.{plain, born_with, CannotBear};
 ghost use Rattle.pagable_book.specs.Shape.{state_of};
 
 use crate::tables::Tables;
@@ -19,12 +19,17 @@ fn first_count(mode: Mode) -> u64
     }
 }
 
-/// A new node without a key, with one handle of the caller's.
-pub fn bear(t: &mut Tables, node_type: u32, mode: Mode) -> Result<HandleNumber, Error>
+/// A new node, with this key or none, and with one handle of the caller's.
+pub fn bear(
+    t: &mut Tables,
+    node_type: u32,
+    key: OptionalDataKey,
+    mode: Mode,
+) -> Result<HandleNumber, Error>
     requires whole { WellFormed (state_of t.old) }
     ensures whole { WellFormed (state_of t.new) }
     ensures number { IfOk result (λ number. number.0 ≡ t.old.last_handle + 1) }
-    ensures world { OnOk result (plain (state_of t.new) ≡ born (plain (state_of t.old)) node_type mode) }
+    ensures world { OnOk result (plain (state_of t.new) ≡ born_with (plain (state_of t.old)) node_type key mode) }
     ensures err { OnErr result (state_of t.new ≡ state_of t.old) }
     ensures why { IfErr result (CannotBear (plain (state_of t.old))) }
 {
@@ -34,7 +39,7 @@ pub fn bear(t: &mut Tables, node_type: u32, mode: Mode) -> Result<HandleNumber, 
     let node = NodeRow {
         number: NodeNumber(t.last_node + 1),
         node_type,
-        key: OptionalDataKey::None,
+        key,
         count: first_count(mode),
     };
     if t.nodes.push(node).is_err() {

@@ -1,11 +1,13 @@
 //! The book: tables that are whole, and the calls on them.
 
-ghost use Rattle.std.specs.Prelude.{◌≡◌, ◌≢◌, ℕ, ◌+◌, [], All, Bool, IfOk, IfErr, IfNone, IfSome, OnOk, OnErr, length, nat_lt, sum_by, false};
+ghost use Rattle.std.specs.Prelude.{◌≡◌, ◌≢◌, ℕ, ◌+◌, [], All, Bool, IfOk, IfErr, IfNone, IfSome, Ok, OnOk, OnErr, length, nat_lt, sum_by, false};
 ghost use Rattle.pagable_world.specs.State.{State, WellFormed, value_at, is_node};
 ghost use Rattle.pagable_world.specs.Cells.{Cell};
 ghost use Rattle.pagable_world.specs.World.{plain, greatest, HasCell};
-ghost use Rattle.pagable_world.specs.Calls.{Born, PinnedBy, Unpinned, Released, Counts, KeyIs, AwayIs, NodeIs, PinsNode, Took, KeySet, Begun, HasLoad, LooksLoad, Ended, Dropped};
+ghost use Rattle.pagable_world.specs.Calls.{Born, BornAway, Cloned, Loosened, PinnedBy, Unpinned, Released, Counts, KeyIs, AwayIs, NodeIs, PinsNode, Took, KeySet, Begun, HasLoad, LooksLoad, Ended, Dropped};
 ghost use Rattle.pagable_world.specs.Values.{values_of, value_of_node, here, SameValues, NoValueComes, OnlyItsValueGoes, ValueComes, ValueIsThere};
+ghost use Rattle.pagable_world.specs.Refusals.{IsOwn};
+ghost use Rattle.pagable_world.specs.declared.rows.HandleRow.{HandleRow};
 ghost use Rattle.pagable_world.specs.declared.rows.LoadRow.{LoadRow};
 ghost use Rattle.pagable_book.specs.Shape.{state_of};
 
@@ -68,7 +70,42 @@ impl Book {
         ensures comes { OnOk result (ValueComes (self.old.last_node + 1) node_type self.old self.new) }
         ensures values { OnErr result (SameValues self.old self.new) }
     {
-        births::bear(&mut self.tables, node_type, mode)
+        births::bear(&mut self.tables, node_type, OptionalDataKey::None, mode)
+    }
+
+    /// A new cell of this type with a key, whose value is away, with one loose unpinned handle of the caller's.
+    /// NumbersSpent and OutOfMemory change nothing.
+    pub fn add_paged_out(&mut self, node_type: u32, key: DataKey) -> Result<HandleNumber, Error>
+        ensures step { BornAway (plain self.old) node_type key result (plain self.new) }
+        ensures unused { All (λ cell. cell.number ≢ self.old.last_node + 1) (plain self.old).cells }
+        ensures before { value_of_node (self.old.last_node + 1) self.old ≡ 0 }
+        ensures values { SameValues self.old self.new }
+    {
+        births::bear(
+            &mut self.tables,
+            node_type,
+            OptionalDataKey::Some(key),
+            Mode::LooseUnpinned,
+        )
+    }
+
+    /// One more handle of the node of a live handle, of the same mode, which is the caller's. NoSuchHandle, NumbersSpent and
+    /// OutOfMemory change nothing.
+    pub fn clone(&mut self, handle: HandleNumber) -> Result<HandleNumber, Error>
+        ensures step { Cloned (plain self.old) handle result (plain self.new) }
+        ensures values { SameValues self.old self.new }
+    {
+        calls::clone(&mut self.tables, handle)
+    }
+
+    /// Turns a Pinned handle of the caller's into a loose pinned one, which keeps its number. It succeeds on each such handle.
+    /// No refusal changes anything.
+    pub fn into_pagable(&mut self, handle: HandleNumber) -> Result<HandleNumber, Error>
+        ensures step { Loosened (plain self.old) handle result (plain self.new) }
+        ensures succeeds { (i : ℕ) (row : HandleRow) → IsOwn (plain self.old) handle i row → row.mode ≡ Mode.Pinned → result ≡ Ok handle }
+        ensures values { SameValues self.old self.new }
+    {
+        calls::into_pagable(&mut self.tables, handle)
     }
 
     /// Pins a loose handle of the caller's and makes one more that pins, or tells under which key the value has to be

@@ -3,13 +3,37 @@
 ghost use Rattle.std.specs.Prelude.{◌≡◌};
 ghost use Rattle.pagable_world.specs.State.{WellFormed};
 ghost use Rattle.pagable_world.specs.World.{plain};
-ghost use Rattle.pagable_world.specs.Calls.{PinnedBy, Unpinned, Released, KeySet, Begun, Dropped};
+ghost use Rattle.pagable_world.specs.Calls.{Cloned, Loosened, PinnedBy, Unpinned, Released, KeySet, Begun, Dropped};
 ghost use Rattle.pagable_book.specs.Shape.{state_of};
 
 use crate::tables::Tables;
 use crate::{listing, loads, steps, tables};
 use pagable_model::{DataKey, Error, HandleNumber, LoadNumber, OptionalDataKey};
 use pagable_world::{Beginning, Pinning};
+
+/// Makes one more handle of a handle's node, of the same mode.
+pub fn clone(t: &mut Tables, handle: HandleNumber) -> Result<HandleNumber, Error>
+    requires whole { WellFormed (state_of t.old) }
+    ensures whole { WellFormed (state_of t.new) }
+    ensures world { Cloned (plain (state_of t.old)) handle result (plain (state_of t.new)) }
+{
+    let Some(at) = tables::handle_at(&t.handles, handle) else {
+        return Err(Error::NoSuchHandle);
+    };
+    let number = steps::add(t, at.row.node, at.row.mode)?;
+    Ok(number)
+}
+
+/// Turns a Pinned handle of the caller's into a loose pinned one.
+pub fn into_pagable(t: &mut Tables, handle: HandleNumber) -> Result<HandleNumber, Error>
+    requires whole { WellFormed (state_of t.old) }
+    ensures whole { WellFormed (state_of t.new) }
+    ensures world { Loosened (plain (state_of t.old)) handle result (plain (state_of t.new)) }
+{
+    let at = steps::own_pinned(t, handle)?;
+    steps::loosen(t, at);
+    Ok(handle)
+}
 
 /// Pins a loose handle of the caller's and makes one more that pins, or tells under which key the value has to be read
 /// first.

@@ -5,7 +5,7 @@ ghost use Rattle.std.specs.List.{remove};
 ghost use Rattle.pagable_world.specs.State.{WellFormed, AreNodes, held, pins, one, is_pinning, is_aside, value_at, is_loose};
 ghost use Rattle.pagable_world.specs.Cells.{cell_of, cells_of, CellsFollow};
 ghost use Rattle.pagable_world.specs.World.{plain, HasCell, joined, turned, rekeyed, Leaves, CannotMake};
-ghost use Rattle.pagable_world.specs.Refusals.{HasRow, IsUnknown, IsOwn, RefusesOwn, RefusesLoose};
+ghost use Rattle.pagable_world.specs.Refusals.{HasRow, IsUnknown, IsOwn, RefusesOwn, RefusesLoose, RefusesPinned};
 ghost use Rattle.pagable_book.specs.Shape.{state_of};
 
 use crate::places::{HandleAt, Looked, NodeAt};
@@ -81,6 +81,25 @@ pub fn own_loose(t: &Tables, number: HandleNumber) -> Result<HandleAt, Error>
     }
 }
 
+/// Where the caller's own Pinned handle of this number stands.
+pub fn own_pinned(t: &Tables, number: HandleNumber) -> Result<HandleAt, Error>
+    requires { WellFormed (state_of t.now) }
+    ensures own { IfOk result (λ at. IsOwn (plain (state_of t.now)) number at.place at.row) }
+    ensures mode { IfOk result (λ at. at.row.mode ≡ Mode.Pinned) }
+    ensures why { IfErr result (RefusesPinned (plain (state_of t.now)) number) }
+{
+    let Some(at) = tables::handle_at(&t.handles, number) else {
+        return Err(Error::NoSuchHandle);
+    };
+    if at.row.owner != Owner::Caller {
+        return Err(Error::NotYours);
+    }
+    if at.row.mode != Mode::Pinned {
+        return Err(Error::WrongMode);
+    }
+    Ok(at)
+}
+
 /// Adds a handle of the caller's to a node that has one already.
 pub fn add(t: &mut Tables, node: NodeNumber, mode: Mode) -> Result<HandleNumber, Error>
     requires whole { WellFormed (state_of t.old) }
@@ -142,6 +161,19 @@ pub fn unpin_at(t: &mut Tables, at: HandleAt)
         ..at.row
     };
     tables::lose(&mut t.nodes, node, Mode::LoosePinned);
+}
+
+/// Makes a Pinned handle that neither the list nor a load owns a loose one. It pins as before.
+pub fn loosen(t: &mut Tables, at: HandleAt)
+    requires whole { WellFormed (state_of t.old) }
+    requires place { slice_get t.old.handles.items at.place ≡ Some at.row }
+    requires mode { at.row.mode ≡ Mode.Pinned }
+    requires owner { is_aside at.row.owner ≡ false }
+    ensures whole { WellFormed (state_of t.new) }
+    ensures world { plain (state_of t.new) ≡ turned (plain (state_of t.old)) at.place at.row Mode.LoosePinned }
+{
+    let mode = Mode::LoosePinned;
+    t.handles[at.place] = HandleRow { mode, ..at.row };
 }
 
 /// Sees to it that a loose handle is pinned.

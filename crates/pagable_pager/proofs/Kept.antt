@@ -9,6 +9,7 @@ use Rattle.std.proofs.lemmas.Option.{get_or_from_slice_get, slice_get_within, sl
 use Rattle.std.specs.List.{remove}
 use Rattle.std.proofs.lemmas.List.Elements.{All-nil, All-same, All-weaker, All-append, All-take, All-drop, All-set, All-push, All-filter}
 use Rattle.pagable_model.specs.declared.error.Error.{Error}
+use Rattle.pagable_model.specs.declared.data_key.OptionalDataKey.{OptionalDataKey}
 use Rattle.pagable_model.specs.declared.data_key.OptionalDataKey.TheVariants as optional
 use Rattle.pagable_model.specs.declared.numbers.HandleNumber.{HandleNumber}
 use Rattle.pagable_model.specs.declared.numbers.LoadNumber.{LoadNumber}
@@ -23,13 +24,14 @@ use Rattle.pagable_world.specs.declared.answers.Pinning.TheVariants as pinnings
 use Rattle.pagable_world.specs.declared.answers.Beginning.{Beginning}
 use Rattle.pagable_world.specs.declared.answers.Beginning.TheVariants as beginnings
 use Rattle.pagable_world.specs.Cells.{Cell, CellsFollow}
-use Rattle.pagable_world.specs.World.{World, plain, born, joined, turned, Prepared}
+use Rattle.pagable_world.specs.World.{World, plain, born, born_with, joined, turned, Prepared}
+use Rattle.pagable_world.specs.declared.rows.Mode.{Mode}
 use Rattle.pagable_world.specs.declared.rows.Mode.TheVariants as modes
 use Rattle.pagable_world.specs.declared.rows.Owner.TheVariants as owners
 use Rattle.pagable_model.specs.declared.numbers.ArcRef.{ArcRef}
 use Rattle.pagable_model.specs.declared.numbers.NodeNumber.{NodeNumber}
 use Rattle.pagable_world.specs.Values.{value_of_node}
-use Rattle.pagable_world.specs.Calls.{PinnedBy, Unpinned, Released, Took, KeySet, Begun, HasLoad, Ended, Dropped}
+use Rattle.pagable_world.specs.Calls.{BornAway, Cloned, Loosened, PinnedBy, Unpinned, Released, Took, KeySet, Begun, HasLoad, Ended, Dropped}
 use Rattle.pagable_world.specs.declared.rows.HandleRow.{HandleRow}
 use Rattle.pagable_world.specs.Shown.{Shown, SameStore, OnlyStore, Unchanged}
 use Rattle.pagable_pager.specs.Rows.{value_of}
@@ -38,7 +40,7 @@ use Rattle.pagable_pager.specs.declared.pagable_arc.values.ValueRow.{ValueRow}
 use Rattle.pagable_world.specs.Lending.{IsLent}
 use Rattle.pagable_world.specs.InStep.{InStep, is_value, kept}
 use Rattle.pagable_world.specs.Stands.{SameTrees}
-use Rattle.pagable_world.specs.TodayTrees.{Sight, MeansTree, CellFits, TodayWorld, RepresentsToday, EachWorld, Always, KeyReads, SetKeyFits, LendsTree, StandsEmpty, BirthOf, ReadFits}
+use Rattle.pagable_world.specs.TodayTrees.{Sight, MeansTree, CellFits, TodayWorld, RepresentsToday, EachWorld, Always, KeyReads, SetKeyFits, LendsTree, StandsEmpty, AwayBirthOf, BirthOf, ReadFits}
 
 -- what a change of the plain world keeps of its cells
 pub record KeepsCells (w w' : World) : Type 1 where
@@ -75,6 +77,14 @@ pub pin-cells : (w w' : World) (h : HandleNumber) (r : Result Pinning Error) →
 pin-cells w w' h (Ok (pinnings.Pinned k)) s = same-cells w w' (ap (λ (x : World). x.cells) s.6)
 pin-cells w w' h (Ok (pinnings.NeedsLoad key)) s = same-world w w' s.5
 pin-cells w w' h (Err e) s = same-world w w' s.1
+
+pub clone-cells : (w w' : World) (h : HandleNumber) (r : Result HandleNumber Error) → Cloned w h r w' → KeepsCells w w'
+clone-cells w w' h (Ok k) s = same-cells w w' (ap (λ (x : World). x.cells) s.4)
+clone-cells w w' h (Err e) s = same-world w w' s.1
+
+pub loosen-cells : (w w' : World) (h : HandleNumber) (r : Result HandleNumber Error) → Loosened w h r w' → KeepsCells w w'
+loosen-cells w w' h (Ok k) s = same-cells w w' (ap (λ (x : World). x.cells) s.5)
+loosen-cells w w' h (Err e) s = same-world w w' s.1
 
 pub unpin-cells : (w w' : World) (h : HandleNumber) (r : Result (Unit {0}) Error) → Unpinned w h r w' → KeepsCells w w'
 unpin-cells w w' h r (inl refused) = same-world w w' refused.3
@@ -242,32 +252,63 @@ at-new m q t u same = let is : (m == q) ≡ true = grind (arith, nat_tests) in a
 elsewhere : (m q : ℕ) (t u : Tree) → m ≢ q → (if m == q then t else u) ≡ u
 elsewhere m q t u other = let is : (m == q) ≡ false = grind (arith, nat_tests) in ap (λ (b : Bool). if b then t else u) is
 
--- a node is born for a value
-pub birth : {N S E : Type 0} (g : Sight N S E) (old new : Shown N S E) (x : N) (node_type : ℕ) → node_type ≡ g.type_of x → plain new.book ≡ born (plain old.book) node_type modes.LoosePinned → new.values ≡ old.values ++ (old.book.last_node + 1, x) ∷ [] → new.storage ≡ old.storage → new.env ≡ old.env
-    → All (λ cell. cell.number ≢ old.book.last_node + 1) (plain old.book).cells → All (λ y. y.0 ≢ old.book.last_node + 1) old.values → BirthOf g x old new
-birth {N} g old new x node_type typed world values storage env unused free t means w rep asked =
+-- the trees of a world, and this one for the node q
+abbrev with-tree : TodayWorld → ℕ → Tree → ℕ → Tree
+with-tree w q t n = if n == q then t else w.tree n
+
+-- a node is born, with a tree of its type as which its key reads if it has one
+born-new : {N S E : Type 0} (g : Sight N S E) (old new : Shown N S E) (node_type : ℕ) (known : OptionalDataKey) (mode : Mode) (t : Tree) (w : TodayWorld) → RepresentsToday g old w → node_type ≡ t.type → ((key : ℕ) → known ≡ optional.Some key → KeyReads g new key t) → plain new.book ≡ born_with (plain old.book) node_type known mode → new.storage ≡ old.storage → new.env ≡ old.env
+    → All (λ cell. cell.number ≢ old.book.last_node + 1) (plain old.book).cells → All (λ y. y.0 ≢ old.book.last_node + 1) old.values
+    → (All (λ y. MeansTree g y.1 (with-tree w (old.book.last_node + 1) t y.0)) old.values → All (λ y. MeansTree g y.1 (with-tree w (old.book.last_node + 1) t y.0)) new.values)
+    → (w' : TodayWorld) × ((w'.plain ≡ born_with w.plain node_type known mode) × (w'.tree (w.plain.last_node + 1) ≡ t)) × SameTrees w.plain.last_node w.tree w'.tree × RepresentsToday g new w'
+born-new {N} g old new node_type known mode t w rep typed reads world storage env unused free values =
     let q : ℕ = old.book.last_node + 1 in
-    let tree : ℕ → Tree = λ n. if n == q then t else w.tree n in
+    let tree : ℕ → Tree = with-tree w q t in
     let same_last : w.plain.last_node ≡ old.book.last_node = ap (λ (u : World). u.last_node) rep.same in
-    let cell : Cell = record { number = q; node_type = node_type; key = optional.None } in
+    let cell : Cell = record { number = q; node_type = node_type; key = known } in
     let M : ℕ × N → Type 0 = λ y. MeansTree g y.1 (tree y.0) in
     let F : Cell → Type 0 = λ c. CellFits g new c (tree c.number) in
-    let P : World → Type 0 = λ u. plain new.book ≡ born u (g.type_of x) modes.LoosePinned in
-    let Q : ℕ → Type 0 = λ m. plain new.book ≡ born (plain old.book) m modes.LoosePinned in
-    let Fits : Tree → Type 0 = λ u. MeansTree g x u in
+    let P : World → Type 0 = λ u. plain new.book ≡ born_with u node_type known mode in
     let is_new : tree q ≡ t = at-new q q t (w.tree q) refl in
     let moved : All M old.values = λ k d lt. let T : Tree → Type 0 = λ u. MeansTree g (get_or old.values k d).1 u in subst T (sym (elsewhere (get_or old.values k d).0 q t (w.tree (get_or old.values k d).0) (free k d lt))) (rep.values k d lt) in
     let kept_cells : All F (plain old.book).cells = λ k d lt. let T : Tree → Type 0 = λ u. CellFits g new (get_or (plain old.book).cells k d) u in subst T (sym (elsewhere (get_or (plain old.book).cells k d).number q t (w.tree (get_or (plain old.book).cells k d).number) (unused k d lt))) (cell-moves g old new (get_or (plain old.book).cells k d) (w.tree (get_or (plain old.book).cells k d).number) storage env (rep.cells k d lt)) in
-    let its : F cell = record { typed = typed ∙ means.typed ∙ ap (λ (u : Tree). u.type) (sym is_new); key = λ key has. absurd (cc) } in (
+    let C : Tree → Type 0 = λ u. CellFits g new cell u in
+    let its : F cell = subst C (sym is_new) (record { typed = typed; key = reads }) in (
       record { plain = plain new.book; tree = tree },
-      (subst P (sym rep.same) (subst Q typed world), at-new (w.plain.last_node + 1) q t (w.tree (w.plain.last_node + 1)) (ap (λ n. n + 1) same_last)),
+      (subst P (sym rep.same) world, at-new (w.plain.last_node + 1) q t (w.tree (w.plain.last_node + 1)) (ap (λ n. n + 1) same_last)),
       λ n made. elsewhere n q t (w.tree n) (λ is. absurd (omega arith)),
       record {
         same = refl;
-        values = All-same M new.values (old.values ++ (q, x) ∷ []) values (All-push M old.values (q, x) moved (subst Fits (sym is_new) means));
+        values = values moved;
         cells = All-same F (plain new.book).cells ((plain old.book).cells ++ cell ∷ []) (ap (λ (u : World). u.cells) world) (All-push F (plain old.book).cells cell kept_cells its);
       },
     )
+
+-- a node is born for a value
+pub birth : {N S E : Type 0} (g : Sight N S E) (old new : Shown N S E) (x : N) (node_type : ℕ) (mode : Mode) → node_type ≡ g.type_of x → plain new.book ≡ born (plain old.book) node_type mode → new.values ≡ old.values ++ (old.book.last_node + 1, x) ∷ [] → new.storage ≡ old.storage → new.env ≡ old.env
+    → All (λ cell. cell.number ≢ old.book.last_node + 1) (plain old.book).cells → All (λ y. y.0 ≢ old.book.last_node + 1) old.values → BirthOf g x mode old new
+birth {N} g old new x node_type mode typed world values storage env unused free t means w rep asked =
+    let q : ℕ = old.book.last_node + 1 in
+    let M : ℕ × N → Type 0 = λ y. MeansTree g y.1 (with-tree w q t y.0) in
+    let Q : ℕ → Type 0 = λ m. plain new.book ≡ born (plain old.book) m mode in
+    let Fits : Tree → Type 0 = λ u. MeansTree g x u in
+    let is_new : with-tree w q t q ≡ t = at-new q q t (w.tree q) refl in
+    born-new g old new (g.type_of x) optional.None mode t w rep means.typed (λ key has. absurd (cc)) (subst Q typed world) storage env unused free
+    (λ moved. All-same M new.values (old.values ++ (q, x) ∷ []) values (All-push M old.values (q, x) moved (subst Fits (sym is_new) means)))
+
+-- a node is born with a key and without a value
+pub away-birth : {N S E : Type 0} (g : Sight N S E) (old new : Shown N S E) (node_type key : ℕ) → plain new.book ≡ born_with (plain old.book) node_type (optional.Some key) modes.LooseUnpinned → new.values ≡ old.values → new.storage ≡ old.storage → new.env ≡ old.env
+    → All (λ cell. cell.number ≢ old.book.last_node + 1) (plain old.book).cells → All (λ y. y.0 ≢ old.book.last_node + 1) old.values → AwayBirthOf g node_type key old new
+away-birth {N} g old new node_type key world values storage env unused free t typed reads w rep asked =
+    let M : ℕ × N → Type 0 = λ y. MeansTree g y.1 (with-tree w (old.book.last_node + 1) t y.0) in
+    let its : (k : ℕ) → optional.Some key ≡ optional.Some k → KeyReads g new k t = λ k has. let same : key ≡ k = cc in let P : ℕ → Type 0 = λ p. KeyReads g new p t in subst P same (rw (storage, env) reads) in
+    born-new g old new node_type (optional.Some key) modes.LooseUnpinned t w rep typed its world storage env unused free (All-same M new.values old.values values)
+
+-- of what a refused or made cell answers, the part that was made
+pub away-made : {N S E : Type 0} (g : Sight N S E) (old new : Shown N S E) (node_type key : ℕ) (r : Result HandleNumber Error) → BornAway (plain old.book) node_type key r (plain new.book) → new.values ≡ old.values → new.storage ≡ old.storage → new.env ≡ old.env
+    → All (λ cell. cell.number ≢ old.book.last_node + 1) (plain old.book).cells → All (λ y. y.0 ≢ old.book.last_node + 1) old.values → OnOk r (AwayBirthOf g node_type key old new)
+away-made g old new node_type key (Ok k) s values storage env unused free = away-birth g old new node_type key s.1 values storage env unused free
+away-made g old new node_type key (Err e) s values storage env unused free = tt
 
 end-cells : (w w' : World) (l : LoadNumber) (k : HandleNumber) → Ended w l (Ok k) w' → KeepsCells w w'
 end-cells w w' l k (p, load, i, row, has, own, node, number, closes) =

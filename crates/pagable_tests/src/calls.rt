@@ -5,15 +5,21 @@ use pagable::{
     Beginning, DataKey, Error, HandleNumber, InMemoryBlobs, LoadNumber, NodeNumber,
     OptionalDataKey, PagableData, Pager, Pinning, Want, WeighHash,
 };
-use pagable_samples::{TextEnv, TextNode, paging};
+use pagable_samples::{FailingStorage, TextEnv, TextNode, paging};
 use std::alloc::{AllocError, Global};
 
-pub type TextPager = Pager<TextEnv<WeighHash>, InMemoryBlobs<TextEnv<WeighHash>>>;
+type Blobs = InMemoryBlobs<TextEnv<WeighHash>>;
+
+pub type TextPager = Pager<TextEnv<WeighHash>, FailingStorage<Blobs>>;
 
 /// A call of the pager.
 #[derive(Clone, Copy)]
 pub enum Call {
     NewLoose(&'static str),
+    NewPinned(&'static str),
+    NewPagedOut(u32, u128),
+    Clone(HandleNumber),
+    IntoPagable(HandleNumber),
     Pin(HandleNumber),
     Unpin(HandleNumber),
     Release(HandleNumber),
@@ -59,9 +65,10 @@ pub enum Answer {
     Blob(usize),
 }
 
-/// A pager with no cells.
-pub fn empty(alloc: Global) -> TextPager {
-    Pager::new(alloc, InMemoryBlobs::new(alloc), TextEnv::new())
+/// A pager with no cells, of whose storage one call fails, after so many others.
+pub fn empty(alloc: Global, calls_before: u64) -> TextPager {
+    let storage = FailingStorage::new(InMemoryBlobs::new(alloc), calls_before);
+    Pager::new(alloc, storage, TextEnv::new())
 }
 
 /// A text as an answer.
@@ -146,6 +153,28 @@ fn new_loose(alloc: Global, pager: &mut TextPager, text: &str) -> Result<Answer,
     Ok(Answer::Handle(handle))
 }
 
+fn new_pinned(alloc: Global, pager: &mut TextPager, text: &str) -> Result<Answer, Error> {
+    let node = TextNode::new(alloc, text)?;
+    let handle = pager.new_pinned(alloc, node).map_err(|refused| refused.0)?;
+    Ok(Answer::Handle(handle))
+}
+
+/// Makes a call that makes a cell, a clone or a loose handle, and answers None for another one.
+fn make(alloc: Global, pager: &mut TextPager, call: Call) -> Result<Option<Answer>, Error> {
+    let answer = match call {
+        Call::NewLoose(text) => new_loose(alloc, pager, text)?,
+        Call::NewPinned(text) => new_pinned(alloc, pager, text)?,
+        Call::NewPagedOut(node_type, number) => match DataKey::new(number) {
+            Some(key) => Answer::Handle(pager.new_paged_out(node_type, key)?),
+            None => return Ok(None),
+        },
+        Call::Clone(handle) => Answer::Handle(pager.clone(handle)?),
+        Call::IntoPagable(handle) => Answer::Handle(pager.into_pagable(handle)?),
+        _ => return Ok(None),
+    };
+    Ok(Some(answer))
+}
+
 fn page_out(alloc: Global, pager: &mut TextPager) -> Answer {
     done(paging::page_out_pending(alloc, pager))
 }
@@ -153,7 +182,6 @@ fn page_out(alloc: Global, pager: &mut TextPager) -> Answer {
 /// Makes a call that changes cells, and answers None for another one.
 fn step(alloc: Global, pager: &mut TextPager, call: Call) -> Result<Option<Answer>, Error> {
     let answer = match call {
-        Call::NewLoose(text) => new_loose(alloc, pager, text)?,
         Call::Pin(handle) => match pager.pin(handle)? {
             Pinning::Pinned(pinned) => Answer::Handle(pinned),
             Pinning::NeedsLoad(key) => Answer::NeedsLoad(key.get()),
@@ -174,12 +202,15 @@ fn step(alloc: Global, pager: &mut TextPager, call: Call) -> Result<Option<Answe
     Ok(Some(answer))
 }
 
-/// Makes the call, by the one of the three that knows it.
+/// Makes the call, by the one of the four that knows it.
 fn try_call(alloc: Global, pager: &mut TextPager, call: Call) -> Result<Answer, Error> {
     if let Some(answer) = look(alloc, pager, call)? {
         return Ok(answer);
     }
     if let Some(answer) = read(alloc, pager, call)? {
+        return Ok(answer);
+    }
+    if let Some(answer) = make(alloc, pager, call)? {
         return Ok(answer);
     }
     Ok(step(alloc, pager, call)?.unwrap_or(Answer::Done))

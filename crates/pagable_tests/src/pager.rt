@@ -18,17 +18,28 @@ const SECOND: HandleNumber = HandleNumber(2);
 
 const THIRD: HandleNumber = HandleNumber(3);
 
+const FOURTH: HandleNumber = HandleNumber(4);
+
+const FIFTH: HandleNumber = HandleNumber(5);
+
 const SIXTH: HandleNumber = HandleNumber(6);
+
+const SEVENTH: HandleNumber = HandleNumber(7);
 
 /// The first open load, and the second.
 const LOAD: LoadNumber = LoadNumber(1);
 
 const NEXT_LOAD: LoadNumber = LoadNumber(2);
 
-/// Makes the calls of a table on an empty pager, and compares their answers. A failure names the row alone: a `Debug` of calls and
-/// answers would cost more of the check than all these tests.
+/// Makes the calls of a table on an empty pager whose storage never fails, and compares their answers.
 fn run(rt: &impl Abort, alloc: Global, rows: Vec<(Call, Answer)>) {
-    let mut pager = empty(alloc);
+    run_until(rt, alloc, u64::MAX, rows);
+}
+
+/// The same, where one call of the storage fails after so many others. A failure names the row alone: a `Debug` of calls and
+/// answers would cost more of the check than all these tests.
+fn run_until(rt: &impl Abort, alloc: Global, calls_before: u64, rows: Vec<(Call, Answer)>) {
+    let mut pager = empty(alloc, calls_before);
     for (place, (call, wanted)) in rows.into_iter().enumerate() {
         assert!(rt;
             answer_to(alloc, &mut pager, call) == wanted,
@@ -149,7 +160,121 @@ fn a_load_whose_handle_is_gone(rt: HostRuntime) -> Result<(), Fail> {
             Call::LoadEnd(LOAD, "x"),
             Answer::EndRefused(Error::NoSuchHandle, true),
         ),
+        // Handles 2 to 4 were the list's, page-out's and the load's. Another node, to which a clone is left.
+        (Call::NewPagedOut(0, 1209), Answer::Handle(FIFTH)),
+        (Call::Clone(FIFTH), Answer::Handle(SIXTH)),
+        (Call::LoadBegin(FIFTH), Answer::Load(NEXT_LOAD, 1209)),
+        (Call::Release(FIFTH), Answer::Done),
+        (
+            Call::LoadEnd(NEXT_LOAD, "x"),
+            Answer::EndRefused(Error::NoSuchHandle, false),
+        ),
+        (
+            Call::LoadDrop(NEXT_LOAD),
+            Answer::Refused(Error::NoSuchHandle),
+        ),
+        (Call::NodeLive(NodeNumber(2)), Answer::NodeType(Some(0))),
+        (Call::IsPagedOut(SIXTH), Answer::IsTrue(true)),
+        (Call::Release(SIXTH), Answer::Done),
+        (Call::NodeLive(NodeNumber(2)), Answer::NodeType(None)),
     ]?;
     run(&rt, rt.alloc(), rows);
+    Ok(())
+}
+
+#[test]
+fn clones_and_pins_that_are_made_loose(rt: HostRuntime) -> Result<(), Fail> {
+    let rows = vec![in rt.alloc();
+        (Call::NewPinned("x"), Answer::Handle(CELL)),
+        (Call::Pin(CELL), Answer::Refused(Error::WrongMode)),
+        (Call::Clone(CELL), Answer::Handle(SECOND)),
+        (Call::IntoPagable(SECOND), Answer::Handle(SECOND)),
+        (Call::Count(CELL), Answer::Count(2)),
+        (
+            Call::IntoPagable(SECOND),
+            Answer::Refused(Error::WrongMode),
+        ),
+        (Call::Unpin(SECOND), Answer::Done),
+        (Call::Count(CELL), Answer::Count(1)),
+        (Call::Release(CELL), Answer::Done),
+        (Call::Count(SECOND), Answer::Count(0)),
+        (Call::IsPagedOut(SECOND), Answer::IsTrue(false)),
+        (Call::Pending, Answer::Pending(1)),
+        // The third handle is the list's.
+        (Call::IntoPagable(THIRD), Answer::Refused(Error::NotYours)),
+        (Call::Clone(SECOND), Answer::Handle(FOURTH)),
+        (Call::Count(SECOND), Answer::Count(0)),
+        (Call::Pin(FOURTH), Answer::Handle(FIFTH)),
+        (Call::Count(SECOND), Answer::Count(2)),
+        (Call::Release(FIFTH), Answer::Done),
+        (Call::Count(SECOND), Answer::Count(1)),
+        (Call::Release(FOURTH), Answer::Done),
+        (Call::Count(SECOND), Answer::Count(0)),
+        (Call::Pending, Answer::Pending(2)),
+        (Call::Release(FOURTH), Answer::Refused(Error::NoSuchHandle)),
+        (Call::Clone(FOURTH), Answer::Refused(Error::NoSuchHandle)),
+        (Call::Pending, Answer::Pending(2)),
+        // A clone of the list's handle is the caller's.
+        (Call::Clone(THIRD), Answer::Handle(SEVENTH)),
+        (Call::NodeOf(SEVENTH), Answer::Node(NODE)),
+        (Call::Release(SEVENTH), Answer::Done),
+    ]?;
+    run(&rt, rt.alloc(), rows);
+    Ok(())
+}
+
+#[test]
+fn two_loads_of_a_cell(rt: HostRuntime) -> Result<(), Fail> {
+    let hello = text(rt.alloc(), "hello world")?;
+    let rows = vec![in rt.alloc();
+        (Call::NewPagedOut(0, 16_879), Answer::Handle(CELL)),
+        (Call::Clone(CELL), Answer::Handle(SECOND)),
+        (Call::NodeLive(NODE), Answer::NodeType(Some(0))),
+        (Call::Key(SECOND), Answer::Key(Some(16_879))),
+        (Call::Pin(CELL), Answer::NeedsLoad(16_879)),
+        (
+            Call::IntoPagable(CELL),
+            Answer::Refused(Error::WrongMode),
+        ),
+        // The third and the fourth handle are the loads'.
+        (Call::LoadBegin(CELL), Answer::Load(LOAD, 16_879)),
+        (Call::LoadBegin(SECOND), Answer::Load(NEXT_LOAD, 16_879)),
+        (Call::LoadEnd(LOAD, "hello world"), Answer::Handle(FIFTH)),
+        (Call::Count(CELL), Answer::Count(2)),
+        (Call::Release(FIFTH), Answer::Done),
+        (Call::Count(CELL), Answer::Count(1)),
+        (Call::Unpin(CELL), Answer::Done),
+        (Call::Count(CELL), Answer::Count(0)),
+        (Call::IsPagedOut(CELL), Answer::IsTrue(true)),
+        (
+            Call::LoadEnd(NEXT_LOAD, "hello world"),
+            Answer::Handle(SIXTH),
+        ),
+        (Call::Value(SIXTH), hello),
+        (Call::Count(CELL), Answer::Count(2)),
+        (Call::Pending, Answer::Pending(0)),
+    ]?;
+    run(&rt, rt.alloc(), rows);
+    Ok(())
+}
+
+#[test]
+fn a_cell_that_is_listed_twice(rt: HostRuntime) -> Result<(), Fail> {
+    let rows = vec![in rt.alloc();
+        (Call::NewLoose("x"), Answer::Handle(CELL)),
+        (Call::Unpin(CELL), Answer::Done),
+        (Call::Pin(CELL), Answer::Handle(THIRD)),
+        (Call::Release(THIRD), Answer::Done),
+        (Call::Unpin(CELL), Answer::Done),
+        (Call::Pending, Answer::Pending(2)),
+        (Call::PageOut, Answer::Done),
+        (Call::Pending, Answer::Pending(0)),
+        (Call::Key(CELL), Answer::Key(Some(1209))),
+        (Call::IsPagedOut(CELL), Answer::IsTrue(true)),
+        // The storage's second call fails: page-out made one, and skipped the other entry.
+        (Call::Fetch(1209), Answer::Refused(Error::Storage(7))),
+        (Call::Fetch(1209), Answer::Blob(2)),
+    ]?;
+    run_until(&rt, rt.alloc(), 1, rows);
     Ok(())
 }

@@ -4,6 +4,7 @@ use Rattle.std.specs.List.{remove}
 use Rattle.pagable_model.specs.declared.error.Error.{Error}
 use Rattle.pagable_model.specs.declared.error.Error.TheVariants as errors
 use Rattle.pagable_model.specs.declared.data_key.OptionalDataKey.{OptionalDataKey}
+use Rattle.pagable_model.specs.declared.data_key.OptionalDataKey.TheVariants as optional
 use Rattle.pagable_model.specs.declared.numbers.HandleNumber.{HandleNumber}
 use Rattle.pagable_model.specs.declared.numbers.LoadNumber.{LoadNumber}
 use Rattle.pagable_model.specs.declared.numbers.NodeNumber.{NodeNumber}
@@ -12,8 +13,8 @@ use Rattle.pagable_world.specs.declared.rows.Mode.TheVariants as modes
 use Rattle.pagable_world.specs.declared.rows.Owner.TheVariants as owners
 use Rattle.pagable_world.specs.State.{is_pinning, is_loose, is_load, pins, has_key}
 use Rattle.pagable_world.specs.Cells.{Cell}
-use Rattle.pagable_world.specs.World.{World, joined, turned, born, rekeyed, opened, HasCell, IsHere, IsAway, Leaves, Closes, Prepared, CannotMake, CannotBear, CannotOpen}
-use Rattle.pagable_world.specs.Refusals.{HasRow, IsUnknown, IsOwn, RefusesOwn, RefusesLoose}
+use Rattle.pagable_world.specs.World.{World, joined, turned, born, born_with, rekeyed, opened, HasCell, IsHere, IsAway, Leaves, Closes, Prepared, CannotMake, CannotBear, CannotOpen}
+use Rattle.pagable_world.specs.Refusals.{HasRow, IsUnknown, IsOwn, RefusesOwn, RefusesLoose, RefusesPinned}
 use Rattle.pagable_world.specs.declared.answers.Pinning.{Pinning}
 use Rattle.pagable_world.specs.declared.answers.Pinning.TheVariants as pinnings
 use Rattle.pagable_world.specs.declared.answers.Beginning.{Beginning}
@@ -26,6 +27,22 @@ use Rattle.pagable_world.specs.declared.rows.LoadRow.{LoadRow}
 abbrev pub Born : World → ℕ → Mode → Result HandleNumber Error → World → Type 0
 Born w node_type mode (Ok k) w' = (k.0 ≡ w.last_handle + 1) × (w' ≡ born w node_type mode)
 Born w node_type mode (Err e) w' = CannotBear w e × (w' ≡ w)
+
+-- a new node with this key, whose value is away, with one unpinned handle of the caller's
+abbrev pub BornAway : World → ℕ → ℕ → Result HandleNumber Error → World → Type 0
+BornAway w node_type key (Ok k) w' = (k.0 ≡ w.last_handle + 1) × (w' ≡ born_with w node_type (optional.Some key) modes.LooseUnpinned)
+BornAway w node_type key (Err e) w' = CannotBear w e × (w' ≡ w)
+
+-- A clone of any live handle: one more handle of its node, of the same mode, which is the caller's.
+abbrev pub Cloned : World → HandleNumber → Result HandleNumber Error → World → Type 0
+Cloned w h (Ok k) w' = (i : ℕ) × (row : HandleRow) × HasRow w h i row × (k.0 ≡ w.last_handle + 1) × (w' ≡ joined w row.node row.mode owners.Caller)
+Cloned w h (Err e) w' = ((IsUnknown w h × (e ≡ errors.NoSuchHandle)) ⊎ ((i : ℕ) × (row : HandleRow) × HasRow w h i row × CannotMake w.last_handle e)) × (w' ≡ w)
+
+-- A Pinned handle becomes a loose pinned one, under its own number. Nothing else is needed for it, so no other refusal
+-- is there.
+abbrev pub Loosened : World → HandleNumber → Result HandleNumber Error → World → Type 0
+Loosened w h (Ok k) w' = (i : ℕ) × (row : HandleRow) × IsOwn w h i row × (row.mode ≡ modes.Pinned) × (k ≡ h) × (w' ≡ turned w i row modes.LoosePinned)
+Loosened w h (Err e) w' = RefusesPinned w h e × (w' ≡ w)
 
 -- A pin: the loose handle is pinned from now on, and one more handle that pins is made. Or the key under which the value
 -- has to be read first, and nothing changes.

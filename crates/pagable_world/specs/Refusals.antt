@@ -4,6 +4,7 @@ use Rattle.std.specs.Prelude.{ℕ, ◌≡◌, ◌≢◌, sum_by, false, Some, sl
 use Rattle.pagable_model.specs.declared.error.Error.{Error}
 use Rattle.pagable_model.specs.declared.error.Error.TheVariants as errors
 use Rattle.pagable_model.specs.declared.numbers.HandleNumber.{HandleNumber}
+use Rattle.pagable_world.specs.declared.rows.Mode.TheVariants as modes
 use Rattle.pagable_world.specs.declared.rows.Owner.TheVariants as owners
 use Rattle.pagable_world.specs.State.{is_number, is_loose}
 use Rattle.pagable_world.specs.World.{World}
@@ -35,3 +36,10 @@ RefusesLoose w h errors.NoSuchHandle = IsUnknown w h
 RefusesLoose w h errors.NotYours = (i : ℕ) × (row : HandleRow) × HasRow w h i row × (row.owner ≢ owners.Caller)
 RefusesLoose w h errors.WrongMode = (i : ℕ) × (row : HandleRow) × IsOwn w h i row × (is_loose row.mode ≡ false)
 RefusesLoose w h _ = ⊥
+
+-- why a call that asks for the caller's own Pinned handle refuses it
+abbrev pub RefusesPinned : World → HandleNumber → Error → Type 0
+RefusesPinned w h errors.NoSuchHandle = IsUnknown w h
+RefusesPinned w h errors.NotYours = (i : ℕ) × (row : HandleRow) × HasRow w h i row × (row.owner ≢ owners.Caller)
+RefusesPinned w h errors.WrongMode = (i : ℕ) × (row : HandleRow) × IsOwn w h i row × (row.mode ≢ modes.Pinned)
+RefusesPinned w h _ = ⊥

@@ -9,10 +9,11 @@ use Rattle.pagable_model.specs.Blob.{Blob}
 use Rattle.pagable_model.specs.Shape.{Shape}
 use Rattle.pagable_model.specs.Meaning.{Meaning, lifted}
 use Rattle.pagable_model.specs.Trees.{Tree, ReadsTree}
+use Rattle.pagable_world.specs.declared.rows.Mode.{Mode}
 use Rattle.pagable_world.specs.declared.rows.Mode.TheVariants as modes
 use Rattle.pagable_world.specs.State.{is_loose}
 use Rattle.pagable_world.specs.Cells.{Cell}
-use Rattle.pagable_world.specs.World.{World, plain, born}
+use Rattle.pagable_world.specs.World.{World, plain, born, born_with}
 use Rattle.pagable_world.specs.Refusals.{HasRow, IsOwn}
 use Rattle.pagable_world.specs.Calls.{HasLoad}
 use Rattle.pagable_world.specs.declared.rows.HandleRow.{HandleRow}
@@ -79,6 +80,11 @@ LendsTree g v handle x = (w : TodayWorld) → RepresentsToday g v w → (i : ℕ
 abbrev pub StandsEmpty : {N S E : Type 0} → Sight N S E → Shown N S E → Type 0
 StandsEmpty g v = (tree : ℕ → Tree) → RepresentsToday g v (record { plain = plain v.book; tree = tree })
 
--- A node is born for the value: whichever tree the value means is the new node's.
-abbrev pub BirthOf : {N S E : Type 0} → Sight N S E → N → Shown N S E → Shown N S E → Type 0
-BirthOf g x old new = (t : Tree) → MeansTree g x t → EachWorld g old new Always (λ w w'. (w'.plain ≡ born w.plain (g.type_of x) modes.LoosePinned) × (w'.tree (w.plain.last_node + 1) ≡ t))
+-- A node is born for the value, with a handle of this mode: whichever tree the value means is the new node's.
+abbrev pub BirthOf : {N S E : Type 0} → Sight N S E → N → Mode → Shown N S E → Shown N S E → Type 0
+BirthOf g x mode old new = (t : Tree) → MeansTree g x t → EachWorld g old new Always (λ w w'. (w'.plain ≡ born w.plain (g.type_of x) mode) × (w'.tree (w.plain.last_node + 1) ≡ t))
+
+-- A node of this type is born with a key and without a value: whichever tree of the type the key reads as is the new node's.
+abbrev pub AwayBirthOf : {N S E : Type 0} → Sight N S E → ℕ → ℕ → Shown N S E → Shown N S E → Type 0
+AwayBirthOf g node_type key old new =
+    (t : Tree) → node_type ≡ t.type → KeyReads g old key t → EachWorld g old new Always (λ w w'. (w'.plain ≡ born_with w.plain node_type (optional.Some key) modes.LooseUnpinned) × (w'.tree (w.plain.last_node + 1) ≡ t))

@@ -92,10 +92,14 @@ abbrev pub Prepared : World → HandleRow → Result (Unit {0}) Error → World 
 Prepared w row (Ok u) w' = (NeedsListing w row × (w' ≡ enlisted w row.node) × (w.last_handle < greatest)) ⊎ (NeedsNoListing w row × (w' ≡ w))
 Prepared w row (Err e) w' = NeedsListing w row × CannotMake w.last_handle e × (w' ≡ w)
 
--- a new node without a key, with one handle of the caller's
+-- a new node, with this key or none, and with one handle of the caller's
+abbrev pub born_with : World → ℕ → OptionalDataKey → Mode → World
+born_with w node_type key mode =
+    record (joined w (record { 0 = w.last_node + 1 }) mode owners.Caller) { cells = w.cells ++ record { number = w.last_node + 1; node_type = node_type; key = key } ∷ []; last_node = w.last_node + 1 }
+
+-- a new node without a key
 abbrev pub born : World → ℕ → Mode → World
-born w node_type mode =
-    record (joined w (record { 0 = w.last_node + 1 }) mode owners.Caller) { cells = w.cells ++ record { number = w.last_node + 1; node_type = node_type; key = optional.None } ∷ []; last_node = w.last_node + 1 }
+born w node_type mode = born_with w node_type optional.None mode
 
 -- why no node can be made
 abbrev pub CannotBear : World → Error → Type 0

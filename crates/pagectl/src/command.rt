@@ -4,6 +4,7 @@
 #[derive(Clone, Copy)]
 pub enum Verb {
     Unpin,
+    Loose,
     Count,
     Key,
     Out,
@@ -16,7 +17,11 @@ pub enum Command<'a> {
     New(&'a str, &'a str),
     /// `pin NAME NEW`: the text; NEW is the pin.
     Pin(&'a str, &'a str),
-    /// `unpin NAME`, `count NAME`, `key NAME` or `out NAME`
+    /// `clone NAME NEW`: NEW is one more handle of the same mode.
+    Clone(&'a str, &'a str),
+    /// `release NAME`: the handle is given up, and the name is free again.
+    Release(&'a str),
+    /// `unpin NAME`, `loose NAME`, `count NAME`, `key NAME` or `out NAME`
     Of(Verb, &'a str),
     /// `pending`
     Pending,
@@ -40,6 +45,8 @@ pub fn parse(line: &str) -> Option<Command<'_>> {
     match verb {
         "new" => Some(Command::New(name, behind)),
         "pin" if is_name(behind) => Some(Command::Pin(name, behind)),
+        "clone" if is_name(behind) => Some(Command::Clone(name, behind)),
+        "release" if name.len() == rest.len() => Some(Command::Release(name)),
         _ if name.len() == rest.len() => Some(Command::Of(verb_of(verb)?, name)),
         _ => None,
     }
@@ -49,6 +56,7 @@ pub fn parse(line: &str) -> Option<Command<'_>> {
 fn verb_of(word: &str) -> Option<Verb> {
     match word {
         "unpin" => Some(Verb::Unpin),
+        "loose" => Some(Verb::Loose),
         "count" => Some(Verb::Count),
         "key" => Some(Verb::Key),
         "out" => Some(Verb::Out),

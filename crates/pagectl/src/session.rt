@@ -60,6 +60,8 @@ impl<H: KeyHash> Session<H> {
         match command {
             Command::New(name, text) => self.make(alloc, name, text),
             Command::Pin(name, new) => self.pin(alloc, name, new),
+            Command::Clone(name, new) => self.clone(alloc, name, new),
+            Command::Release(name) => self.release(name),
             Command::Of(verb, name) => {
                 let handle = self.find(name)?;
                 Ok(ask(&mut self.pager, verb, handle)?)
@@ -104,6 +106,23 @@ impl<H: KeyHash> Session<H> {
             None => Err(Refusal::Error(Error::NoSuchHandle)),
         }
     }
+
+    /// Clones the handle of a name. The clone gets the new name.
+    fn clone(&mut self, alloc: Global, name: &str, new: &str) -> Result<Answer<'_>, Refusal> {
+        let handle = self.find(name)?;
+        let vacant = vacant(&mut self.names, alloc, new)?;
+        vacant.insert(self.pager.clone(handle)?);
+        Ok(Answer::Text("ok"))
+    }
+
+    /// Gives up the handle of a name, which is free again. All handles that have names are the program's own, so a
+    /// refusal says that the cell couldn't be listed: the handle is given up all the same.
+    fn release(&mut self, name: &str) -> Result<Answer<'_>, Refusal> {
+        let handle = self.find(name)?;
+        let _ = self.names.remove(name);
+        self.pager.release(handle)?;
+        Ok(Answer::Text("ok"))
+    }
 }
 
 /// Room for a new name, before its handle is made, so that no handle is left without one.
@@ -119,7 +138,7 @@ fn vacant<'a>(
     }
 }
 
-/// Gives up a handle's pin, or answers how many handles pin its cell, the number of the cell's key, or whether the
+/// Gives up a handle's pin, makes a Pinned handle loose, or answers how many handles pin its cell, the number of the cell's key, or whether the
 /// cell's text isn't in memory.
 fn ask<H: KeyHash>(
     pager: &mut TextPager<H>,
@@ -129,6 +148,10 @@ fn ask<H: KeyHash>(
     match verb {
         Verb::Unpin => {
             pager.unpin(handle)?;
+            Ok(Answer::Text("ok"))
+        }
+        Verb::Loose => {
+            pager.into_pagable(handle)?;
             Ok(Answer::Text("ok"))
         }
         Verb::Count => Ok(Answer::Number(u128::from(pager.count(handle)?))),

@@ -49,6 +49,11 @@ pub struct Value {
 #[derive(Clone, Copy, Debug)]
 pub enum Call {
     NewLoose(Value),
+    NewPinned(Value),
+    /// A cell whose value is away under a key, and which is to have this value.
+    NewPagedOut(Value, DataKey),
+    Clone(HandleNumber),
+    IntoPagable(HandleNumber),
     Pin(HandleNumber),
     Unpin(HandleNumber),
     Release(HandleNumber),
@@ -86,6 +91,10 @@ impl Call {
     pub fn name(&self) -> &'static str {
         match self {
             Call::NewLoose(_) => "new_loose",
+            Call::NewPinned(_) => "new_pinned",
+            Call::NewPagedOut(_, _) => "new_paged_out",
+            Call::Clone(_) => "clone",
+            Call::IntoPagable(_) => "into_pagable",
             Call::Pin(_) => "pin",
             Call::Unpin(_) => "unpin",
             Call::Release(_) => "release",

@@ -7,13 +7,29 @@ use pagable_plain_world::{PlainBlob, PlainPager, PlainValue};
 use pagable_world::{Found, Want};
 use std::alloc::Global;
 
-fn new_loose(alloc: Global, pager: &mut PlainPager, value: Value) -> Result<Answer, Error> {
+fn new_cell(
+    alloc: Global,
+    pager: &mut PlainPager,
+    value: Value,
+    mode: Mode,
+) -> Result<Answer, Error> {
     let value = PlainValue {
         node_type: value.node_type,
         text: String::from_str(alloc, value.text.as_str())?,
         references: Vec::new(alloc),
     };
-    Ok(Answer::Handle(pager.new_node(alloc, value, Mode::LoosePinned)?))
+    Ok(Answer::Handle(pager.new_node(alloc, value, mode)?))
+}
+
+fn new_paged_out(
+    alloc: Global,
+    pager: &mut PlainPager,
+    value: Value,
+    key: DataKey,
+) -> Result<Answer, Error> {
+    let text = String::from_str(alloc, value.text.as_str())?;
+    let made = pager.new_paged_out(value.node_type, key, text)?;
+    Ok(Answer::Handle(made))
 }
 
 /// What the text is written as that a handle pins, if it does.
@@ -77,7 +93,11 @@ fn load_end(
 /// Makes the call. A refusal that closes a load is an answer.
 fn make(alloc: Global, pager: &mut PlainPager, call: Call) -> Result<Answer, Error> {
     match call {
-        Call::NewLoose(value) => new_loose(alloc, pager, value),
+        Call::NewLoose(value) => new_cell(alloc, pager, value, Mode::LoosePinned),
+        Call::NewPinned(value) => new_cell(alloc, pager, value, Mode::Pinned),
+        Call::NewPagedOut(value, key) => new_paged_out(alloc, pager, value, key),
+        Call::Clone(handle) => Ok(Answer::Handle(pager.clone(handle)?)),
+        Call::IntoPagable(handle) => Ok(Answer::Handle(pager.into_pagable(handle)?)),
         Call::Pin(handle) => Ok(pinning(pager.pin(handle)?)),
         Call::Unpin(handle) => done(pager.unpin(handle)),
         Call::Release(handle) => done(pager.release(handle)),

@@ -58,19 +58,23 @@ impl Plan {
 
     /// A call of any sort. As long as no load was begun, few ask for one.
     fn drawn(&mut self, plain: &PlainPager) -> Call {
-        let sorts = if plain.last_load() == 0 { 18 } else { 20 };
+        let sorts = if plain.last_load() == 0 { 22 } else { 24 };
         match self.below(sorts) {
-            0 | 1 => Call::NewLoose(self.value()),
-            2..=4 => Call::Pin(self.handle(plain)),
-            5..=7 => Call::Unpin(self.handle(plain)),
-            8 | 9 => Call::Release(self.handle(plain)),
-            10 => Call::SetDataKey(self.handle(plain), self.key),
-            11 => Call::Store(self.handle(plain)),
-            12 => Call::Fetch(self.key),
-            13 | 14 => Call::LoadBegin(self.handle(plain)),
-            15 | 16 => Call::TakePending(self.place(plain)),
-            17 => Call::LoadFetch(self.load(plain)),
-            18 => Call::LoadDrop(self.load(plain)),
+            0 => Call::NewLoose(self.value()),
+            1 => Call::NewPinned(self.value()),
+            2 => Call::NewPagedOut(self.value(), self.key),
+            3 | 4 => Call::Clone(self.handle(plain)),
+            5 => Call::IntoPagable(self.handle(plain)),
+            6..=8 => Call::Pin(self.handle(plain)),
+            9..=11 => Call::Unpin(self.handle(plain)),
+            12 | 13 => Call::Release(self.handle(plain)),
+            14 => Call::SetDataKey(self.handle(plain), self.key),
+            15 => Call::Store(self.handle(plain)),
+            16 => Call::Fetch(self.key),
+            17 | 18 => Call::LoadBegin(self.handle(plain)),
+            19 | 20 => Call::TakePending(self.place(plain)),
+            21 => Call::LoadFetch(self.load(plain)),
+            22 => Call::LoadDrop(self.load(plain)),
             _ => {
                 let load = self.load(plain);
                 self.end_of(plain, load)

@@ -4,7 +4,7 @@ use crate::calls::{Answer, Call, Value, beginning, done, pinning, taken};
 use crate::nodes::{NAMES, RunEnv, RunNode};
 use either::Either;
 use pagable::{
-    Error, HandleNumber, InMemoryBlobs, LoadNumber, NodeSet, PagableData, Pager,
+    DataKey, Error, HandleNumber, InMemoryBlobs, LoadNumber, NodeSet, PagableData, Pager,
     SerializerForPaging, Want,
 };
 use pagable_samples::{FailingStorage, paging};
@@ -20,6 +20,19 @@ fn new_loose(alloc: Global, pager: &mut RunPager, value: Value) -> Result<Answer
         Ok(handle) => Ok(Answer::Handle(handle)),
         Err((refusal, _)) => Err(refusal),
     }
+}
+
+fn new_pinned(alloc: Global, pager: &mut RunPager, value: Value) -> Result<Answer, Error> {
+    let node = RunNode::new(alloc, value.node_type, value.text.as_str())?;
+    match pager.new_pinned(alloc, node) {
+        Ok(handle) => Ok(Answer::Handle(handle)),
+        Err((refusal, _)) => Err(refusal),
+    }
+}
+
+fn new_paged_out(pager: &mut RunPager, value: Value, key: DataKey) -> Result<Answer, Error> {
+    let made = pager.new_paged_out(value.node_type, key)?;
+    Ok(Answer::Handle(made))
 }
 
 /// What the value is written as that a handle pins, if it does.
@@ -79,6 +92,10 @@ fn load_end(
 fn make(alloc: Global, pager: &mut RunPager, call: Call) -> Result<Answer, Error> {
     match call {
         Call::NewLoose(value) => new_loose(alloc, pager, value),
+        Call::NewPinned(value) => new_pinned(alloc, pager, value),
+        Call::NewPagedOut(value, key) => new_paged_out(pager, value, key),
+        Call::Clone(handle) => Ok(Answer::Handle(pager.clone(handle)?)),
+        Call::IntoPagable(handle) => Ok(Answer::Handle(pager.into_pagable(handle)?)),
         Call::Pin(handle) => Ok(pinning(pager.pin(handle)?)),
         Call::Unpin(handle) => done(pager.unpin(handle)),
         Call::Release(handle) => done(pager.release(handle)),

@@ -7,7 +7,11 @@ use crate::events::{EVICTED, LISTED_AGAIN, LOADED_AGAIN};
 static OFTEN: [Name; 3] = [EVICTED, LISTED_AGAIN, LOADED_AGAIN];
 
 /// What has to happen: each refusal of each call that can be reached.
-static ONCE: [Name; 26] = [
+static ONCE: [Name; 30] = [
+    ("clone", "NoSuchHandle"),
+    ("into_pagable", "NoSuchHandle"),
+    ("into_pagable", "NotYours"),
+    ("into_pagable", "WrongMode"),
     ("pin", "NoSuchHandle"),
     ("pin", "NotYours"),
     ("pin", "WrongMode"),

@@ -1,6 +1,6 @@
 //! The pager: handles of values that may be in memory or in the storage.
 
-ghost use Rattle.std.specs.Prelude.{◌≡◌, ◌≢◌, ◌≤◌, ◌+◌, ◌++◌, ◌∷◌, [], All, false, OnErr, IfErr, IfOk, IfNone, IfSome, OnOk, Ok, Some, ◌<◌, length, sum_by};
+ghost use Rattle.std.specs.Prelude.{◌≡◌, ◌≢◌, ℕ, ◌≤◌, ◌+◌, ◌++◌, ◌∷◌, [], All, false, OnErr, IfErr, IfOk, IfNone, IfSome, OnOk, Ok, Some, ◌<◌, length, sum_by};
 ghost use Rattle.std.specs.Arc.{arc_value};
 ghost use Rattle.pagable_model.specs.Blob.{key_of};
 ghost use Rattle.pagable_core.specs.Data.{blob_of};
@@ -8,15 +8,16 @@ ghost use Rattle.pagable_model.specs.Stored.{Adds, RefusesFetch, RefusesStore};
 ghost use Rattle.pagable_world.specs.State.{WellFormed, is_node};
 ghost use Rattle.pagable_world.specs.Cells.{Cell};
 ghost use Rattle.pagable_world.specs.World.{plain, born, HasCell};
-ghost use Rattle.pagable_world.specs.Refusals.{IsUnknown};
-ghost use Rattle.pagable_world.specs.Calls.{PinnedBy, Unpinned, Released, Counts, KeyIs, AwayIs, NodeIs, Took, KeySet, Begun, Ended, Dropped};
+ghost use Rattle.pagable_world.specs.Refusals.{IsOwn, IsUnknown};
+ghost use Rattle.pagable_world.specs.Calls.{BornAway, Cloned, Loosened, PinnedBy, Unpinned, Released, Counts, KeyIs, AwayIs, NodeIs, Took, KeySet, Begun, Ended, Dropped};
 ghost use Rattle.pagable_world.specs.Values.{value_of_node};
 ghost use Rattle.pagable_world.specs.Shown.{OnlyBook, SameStore, OnlyStore, Unchanged};
 ghost use Rattle.pagable_world.specs.InStep.{InStep, kept};
 ghost use Rattle.pagable_world.specs.Lending.{IsLent, PinsNothing};
 ghost use Rattle.pagable_world.specs.LoadEnds.{ClosedBy, EndedAs, FitsLoad, InstallsValue, LoadFetched, StaysOpen};
 ghost use Rattle.pagable_world.specs.Births.{RefusesNew};
-ghost use Rattle.pagable_world.specs.TodayTrees.{Always, BirthOf, EachWorld, SetKeyFits, LendsTree, ReadFits, Sight, StandsEmpty};
+ghost use Rattle.pagable_world.specs.declared.rows.HandleRow.{HandleRow};
+ghost use Rattle.pagable_world.specs.TodayTrees.{Always, AwayBirthOf, BirthOf, EachWorld, SetKeyFits, LendsTree, ReadFits, Sight, StandsEmpty};
 
 use crate::pagable_arc::values;
 use crate::pagable_arc::values::ValueRow;
@@ -113,21 +114,63 @@ where
         ensures made { IfOk result (λ k. (k.0 ≡ self.old.book.last_handle + 1) × (plain self.new.book ≡ born (plain self.old.book) (E.Node.type_of node) Mode.LoosePinned)) }
         ensures alone { OnOk result (E.Node.refs_of node ≡ []) }
         ensures values { OnOk result (self.new.values ≡ self.old.values ++ (self.old.book.last_node + 1, node) ∷ []) }
-        ensures trees { OnOk result (BirthOf (record { type_of = E.Node.type_of; means = E.Node.means; shape_of = E.Node.shape_of; parts = E.parts; stored = S.stored }) node self.old self.new) }
+        ensures trees { OnOk result (BirthOf (record { type_of = E.Node.type_of; means = E.Node.means; shape_of = E.Node.shape_of; parts = E.parts; stored = S.stored }) node Mode.LoosePinned self.old self.new) }
         ensures same { SameStore self.old self.new }
         ensures err { OnErr result (Unchanged self.old self.new) }
         ensures why { IfErr result (λ e. RefusesNew E.Node.refs_of node self.old.book e.0) }
         ensures back { IfErr result (λ e. e.1 ≡ node) }
     {
-        match node.refs(alloc) {
-            Err(e) => return Err((e, node)),
-            Ok(refs) => {
-                if !refs.is_empty() {
-                    return Err((Error::NoSuchHandle, node));
-                }
-            }
-        }
-        self.add_cell(node)
+        self.new_cell(alloc, node, Mode::LoosePinned)
+    }
+
+    /// A new cell that holds the value, has no key, and has one Pinned handle of the caller's. Refused as `new_loose` is,
+    /// and then the value comes back.
+    pub fn new_pinned(
+        &mut self,
+        alloc: Global,
+        node: E::Node,
+    ) -> Result<HandleNumber, (Error, E::Node)>
+        ensures made { IfOk result (λ k. (k.0 ≡ self.old.book.last_handle + 1) × (plain self.new.book ≡ born (plain self.old.book) (E.Node.type_of node) Mode.Pinned)) }
+        ensures alone { OnOk result (E.Node.refs_of node ≡ []) }
+        ensures values { OnOk result (self.new.values ≡ self.old.values ++ (self.old.book.last_node + 1, node) ∷ []) }
+        ensures trees { OnOk result (BirthOf (record { type_of = E.Node.type_of; means = E.Node.means; shape_of = E.Node.shape_of; parts = E.parts; stored = S.stored }) node Mode.Pinned self.old self.new) }
+        ensures same { SameStore self.old self.new }
+        ensures err { OnErr result (Unchanged self.old self.new) }
+        ensures why { IfErr result (λ e. RefusesNew E.Node.refs_of node self.old.book e.0) }
+        ensures back { IfErr result (λ e. e.1 ≡ node) }
+    {
+        self.new_cell(alloc, node, Mode::Pinned)
+    }
+
+    /// A new cell of this type that has a key, whose value isn't in memory, and that has one loose unpinned handle of the
+    /// caller's. Its tree is what the key reads as. Refused with NumbersSpent and OutOfMemory.
+    pub fn new_paged_out(&mut self, node_type: u32, key: DataKey) -> Result<HandleNumber, Error>
+        ensures step { BornAway (plain self.old.book) node_type key result (plain self.new.book) }
+        ensures trees { OnOk result (AwayBirthOf (record { type_of = E.Node.type_of; means = E.Node.means; shape_of = E.Node.shape_of; parts = E.parts; stored = S.stored }) node_type key self.old self.new) }
+        ensures same { OnlyBook self.old self.new }
+    {
+        self.book.add_paged_out(node_type, key)
+    }
+
+    /// One more handle of the node of a live handle, of the same mode, which is the caller's: a clone of a pinning handle
+    /// pins. Refused with NoSuchHandle, NumbersSpent and OutOfMemory.
+    pub fn clone(&mut self, handle: HandleNumber) -> Result<HandleNumber, Error>
+        ensures step { Cloned (plain self.old.book) handle result (plain self.new.book) }
+        ensures trees { EachWorld (record { type_of = E.Node.type_of; means = E.Node.means; shape_of = E.Node.shape_of; parts = E.parts; stored = S.stored }) self.old self.new Always (λ w w'. Cloned w.plain handle result w'.plain) }
+        ensures same { OnlyBook self.old self.new }
+    {
+        self.book.clone(handle)
+    }
+
+    /// A Pinned handle becomes a loose pinned one, and keeps its number. It takes no memory, and succeeds on each Pinned
+    /// handle of the caller's. Refused with NoSuchHandle, NotYours, and WrongMode where the handle isn't Pinned.
+    pub fn into_pagable(&mut self, handle: HandleNumber) -> Result<HandleNumber, Error>
+        ensures step { Loosened (plain self.old.book) handle result (plain self.new.book) }
+        ensures succeeds { (i : ℕ) (row : HandleRow) → IsOwn (plain self.old.book) handle i row → row.mode ≡ Mode.Pinned → result ≡ Ok handle }
+        ensures trees { EachWorld (record { type_of = E.Node.type_of; means = E.Node.means; shape_of = E.Node.shape_of; parts = E.parts; stored = S.stored }) self.old self.new Always (λ w w'. Loosened w.plain handle result w'.plain) }
+        ensures same { OnlyBook self.old self.new }
+    {
+        self.book.into_pagable(handle)
     }
 
     /// A loose handle becomes pinned, and a new Pinned handle is answered; or the key under which the value has to be
@@ -454,11 +497,38 @@ where
         }
     }
 
-    // Adds a cell with its value.
-    fn add_cell(&mut self, node: E::Node) -> Result<HandleNumber, (Error, E::Node)>
-        ensures made { IfOk result (λ k. (k.0 ≡ self.old.book.last_handle + 1) × (plain self.new.book ≡ born (plain self.old.book) (E.Node.type_of node) Mode.LoosePinned)) }
+    // A new cell that holds the value, if that holds no references, with one handle of this mode.
+    fn new_cell(
+        &mut self,
+        alloc: Global,
+        node: E::Node,
+        mode: Mode,
+    ) -> Result<HandleNumber, (Error, E::Node)>
+        ensures made { IfOk result (λ k. (k.0 ≡ self.old.book.last_handle + 1) × (plain self.new.book ≡ born (plain self.old.book) (E.Node.type_of node) mode)) }
+        ensures alone { OnOk result (E.Node.refs_of node ≡ []) }
         ensures values { OnOk result (self.new.values ≡ self.old.values ++ (self.old.book.last_node + 1, node) ∷ []) }
-        ensures trees { OnOk result (BirthOf (record { type_of = E.Node.type_of; means = E.Node.means; shape_of = E.Node.shape_of; parts = E.parts; stored = S.stored }) node self.old self.new) }
+        ensures trees { OnOk result (BirthOf (record { type_of = E.Node.type_of; means = E.Node.means; shape_of = E.Node.shape_of; parts = E.parts; stored = S.stored }) node mode self.old self.new) }
+        ensures same { SameStore self.old self.new }
+        ensures err { OnErr result (Unchanged self.old self.new) }
+        ensures why { IfErr result (λ e. RefusesNew E.Node.refs_of node self.old.book e.0) }
+        ensures back { IfErr result (λ e. e.1 ≡ node) }
+    {
+        match node.refs(alloc) {
+            Err(e) => return Err((e, node)),
+            Ok(refs) => {
+                if !refs.is_empty() {
+                    return Err((Error::NoSuchHandle, node));
+                }
+            }
+        }
+        self.add_cell(node, mode)
+    }
+
+    // Adds a cell with its value.
+    fn add_cell(&mut self, node: E::Node, mode: Mode) -> Result<HandleNumber, (Error, E::Node)>
+        ensures made { IfOk result (λ k. (k.0 ≡ self.old.book.last_handle + 1) × (plain self.new.book ≡ born (plain self.old.book) (E.Node.type_of node) mode)) }
+        ensures values { OnOk result (self.new.values ≡ self.old.values ++ (self.old.book.last_node + 1, node) ∷ []) }
+        ensures trees { OnOk result (BirthOf (record { type_of = E.Node.type_of; means = E.Node.means; shape_of = E.Node.shape_of; parts = E.parts; stored = S.stored }) node mode self.old self.new) }
         ensures same { SameStore self.old self.new }
         ensures err { OnErr result (Unchanged self.old self.new) }
         ensures why { IfErr result (λ e. RefusesNew E.Node.refs_of node self.old.book e.0) }
@@ -476,7 +546,7 @@ where
             let ValueRow { node: _, value } = failed.value;
             return Err((Error::OutOfMemory, value));
         }
-        match self.book.add_cell(node_type, Mode::LoosePinned) {
+        match self.book.add_cell(node_type, mode) {
             Ok(handle) => Ok(handle),
             Err(refusal) => {
                 let Some(row) = self.values.pop() else {

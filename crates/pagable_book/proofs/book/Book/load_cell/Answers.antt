@@ -1,4 +1,4 @@
-use Rattle.std.proofs.Common.{refl, sym, ap, ◌∙◌}
+use Rattle.std.proofs.Common.{refl, ap, ◌∙◌}
 use Rattle.pagable_book.specs.Shape.{state_of}
 use Rattle.pagable_world.specs.Cells.{cell_of}
 use Rattle.pagable_book.proofs.Known.{row-held}

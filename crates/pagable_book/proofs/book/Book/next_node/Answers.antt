@@ -1,4 +1,3 @@
-use Rattle.std.proofs.Common.{arith, ◌∙◌}
 use Rattle.pagable_book.specs.Shape.{state_of}
 use Rattle.pagable_book.proofs.Here.{next-unused}
 use Rattle.pagable_book.proofs.book.Book.next_node.Goals as goal
