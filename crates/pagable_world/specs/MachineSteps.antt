@@ -19,7 +19,7 @@ use Rattle.pagable_world.specs.declared.machine.MachineCall.{MachineCall}
 use Rattle.pagable_world.specs.declared.machine.MachineCall.TheVariants as calls
 use Rattle.pagable_world.specs.Cells.{Cell}
 use Rattle.pagable_world.specs.World.{World, plain, greatest, HasCell, CannotBear}
-use Rattle.pagable_world.specs.Calls.{Born, PinnedBy, Unpinned, Released, Counts, KeyIs, AwayIs, NodeIs, Took, KeySet, Begun, HasLoad, IsNoLoad, Ended, Dropped}
+use Rattle.pagable_world.specs.Calls.{Born, BornAway, Cloned, Loosened, PinnedBy, Unpinned, Released, Counts, KeyIs, AwayIs, NodeIs, Took, KeySet, Begun, HasLoad, IsNoLoad, Ended, Dropped}
 use Rattle.pagable_world.specs.Shown.{Shown}
 use Rattle.pagable_world.specs.TodayTrees.{Sight}
 use Rattle.pagable_world.specs.Steps.{AnswersMade, AnswersHandle, AnswersPin, AnswersDone, AnswersCount, AnswersKey, AnswersAway, AnswersNode, AnswersType, AnswersLength, AnswersTaken, AnswersBlob, AnswersStored, AnswersBegun, AnswersFound, AnswersEnded}
@@ -99,10 +99,14 @@ EndsLoad m w l x (Err (e, None)) w' = Ended w.tables l (Err (record { error = e;
 
 -- The world may give this reply to the call, and go on to the new world.
 abbrev pub CallDoes : {N S E B C : Type 0} → MachineSight N S E B C → MachineWorld → MachineCall N B → Reply N C → MachineWorld → Type 0
+CallDoes m w (calls.NewPinned x) reply w' = AnswersMade reply (λ r. BearsValue m w x modes.Pinned r w')
 CallDoes m w (calls.NewLoose x) reply w' = AnswersMade reply (λ r. BearsValue m w x modes.LoosePinned r w')
+CallDoes m w (calls.NewPagedOut t key) reply w' = AnswersHandle reply (λ r. BornAway w.tables t key r w'.tables × OnlyTables w w')
+CallDoes m w (calls.Clone h) reply w' = AnswersHandle reply (λ r. Cloned w.tables h r w'.tables × OnlyTables w w')
 CallDoes m w (calls.Pin h) reply w' = AnswersPin reply (λ r. PinnedBy w.tables h r w'.tables × OnlyTables w w')
 CallDoes m w (calls.Unpin h) reply w' = AnswersDone reply (λ r. Unpinned w.tables h r w'.tables × OnlyTables w w')
 CallDoes m w (calls.Release h) reply w' = AnswersDone reply (λ r. Released w.tables h r w'.tables × OnlyTables w w')
+CallDoes m w (calls.IntoPagable h) reply w' = AnswersHandle reply (λ r. Loosened w.tables h r w'.tables × OnlyTables w w')
 CallDoes m w (calls.SetDataKey h key) reply w' = AnswersDone reply (λ r. KeySet w.tables h key r w'.tables × OnlyTables w w')
 CallDoes m w (calls.Count h) reply w' = AnswersCount reply (λ r. Counts w.tables h r × (w' ≡ w))
 CallDoes m w (calls.Key h) reply w' = AnswersKey reply (λ r. KeyIs w.tables h r × (w' ≡ w))

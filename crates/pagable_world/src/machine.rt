@@ -6,14 +6,22 @@ use pagable_model::{DataKey, HandleNumber, LoadNumber, NodeNumber};
 /// One call of the pager, as the machine makes it.
 #[derive(Drop)]
 pub enum MachineCall<N: Drop, B: Drop> {
+    /// A cell of this value with one Pinned handle.
+    NewPinned(N),
     /// A cell of this value with one loose pinned handle.
     NewLoose(N),
+    /// A cell of this type that has a key and no value, with one loose unpinned handle.
+    NewPagedOut(u32, DataKey),
+    /// A second handle of the same mode.
+    Clone(HandleNumber),
     /// A Pinned handle of a loose handle's cell.
     Pin(HandleNumber),
     /// A loose handle lets its pin go.
     Unpin(HandleNumber),
     /// A handle is given up.
     Release(HandleNumber),
+    /// A Pinned handle becomes a loose pinned one.
+    IntoPagable(HandleNumber),
     /// The cell of a loose handle gets this key.
     SetDataKey(HandleNumber, DataKey),
     /// How many handles pin the handle's node.
