@@ -31,7 +31,7 @@ use Rattle.pagable_world.specs.declared.rows.Owner.TheVariants as owners
 use Rattle.pagable_model.specs.declared.numbers.ArcRef.{ArcRef}
 use Rattle.pagable_model.specs.declared.numbers.NodeNumber.{NodeNumber}
 use Rattle.pagable_world.specs.Values.{value_of_node}
-use Rattle.pagable_world.specs.Calls.{BornAway, Cloned, Loosened, PinnedBy, Unpinned, Released, Took, KeySet, Begun, HasLoad, Ended, Dropped}
+use Rattle.pagable_world.specs.Calls.{Cloned, Loosened, PinnedBy, Unpinned, Released, Took, KeySet, Begun, HasLoad, Ended, Dropped}
 use Rattle.pagable_world.specs.declared.rows.HandleRow.{HandleRow}
 use Rattle.pagable_world.specs.Shown.{Shown, SameStore, OnlyStore, Unchanged}
 use Rattle.pagable_pager.specs.Rows.{value_of}
@@ -303,12 +303,6 @@ away-birth {N} g old new node_type key world values storage env unused free t ty
     let M : ℕ × N → Type 0 = λ y. MeansTree g y.1 (with-tree w (old.book.last_node + 1) t y.0) in
     let its : (k : ℕ) → optional.Some key ≡ optional.Some k → KeyReads g new k t = λ k has. let same : key ≡ k = cc in let P : ℕ → Type 0 = λ p. KeyReads g new p t in subst P same (rw (storage, env) reads) in
     born-new g old new node_type (optional.Some key) modes.LooseUnpinned t w rep typed its world storage env unused free (All-same M new.values old.values values)
-
--- of what a refused or made cell answers, the part that was made
-pub away-made : {N S E : Type 0} (g : Sight N S E) (old new : Shown N S E) (node_type key : ℕ) (r : Result HandleNumber Error) → BornAway (plain old.book) node_type key r (plain new.book) → new.values ≡ old.values → new.storage ≡ old.storage → new.env ≡ old.env
-    → All (λ cell. cell.number ≢ old.book.last_node + 1) (plain old.book).cells → All (λ y. y.0 ≢ old.book.last_node + 1) old.values → OnOk r (AwayBirthOf g node_type key old new)
-away-made g old new node_type key (Ok k) s values storage env unused free = away-birth g old new node_type key s.1 values storage env unused free
-away-made g old new node_type key (Err e) s values storage env unused free = tt
 
 end-cells : (w w' : World) (l : LoadNumber) (k : HandleNumber) → Ended w l (Ok k) w' → KeepsCells w w'
 end-cells w w' l k (p, load, i, row, has, own, node, number, closes) =

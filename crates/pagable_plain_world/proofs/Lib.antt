@@ -13,6 +13,7 @@ mod Dropping
 mod Calls
 mod Looks
 mod Unpinning
+mod CallsToday
 mod OnHandles
 mod OnStorage
 mod OnSteps

@@ -149,7 +149,8 @@ where
         ensures trees { OnOk result (AwayBirthOf (record { type_of = E.Node.type_of; means = E.Node.means; shape_of = E.Node.shape_of; parts = E.parts; stored = S.stored }) node_type key self.old self.new) }
         ensures same { OnlyBook self.old self.new }
     {
-        self.book.add_paged_out(node_type, key)
+        let handle = self.book.add_paged_out(node_type, key)?;
+        Ok(handle)
     }
 
     /// One more handle of the node of a live handle, of the same mode, which is the caller's: a clone of a pinning handle
