@@ -31,6 +31,60 @@ where
     Reply::Made(pager.new_loose(alloc, node))
 }
 
+// A new cell that holds the value, with a Pinned handle.
+fn new_pinned<E: Env, S: PagableStorage<E>>(
+    pager: &mut Pager<E, S>,
+    alloc: Global,
+    node: E::Node,
+) -> Reply<E::Node, Arc<PagableData>>
+where
+    E::Node: NodeSet<E>,
+    ensures does { CallDoes (record { sight = record { type_of = E.Node.type_of; means = E.Node.means; shape_of = E.Node.shape_of; parts = E.parts; stored = S.stored }; references = E.Node.refs_of; digest = key_of E.Hash.digest; blob_of = blob_of; found = λ (b : Arc PagableData Global). blob_of (arc_value b); is_closed = S.is_closed; failed = S.failed }) (world_of (record { sight = record { type_of = E.Node.type_of; means = E.Node.means; shape_of = E.Node.shape_of; parts = E.parts; stored = S.stored }; references = E.Node.refs_of; digest = key_of E.Hash.digest; blob_of = blob_of; found = λ (b : Arc PagableData Global). blob_of (arc_value b); is_closed = S.is_closed; failed = S.failed }) pager.old) (MachineCall.NewPinned node) result (world_of (record { sight = record { type_of = E.Node.type_of; means = E.Node.means; shape_of = E.Node.shape_of; parts = E.parts; stored = S.stored }; references = E.Node.refs_of; digest = key_of E.Hash.digest; blob_of = blob_of; found = λ (b : Arc PagableData Global). blob_of (arc_value b); is_closed = S.is_closed; failed = S.failed }) pager.new) }
+    ensures leads { LeadsOn (record { sight = record { type_of = E.Node.type_of; means = E.Node.means; shape_of = E.Node.shape_of; parts = E.parts; stored = S.stored }; references = E.Node.refs_of; digest = key_of E.Hash.digest; blob_of = blob_of; found = λ (b : Arc PagableData Global). blob_of (arc_value b); is_closed = S.is_closed; failed = S.failed }) pager.old (MachineCall.NewPinned node) result pager.new }
+{
+    Reply::Made(pager.new_pinned(alloc, node))
+}
+
+// A new cell that has a key and no value.
+fn new_paged_out<E: Env, S: PagableStorage<E>>(
+    pager: &mut Pager<E, S>,
+    node_type: u32,
+    key: DataKey,
+) -> Reply<E::Node, Arc<PagableData>>
+where
+    E::Node: NodeSet<E>,
+    ensures does { CallDoes (record { sight = record { type_of = E.Node.type_of; means = E.Node.means; shape_of = E.Node.shape_of; parts = E.parts; stored = S.stored }; references = E.Node.refs_of; digest = key_of E.Hash.digest; blob_of = blob_of; found = λ (b : Arc PagableData Global). blob_of (arc_value b); is_closed = S.is_closed; failed = S.failed }) (world_of (record { sight = record { type_of = E.Node.type_of; means = E.Node.means; shape_of = E.Node.shape_of; parts = E.parts; stored = S.stored }; references = E.Node.refs_of; digest = key_of E.Hash.digest; blob_of = blob_of; found = λ (b : Arc PagableData Global). blob_of (arc_value b); is_closed = S.is_closed; failed = S.failed }) pager.old) (MachineCall.NewPagedOut node_type key) result (world_of (record { sight = record { type_of = E.Node.type_of; means = E.Node.means; shape_of = E.Node.shape_of; parts = E.parts; stored = S.stored }; references = E.Node.refs_of; digest = key_of E.Hash.digest; blob_of = blob_of; found = λ (b : Arc PagableData Global). blob_of (arc_value b); is_closed = S.is_closed; failed = S.failed }) pager.new) }
+    ensures leads { LeadsOn (record { sight = record { type_of = E.Node.type_of; means = E.Node.means; shape_of = E.Node.shape_of; parts = E.parts; stored = S.stored }; references = E.Node.refs_of; digest = key_of E.Hash.digest; blob_of = blob_of; found = λ (b : Arc PagableData Global). blob_of (arc_value b); is_closed = S.is_closed; failed = S.failed }) pager.old (MachineCall.NewPagedOut node_type key) result pager.new }
+{
+    Reply::Handle(pager.new_paged_out(node_type, key))
+}
+
+// A second handle of the same mode.
+fn clone<E: Env, S: PagableStorage<E>>(
+    pager: &mut Pager<E, S>,
+    handle: HandleNumber,
+) -> Reply<E::Node, Arc<PagableData>>
+where
+    E::Node: NodeSet<E>,
+    ensures does { CallDoes (record { sight = record { type_of = E.Node.type_of; means = E.Node.means; shape_of = E.Node.shape_of; parts = E.parts; stored = S.stored }; references = E.Node.refs_of; digest = key_of E.Hash.digest; blob_of = blob_of; found = λ (b : Arc PagableData Global). blob_of (arc_value b); is_closed = S.is_closed; failed = S.failed }) (world_of (record { sight = record { type_of = E.Node.type_of; means = E.Node.means; shape_of = E.Node.shape_of; parts = E.parts; stored = S.stored }; references = E.Node.refs_of; digest = key_of E.Hash.digest; blob_of = blob_of; found = λ (b : Arc PagableData Global). blob_of (arc_value b); is_closed = S.is_closed; failed = S.failed }) pager.old) (MachineCall.Clone handle) result (world_of (record { sight = record { type_of = E.Node.type_of; means = E.Node.means; shape_of = E.Node.shape_of; parts = E.parts; stored = S.stored }; references = E.Node.refs_of; digest = key_of E.Hash.digest; blob_of = blob_of; found = λ (b : Arc PagableData Global). blob_of (arc_value b); is_closed = S.is_closed; failed = S.failed }) pager.new) }
+    ensures leads { LeadsOn (record { sight = record { type_of = E.Node.type_of; means = E.Node.means; shape_of = E.Node.shape_of; parts = E.parts; stored = S.stored }; references = E.Node.refs_of; digest = key_of E.Hash.digest; blob_of = blob_of; found = λ (b : Arc PagableData Global). blob_of (arc_value b); is_closed = S.is_closed; failed = S.failed }) pager.old (MachineCall.Clone handle) result pager.new }
+{
+    Reply::Handle(pager.clone(handle))
+}
+
+// A Pinned handle becomes a loose pinned one.
+fn into_pagable<E: Env, S: PagableStorage<E>>(
+    pager: &mut Pager<E, S>,
+    handle: HandleNumber,
+) -> Reply<E::Node, Arc<PagableData>>
+where
+    E::Node: NodeSet<E>,
+    ensures does { CallDoes (record { sight = record { type_of = E.Node.type_of; means = E.Node.means; shape_of = E.Node.shape_of; parts = E.parts; stored = S.stored }; references = E.Node.refs_of; digest = key_of E.Hash.digest; blob_of = blob_of; found = λ (b : Arc PagableData Global). blob_of (arc_value b); is_closed = S.is_closed; failed = S.failed }) (world_of (record { sight = record { type_of = E.Node.type_of; means = E.Node.means; shape_of = E.Node.shape_of; parts = E.parts; stored = S.stored }; references = E.Node.refs_of; digest = key_of E.Hash.digest; blob_of = blob_of; found = λ (b : Arc PagableData Global). blob_of (arc_value b); is_closed = S.is_closed; failed = S.failed }) pager.old) (MachineCall.IntoPagable handle) result (world_of (record { sight = record { type_of = E.Node.type_of; means = E.Node.means; shape_of = E.Node.shape_of; parts = E.parts; stored = S.stored }; references = E.Node.refs_of; digest = key_of E.Hash.digest; blob_of = blob_of; found = λ (b : Arc PagableData Global). blob_of (arc_value b); is_closed = S.is_closed; failed = S.failed }) pager.new) }
+    ensures leads { LeadsOn (record { sight = record { type_of = E.Node.type_of; means = E.Node.means; shape_of = E.Node.shape_of; parts = E.parts; stored = S.stored }; references = E.Node.refs_of; digest = key_of E.Hash.digest; blob_of = blob_of; found = λ (b : Arc PagableData Global). blob_of (arc_value b); is_closed = S.is_closed; failed = S.failed }) pager.old (MachineCall.IntoPagable handle) result pager.new }
+{
+    Reply::Handle(pager.into_pagable(handle))
+}
+
 // A pin, or the key under which the value has to be read first.
 fn pin<E: Env, S: PagableStorage<E>>(
     pager: &mut Pager<E, S>,
