@@ -5,7 +5,7 @@ ghost use Rattle.std.specs.Arc.{arc_value};
 ghost use Rattle.pagable_model.specs.Blob.{key_of};
 ghost use Rattle.pagable_core.specs.Data.{blob_of};
 ghost use Rattle.pagable_world.specs.MachineSteps.{CallDoes, world_of};
-ghost use Rattle.pagable_world.specs.MachineRuns.{LeadsOn};
+ghost use Rattle.pagable_world.specs.MachineRuns.{IsWholeToday, LeadsOn};
 
 use either::Either;
 use pagable_codec::{Env, NodeSet};
@@ -313,4 +313,58 @@ where
         Ok(Either::Left(_)) => unreachable!(),
         Err(e) => Reply::LoadFound(Err(e)),
     }
+}
+
+// Makes the call.
+fn dispatch<E: Env, S: PagableStorage<E>>(
+    pager: &mut Pager<E, S>,
+    alloc: Global,
+    call: MachineCall<E::Node, PagableData>,
+) -> Reply<E::Node, Arc<PagableData>>
+where
+    E::Node: NodeSet<E>,
+    ensures does { CallDoes (record { sight = record { type_of = E.Node.type_of; means = E.Node.means; shape_of = E.Node.shape_of; parts = E.parts; stored = S.stored }; references = E.Node.refs_of; digest = key_of E.Hash.digest; blob_of = blob_of; found = λ (b : Arc PagableData Global). blob_of (arc_value b); is_closed = S.is_closed; failed = S.failed }) (world_of (record { sight = record { type_of = E.Node.type_of; means = E.Node.means; shape_of = E.Node.shape_of; parts = E.parts; stored = S.stored }; references = E.Node.refs_of; digest = key_of E.Hash.digest; blob_of = blob_of; found = λ (b : Arc PagableData Global). blob_of (arc_value b); is_closed = S.is_closed; failed = S.failed }) pager.old) (call) result (world_of (record { sight = record { type_of = E.Node.type_of; means = E.Node.means; shape_of = E.Node.shape_of; parts = E.parts; stored = S.stored }; references = E.Node.refs_of; digest = key_of E.Hash.digest; blob_of = blob_of; found = λ (b : Arc PagableData Global). blob_of (arc_value b); is_closed = S.is_closed; failed = S.failed }) pager.new) }
+    ensures leads { LeadsOn (record { sight = record { type_of = E.Node.type_of; means = E.Node.means; shape_of = E.Node.shape_of; parts = E.parts; stored = S.stored }; references = E.Node.refs_of; digest = key_of E.Hash.digest; blob_of = blob_of; found = λ (b : Arc PagableData Global). blob_of (arc_value b); is_closed = S.is_closed; failed = S.failed }) pager.old (call) result pager.new }
+{
+    match call {
+        MachineCall::NewLoose(node) => new_loose(pager, alloc, node),
+        MachineCall::NewPinned(node) => new_pinned(pager, alloc, node),
+        MachineCall::NewPagedOut(node_type, key) => new_paged_out(pager, node_type, key),
+        MachineCall::Clone(handle) => clone(pager, handle),
+        MachineCall::IntoPagable(handle) => into_pagable(pager, handle),
+        MachineCall::Pin(handle) => pin(pager, handle),
+        MachineCall::Unpin(handle) => unpin(pager, handle),
+        MachineCall::Release(handle) => release(pager, handle),
+        MachineCall::SetDataKey(handle, key) => set_data_key(pager, handle, key),
+        MachineCall::Count(handle) => count(pager, handle),
+        MachineCall::Key(handle) => key(pager, handle),
+        MachineCall::IsPagedOut(handle) => is_paged_out(pager, handle),
+        MachineCall::NodeOf(handle) => node_of(pager, handle),
+        MachineCall::NodeLive(node) => node_live(pager, node),
+        MachineCall::Pending => pending(pager),
+        MachineCall::TakePending(place) => take_pending(pager, place),
+        MachineCall::Fetch(key) => fetch(pager, alloc, key),
+        MachineCall::Store(blob) => store(pager, alloc, blob),
+        MachineCall::LoadBegin(handle) => load_begin(pager, handle),
+        MachineCall::LoadEnd(load, node) => load_end(pager, alloc, load, node),
+        MachineCall::LoadDrop(load) => load_drop(pager, load),
+        MachineCall::LoadFetch(load) => load_fetch(pager, alloc, load),
+    }
+}
+
+/// Makes the call, and answers what the pager answers. The pager is whole afterwards.
+pub fn apply<E: Env, S: PagableStorage<E>>(
+    pager: &mut Pager<E, S>,
+    alloc: Global,
+    call: MachineCall<E::Node, PagableData>,
+) -> Reply<E::Node, Arc<PagableData>>
+where
+    E::Node: NodeSet<E>,
+    ensures does { CallDoes (record { sight = record { type_of = E.Node.type_of; means = E.Node.means; shape_of = E.Node.shape_of; parts = E.parts; stored = S.stored }; references = E.Node.refs_of; digest = key_of E.Hash.digest; blob_of = blob_of; found = λ (b : Arc PagableData Global). blob_of (arc_value b); is_closed = S.is_closed; failed = S.failed }) (world_of (record { sight = record { type_of = E.Node.type_of; means = E.Node.means; shape_of = E.Node.shape_of; parts = E.parts; stored = S.stored }; references = E.Node.refs_of; digest = key_of E.Hash.digest; blob_of = blob_of; found = λ (b : Arc PagableData Global). blob_of (arc_value b); is_closed = S.is_closed; failed = S.failed }) pager.old) (call) result (world_of (record { sight = record { type_of = E.Node.type_of; means = E.Node.means; shape_of = E.Node.shape_of; parts = E.parts; stored = S.stored }; references = E.Node.refs_of; digest = key_of E.Hash.digest; blob_of = blob_of; found = λ (b : Arc PagableData Global). blob_of (arc_value b); is_closed = S.is_closed; failed = S.failed }) pager.new) }
+    ensures leads { LeadsOn (record { sight = record { type_of = E.Node.type_of; means = E.Node.means; shape_of = E.Node.shape_of; parts = E.parts; stored = S.stored }; references = E.Node.refs_of; digest = key_of E.Hash.digest; blob_of = blob_of; found = λ (b : Arc PagableData Global). blob_of (arc_value b); is_closed = S.is_closed; failed = S.failed }) pager.old (call) result pager.new }
+    ensures whole { IsWholeToday (record { sight = record { type_of = E.Node.type_of; means = E.Node.means; shape_of = E.Node.shape_of; parts = E.parts; stored = S.stored }; references = E.Node.refs_of; digest = key_of E.Hash.digest; blob_of = blob_of; found = λ (b : Arc PagableData Global). blob_of (arc_value b); is_closed = S.is_closed; failed = S.failed }) pager.new }
+{
+    let reply = dispatch(pager, alloc, call);
+    pager.is_whole();
+    reply
 }
