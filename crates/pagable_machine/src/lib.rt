@@ -1,4 +1,8 @@
-//! The machine: a pager that is driven by lists of calls.
+//! The machine: a pager that is driven by lists of calls, each of them a step of the plain world.
 #![tactic(auto)]
 
+pub mod machine;
 mod single;
+
+pub use machine::Machine;
+pub use pagable_world::{Found, MachineCall, Reply};
