@@ -10,6 +10,8 @@ mod laws;
 #[cfg(test)]
 mod levels;
 #[cfg(test)]
+mod machine;
+#[cfg(test)]
 mod pager;
 #[cfg(test)]
 mod references;
