@@ -1,6 +1,6 @@
 -- Clones, loosenings and births of cells that are away, as today's tables do them, are those of the whole world.
 use Rattle.std.proofs.Common.{◌≡◌, ℕ, ◌+◌, ◌<◌, ◌≤◌, List, [], ◌∷◌, ◌++◌, refl, ap, sym, ◌∙◌, subst, inl, inr, arith}
-use Rattle.std.specs.Prelude.{◌⊎◌, Result, Ok, Err, Some, slice_get}
+use Rattle.std.specs.Prelude.{◌⊎◌, Ok, Err, Some, slice_get}
 use Rattle.std.proofs.lemmas.Bool.Decides.{nat_tests}
 use Rattle.pagable_model.specs.declared.error.Error.{Error}
 use Rattle.pagable_model.specs.declared.error.Error.TheVariants as errors
@@ -12,7 +12,7 @@ use Rattle.pagable_world.specs.declared.rows.Owner.TheVariants as owners
 use Rattle.pagable_world.specs.declared.rows.HandleRow.{HandleRow}
 use Rattle.pagable_world.specs.declared.rows.LoadRow.{LoadRow}
 use Rattle.pagable_world.specs.State.{is_number}
-use Rattle.pagable_world.specs.World.{World, greatest, next_row, CannotBear, CannotMake}
+use Rattle.pagable_world.specs.World.{greatest, next_row, CannotBear, CannotMake}
 use Rattle.pagable_world.specs.Refusals.{RefusesPinned}
 use Rattle.pagable_world.specs.Whole.{Whole, HasRowOf, IsNotLive}
 use Rattle.pagable_world.specs.Pages.{IsWhole}

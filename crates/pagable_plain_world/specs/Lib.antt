@@ -1,9 +1,9 @@
 pub mod Samples
 pub mod FallLaws
+pub mod CallBridges
 pub mod RunLaws
 pub mod NearMisses
 pub mod Bridges
-pub mod CallBridges
 pub mod KeepLaws
 pub mod HandleExamples
 pub mod StoreExamples

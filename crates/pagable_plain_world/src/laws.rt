@@ -2,9 +2,9 @@
 
 ghost use Rattle.pagable_world.specs.Seen.{Seen};
 ghost use Rattle.pagable_plain_world.specs.FallLaws.{IsThere, IsOne, IsGivenAlone, PinsAreAFilter, TwoLevelsFall, TwoLevelsAreReleased, LoneIsListed};
+ghost use Rattle.pagable_plain_world.specs.CallBridges.{AwayBirthsToday, ClonesToday, LoosensToday};
 ghost use Rattle.pagable_plain_world.specs.RunLaws.{RunsJoin, NewIsWhole};
 ghost use Rattle.pagable_plain_world.specs.Bridges.{ReleasesToday, ReleaseIsToday, UnpinsToday};
-ghost use Rattle.pagable_plain_world.specs.CallBridges.{AwayBirthsToday, ClonesToday, LoosensToday};
 ghost use Rattle.pagable_plain_world.specs.KeepLaws.{BirthKeeps, AwayBirthKeeps, CloneKeeps, PinKeeps, UnpinKeeps, ReleaseKeeps, SetKeyKeeps, LoosenKeeps, ScheduleKeeps, TakeKeeps, RecallKeeps, FetchKeeps, StoreKeeps, FlushKeeps, LookChangesNothing};
 ghost use Rattle.pagable_plain_world.specs.NearMisses.{NewNodeHasItsValue, NoLoadInMemory, OnlyLooseIsUnfit, ItemIsAtOne, FirstIsTheRoot, NoWaitForFree};
 
@@ -39,12 +39,7 @@ pub fn release_is_today()
     ensures { ReleaseIsToday }
 {}
 
-/// An unpin as today's tables do it is one of the whole world.
-pub fn unpins_today()
-    ensures { UnpinsToday }
-{}
-
-/// So is a clone, with its refusals.
+/// A clone as today's tables make it is one of the whole world, and so are its refusals.
 pub fn clones_today()
     ensures { ClonesToday }
 {}
@@ -54,9 +49,14 @@ pub fn loosens_today()
     ensures { LoosensToday }
 {}
 
-/// And so is the birth of a cell whose value is away.
+/// So is the birth of a cell whose value is away.
 pub fn away_births_today()
     ensures { AwayBirthsToday }
+{}
+
+/// An unpin as today's tables do it is one of the whole world.
+pub fn unpins_today()
+    ensures { UnpinsToday }
 {}
 
 /// A clone keeps the world whole.
