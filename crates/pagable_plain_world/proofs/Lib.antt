@@ -1,4 +1,8 @@
 mod Sums
+mod Mapped
+mod TodayRows
+mod TodayStanding
+mod TodayWhole
 mod Existing
 mod Alone
 mod Two

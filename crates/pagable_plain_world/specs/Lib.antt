@@ -3,6 +3,7 @@ pub mod FallLaws
 pub mod RunLaws
 pub mod NearMisses
 pub mod Bridges
+pub mod TodayLaws
 pub mod KeepLaws
 pub mod HandleExamples
 pub mod StoreExamples

@@ -4,6 +4,8 @@ ghost use Rattle.pagable_world.specs.Seen.{Seen};
 ghost use Rattle.pagable_plain_world.specs.FallLaws.{IsThere, IsOne, IsGivenAlone, PinsAreAFilter, TwoLevelsFall, TwoLevelsAreReleased, LoneIsListed};
 ghost use Rattle.pagable_plain_world.specs.RunLaws.{RunsJoin, NewIsWhole};
 ghost use Rattle.pagable_plain_world.specs.Bridges.{ReleasesToday, ReleaseIsToday, UnpinsToday};
+ghost use Rattle.pagable_plain_world.specs.TodayLaws.{IsOfToday, StandsWhole, WholeStands, WholeToday};
+ghost use Rattle.pagable_world.specs.TodayTrees.{Sight};
 ghost use Rattle.pagable_plain_world.specs.KeepLaws.{BirthKeeps, AwayBirthKeeps, CloneKeeps, PinKeeps, UnpinKeeps, ReleaseKeeps, SetKeyKeeps, LoosenKeeps, ScheduleKeeps, TakeKeeps, RecallKeeps, FetchKeeps, StoreKeeps, FlushKeeps, LookChangesNothing};
 ghost use Rattle.pagable_plain_world.specs.NearMisses.{NewNodeHasItsValue, NoLoadInMemory, OnlyLooseIsUnfit, ItemIsAtOne, FirstIsTheRoot, NoWaitForFree};
 
@@ -11,6 +13,12 @@ ghost use Rattle.pagable_plain_world.specs.NearMisses.{NewNodeHasItsValue, NoLoa
 pub trait SeenAs<B, W>: Sized {
     // How they are seen.
     ghost seen: { Seen Self B W };
+}
+
+/// How today's pager sees values of this type, with storages S and environments E: any values, so that a law is one of all.
+pub trait SightOf<S, E>: Sized {
+    // How they are seen.
+    ghost sight: { Sight Self S E };
 }
 
 /// There is a least set of handles that fall with given ones.
@@ -41,6 +49,18 @@ pub fn release_is_today()
 /// An unpin as today's tables do it is one of the whole world.
 pub fn unpins_today()
     ensures { UnpinsToday }
+{}
+
+/// A pager that stands for a world with trees today does so by the whole product's definition, and the other way round.
+pub fn today_stands<N: SightOf<S, E>, S, E>()
+    ensures whole { StandsWhole N.sight }
+    ensures today { WholeStands N.sight }
+{}
+
+/// Today's pager is whole as one of the whole product.
+pub fn whole_today<N: SightOf<S, E>, S, E>()
+    ensures tables { IsOfToday }
+    ensures whole { WholeToday N.sight }
 {}
 
 /// A clone keeps the world whole.
