@@ -1,6 +1,5 @@
 -- Rows, cells and values of today's pager.
 use Rattle.std.proofs.Common.{◌≡◌, ℕ, ◌<◌, ◌≤◌, ◌==◌, true, sum_by, refl, subst, arith}
-use Rattle.std.specs.Prelude.{nat_lt}
 use Rattle.std.proofs.lemmas.Bool.Decides.{nat_tests}
 use Rattle.pagable_world.specs.State.{WellFormed, one, held, is_node}
 use Rattle.pagable_world.specs.Cells.{cell_of, cells_of}

@@ -1,6 +1,6 @@
 -- What stands for a world with trees today does so by the whole product's definition, and the other way round.
-use Rattle.std.proofs.Common.{◌≡◌, ℕ, ℤ, suc, zero, ◌+◌, ◌<◌, ◌≤◌, ◌==◌, ◌&&◌, Bool, true, false, List, [], ◌∷◌, ◌++◌, map, sum_by, All, refl, ap, sym, ◌∙◌, subst, inl, inr, arith}
-use Rattle.std.specs.Prelude.{nat_lt, ◌⊎◌, Some, slice_get, if◌then◌else◌}
+use Rattle.std.proofs.Common.{◌≡◌, ℕ, ◌<◌, ◌==◌, true, List, [], ◌∷◌, ◌++◌, sum_by, All, refl, ap, sym, ◌∙◌, subst, inl, inr, arith}
+use Rattle.std.specs.Prelude.{◌⊎◌, if◌then◌else◌}
 use Rattle.std.proofs.lemmas.Bool.Decides.{nat_tests}
 use Rattle.std.proofs.lemmas.List.Sums.{sum_by-cons}
 use Rattle.pagable_model.specs.declared.data_key.OptionalDataKey.{OptionalDataKey}
@@ -12,25 +12,23 @@ use Rattle.pagable_model.specs.Meaning.{Meaning, number, integer, text, pattern,
 use Rattle.pagable_model.specs.Trees.{Tree, Types, ReadsTree}
 use Rattle.pagable_model.specs.Canonical.{HasNoReference}
 use Rattle.pagable_model.specs.References.{references_in, SameHandles}
-use Rattle.pagable_world.specs.State.{State, WellFormed, one, held, is_node, has_key}
+use Rattle.pagable_world.specs.State.{WellFormed, one, held, has_key}
 use Rattle.pagable_world.specs.Cells.{Cell, cell_of, cells_of}
 use Rattle.pagable_world.specs.World.{plain}
-use Rattle.pagable_world.specs.Values.{value_with, values_of}
-use Rattle.pagable_world.specs.declared.rows.NodeRow.{NodeRow}
+use Rattle.pagable_world.specs.Values.{value_with}
 use Rattle.pagable_world.specs.Shown.{Shown}
 use Rattle.pagable_world.specs.InStep.{InStep, is_value}
 use Rattle.pagable_world.specs.TodayTrees.{Sight, MeansTree, CellFits, KeyReads, RepresentsToday}
-use Rattle.pagable_world.specs.Words.{Among, times}
-use Rattle.pagable_world.specs.Whole.{Whole, Written, HasType, is_cell}
-use Rattle.pagable_world.specs.Whole as wholes
+use Rattle.pagable_world.specs.Words.{Among}
+use Rattle.pagable_world.specs.Whole.{Written, HasType, is_cell}
 use Rattle.pagable_world.specs.Seen.{Seen}
-use Rattle.pagable_world.specs.Pages.{Pages, HasValue, HasNoValue}
+use Rattle.pagable_world.specs.Pages.{Pages}
 use Rattle.pagable_world.specs.Stands.{NodeStands, here, away, MeaningStands, number-stands, integer-stands, text-stands, pattern-stands, none-stands, pair-stands, variant-stands, reference-stands, KeyFits, Represents}
 use Rattle.pagable_plain_world.specs.TodayLaws.{Beside, whole_of, pages_of, seen_of, HoldNoReferences, StandsWhole, StandsToday, WholeStands}
-use Rattle.pagable_plain_world.proofs.Sums.{sum-le, at-most-sum, counted}
+use Rattle.pagable_plain_world.proofs.Sums.{at-most-sum, counted}
 use Rattle.pagable_plain_world.proofs.Places.{unique}
 use Rattle.pagable_plain_world.proofs.TodayRows.{row-of, live-row, cell-once, value-row, value-once}
-use Rattle.pagable_plain_world.proofs.Mapped.{all-at, all-of, among-map, map-at, sum-map}
+use Rattle.pagable_plain_world.proofs.Mapped.{all-at, all-of, among-map, map-at}
 
 -- a meaning without references stands for itself
 lifted-stands : {N B W : Type 0} (m : Seen N B W) (p : Pages N) (a : Meaning ⊥) → HasNoReference a → MeaningStands m p (lifted a) a

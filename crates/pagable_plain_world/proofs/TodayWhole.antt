@@ -1,6 +1,6 @@
 -- Today's pager is whole as one of the whole product.
-use Rattle.std.proofs.Common.{◌≡◌, ℕ, suc, zero, ◌+◌, ◌<◌, ◌≤◌, ◌==◌, ◌&&◌, ◌||◌, Bool, true, false, List, [], ◌∷◌, map, sum_by, All, refl, ap, sym, ◌∙◌, subst, inl, inr, arith}
-use Rattle.std.specs.Prelude.{nat_lt, nat_eq, not, ◌⊎◌, Some, slice_get, if◌then◌else◌}
+use Rattle.std.proofs.Common.{◌≡◌, ℕ, ◌<◌, ◌≤◌, ◌==◌, ◌&&◌, ◌||◌, Bool, true, false, List, [], ◌∷◌, sum_by, All, refl, ap, sym, ◌∙◌, subst, inl, inr, arith}
+use Rattle.std.specs.Prelude.{nat_lt, nat_eq, not, ◌⊎◌, if◌then◌else◌}
 use Rattle.std.specs.List.{remove}
 use Rattle.std.proofs.lemmas.Bool.Decides.{nat_tests}
 use Rattle.pagable_model.specs.declared.numbers.ArcRef.{ArcRef}
@@ -9,10 +9,8 @@ use Rattle.pagable_world.specs.declared.rows.Mode.TheVariants as modes
 use Rattle.pagable_world.specs.declared.rows.Owner.{Owner}
 use Rattle.pagable_world.specs.declared.rows.Owner.TheVariants as owners
 use Rattle.pagable_world.specs.declared.rows.HandleRow.{HandleRow}
-use Rattle.pagable_world.specs.declared.rows.NodeRow.{NodeRow}
-use Rattle.pagable_world.specs.declared.rows.LoadRow.{LoadRow}
-use Rattle.pagable_world.specs.State.{State, WellFormed, one, held, pins, is_node, is_number, is_pinning, is_shared, is_of_load, is_aside, idle_pin, is_load, is_load_with, is_own, count_at, has_key}
-use Rattle.pagable_world.specs.Cells.{Cell, cell_of, cells_of}
+use Rattle.pagable_world.specs.State.{WellFormed, one, held, pins, is_node, is_number, is_pinning, is_shared, is_of_load, is_aside, idle_pin, is_load, is_load_with, is_own, count_at, has_key}
+use Rattle.pagable_world.specs.Cells.{cell_of, cells_of}
 use Rattle.pagable_world.specs.Values.{value_with}
 use Rattle.pagable_world.specs.Least.{is_of_value, sharing, share_of, keyed, keyed_at}
 use Rattle.pagable_world.specs.Shown.{Shown}
@@ -25,7 +23,7 @@ use Rattle.pagable_world.specs.Pages.{Pages, HandlesAreWhole, OwnersAreThere, Wo
 use Rattle.pagable_plain_world.specs.TodayLaws.{Beside, whole_of, whole_load, count_of, pages_of, seen_of, OwnsToday, AreToday, WholeToday}
 use Rattle.pagable_plain_world.proofs.Sums.{sum-le, sum-zero, at-most-sum, counted}
 use Rattle.pagable_plain_world.proofs.Places.{sum-remove}
-use Rattle.pagable_plain_world.proofs.TodayRows.{row-of, node-once, cell-once, value-row}
+use Rattle.pagable_plain_world.proofs.TodayRows.{row-of, node-once}
 use Rattle.pagable_plain_world.proofs.Mapped.{all-at, among-map, map-at, sum-map, pairs-map}
 
 -- where one element alone passes a test without which nothing counts, the sum is what it counts
