@@ -23,8 +23,8 @@ use Rattle.pagable_world.specs.Words.{Among}
 use Rattle.pagable_world.specs.Whole.{Written, HasType, is_cell}
 use Rattle.pagable_world.specs.Seen.{Seen}
 use Rattle.pagable_world.specs.Pages.{Pages}
-use Rattle.pagable_world.specs.Stands.{NodeStands, here, away, MeaningStands, number-stands, integer-stands, text-stands, pattern-stands, none-stands, pair-stands, variant-stands, reference-stands, KeyFits, Represents}
-use Rattle.pagable_plain_world.specs.TodayLaws.{Beside, whole_of, pages_of, seen_of, HoldNoReferences, StandsWhole, StandsToday, WholeStands}
+use Rattle.pagable_world.specs.Stands.{NodeStands, here, away, MeaningStands, number-stands, integer-stands, text-stands, pattern-stands, none-stands, pair-stands, variant-stands, reference-stands, KeyFits, ValueStands, Represents}
+use Rattle.pagable_plain_world.specs.TodayLaws.{Beside, whole_of, pages_of, seen_of, TreesHaveNone, HoldNoReferences, TodayStands, HoldersHaveNone}
 use Rattle.pagable_plain_world.proofs.Sums.{at-most-sum, counted}
 use Rattle.pagable_plain_world.proofs.Places.{unique}
 use Rattle.pagable_plain_world.proofs.TodayRows.{row-of, live-row, cell-once, value-row, value-once}
@@ -43,6 +43,18 @@ lifted-stands m p (variant n a) h = variant-stands _ _ _ (lifted-stands m p a h)
 lifted-stands m p (reference a) h = absurd a
 lifted-stands m p (followed kind a) h = absurd h
 
+-- and it alone does
+stands-lifted : {N B W : Type 0} (m : Seen N B W) (p : Pages N) (own : Meaning ArcRef) (a : Meaning ⊥) → MeaningStands m p own a → HasNoReference a → own ≡ lifted a
+unfolding rename HasNoReference
+stands-lifted m p _ _ (number-stands n) h = refl
+stands-lifted m p _ _ (integer-stands z) h = refl
+stands-lifted m p _ _ (text-stands t) h = refl
+stands-lifted m p _ _ (pattern-stands t) h = refl
+stands-lifted m p _ _ none-stands h = refl
+stands-lifted m p _ _ (pair-stands x y a b f g) h = rw (stands-lifted m p x a f h.0, stands-lifted m p y b g h.1) refl
+stands-lifted m p _ _ (variant-stands i x a f) h = rw (stands-lifted m p x a f h) refl
+stands-lifted m p _ _ (reference-stands r a f) h = absurd h
+
 left-nil : {X : Type 0} (xs ys : List X) → xs ++ ys ≡ [] → xs ≡ []
 left-nil [] ys e = refl
 left-nil (x ∷ xs) ys e = absurd (cc)
@@ -51,20 +63,17 @@ right-nil : {X : Type 0} (xs ys : List X) → xs ++ ys ≡ [] → ys ≡ []
 right-nil [] ys e = e
 right-nil (x ∷ xs) ys e = absurd (cc)
 
--- a meaning without references stands for no other
-stands-lifted : {N B W : Type 0} (m : Seen N B W) (p : Pages N) (own : Meaning ArcRef) (a : Meaning ⊥) → MeaningStands m p own a → references_in own ≡ [] → (own ≡ lifted a) × HasNoReference a
-unfolding rename HasNoReference references_in
-stands-lifted m p _ _ (number-stands n) h = (refl, tt)
-stands-lifted m p _ _ (integer-stands z) h = (refl, tt)
-stands-lifted m p _ _ (text-stands t) h = (refl, tt)
-stands-lifted m p _ _ (pattern-stands t) h = (refl, tt)
-stands-lifted m p _ _ none-stands h = (refl, tt)
-stands-lifted m p _ _ (pair-stands x y a b f g) h =
-    let first = stands-lifted m p x a f (left-nil (references_in x) (references_in y) h) in
-    let second = stands-lifted m p y b g (right-nil (references_in x) (references_in y) h) in
-    (rw (first.0, second.0) refl, (first.1, second.1))
-stands-lifted m p _ _ (variant-stands i x a f) h = let rest = stands-lifted m p x a f h in (rw rest.0 refl, rest.1)
-stands-lifted m p _ _ (reference-stands r a f) h = absurd (cc)
+-- what stands for a tree and names no handle stands for one without references
+stands-bare : {N B W : Type 0} (m : Seen N B W) (p : Pages N) (own : Meaning ArcRef) (a : Meaning ⊥) → MeaningStands m p own a → references_in own ≡ [] → HasNoReference a
+unfolding HasNoReference references_in
+stands-bare m p _ _ (number-stands n) h = tt
+stands-bare m p _ _ (integer-stands z) h = tt
+stands-bare m p _ _ (text-stands t) h = tt
+stands-bare m p _ _ (pattern-stands t) h = tt
+stands-bare m p _ _ none-stands h = tt
+stands-bare m p _ _ (pair-stands x y a b f g) h = (stands-bare m p x a f (left-nil (references_in x) (references_in y) h), stands-bare m p y b g (right-nil (references_in x) (references_in y) h))
+stands-bare m p _ _ (variant-stands i x a f) h = stands-bare m p x a f h
+stands-bare m p _ _ (reference-stands r a f) h = absurd (cc)
 
 -- who names no handle has no reference
 none-named : (rs ss : List ArcRef) → rs ≡ [] → SameHandles rs ss → ss ≡ []
@@ -86,14 +95,14 @@ keyed optional.None h = absurd (cc)
 keyed (optional.Some key) h = (key, refl)
 
 module _ {N S E : Type 0} (g : Sight N S E) (b : Beside) (v : Shown N S E) (tree : ℕ → Tree) (references : N → List ArcRef) (hash : List ℕ → List ℕ)
-    (whole : WellFormed v.book) (step : InStep g.type_of v.book v.values) (store : b.stored ≡ g.stored v.storage) where
+    (whole : WellFormed v.book) (step : InStep g.type_of v.book v.values) where
   abbrev seen : Seen N Blob Written
   seen = seen_of g v.env references hash
 
   abbrev page : Pages N
   page = pages_of b v
 
-  module _ (rep : RepresentsToday g v (record { plain = plain v.book; tree = tree })) where
+  module _ (store : b.stored ≡ g.stored v.storage) (rep : RepresentsToday g v (record { plain = plain v.book; tree = tree })) where
     -- whatever key a node has reads as its tree
     key-fits : (n : ℕ) → KeyFits seen page (record { 0 = n }) (tree n)
     key-fits n key (cell, (among, its), is) =
@@ -105,7 +114,7 @@ module _ {N S E : Type 0} (g : Sight N S E) (b : Beside) (v : Shown N S E) (tree
 
     has-type : (n : ℕ) → 0 < held n v.book.handles → HasType (whole_of b v.book) (record { 0 = n }) (tree n).type
     has-type n some =
-        let row = row-of g.type_of v whole step n some in
+        let row = row-of v.book whole n some in
         let among = among-map cell_of v.book.nodes row.0 row.1 in
         let fits = all-at (λ c. CellFits g v c (tree c.number)) (cells_of v.book.nodes) (cell_of row.0) rep.cells among in
         (cell_of row.0, (among, row.2), fits.typed ∙ ap (λ k. (tree k).type) row.2)
@@ -124,7 +133,7 @@ module _ {N S E : Type 0} (g : Sight N S E) (b : Beside) (v : Shown N S E) (tree
     -- a node whose value is away
     stands-away : (n : ℕ) → 0 < held n v.book.handles → sum_by (is_value g.type_of (λ _. true) n) v.values ≡ 0 → NodeStands seen page (record { 0 = n }) (tree n)
     stands-away n some gone =
-        let row = row-of g.type_of v whole step n some in
+        let row = row-of v.book whole n some in
         let among = among-map cell_of v.book.nodes row.0 row.1 in
         let e = step.each (λ _. true) n in
         let a = at-most-sum (value_with (λ _. true) n) v.book.nodes row.0 row.1 in
@@ -145,61 +154,75 @@ module _ {N S E : Type 0} (g : Sight N S E) (b : Beside) (v : Shown N S E) (tree
           typed = has-type;
         }
 
-  module _ (hold : HoldNoReferences g references v) (rep : Represents seen page (record { plain = whole_of b v.book; tree = tree })) where
-    -- what a node stands for, its value means
-    node-means : (k : NodeNumber) (t : Tree) → NodeStands seen page k t → (x : N) → Among v.values (k.0, x) → MeansTree g x t × HasNoReference t.meaning
-    node-means _ _ (here k y own t has typed means stands fits) x among =
+  module _ (rep : Represents seen page (record { plain = whole_of b v.book; tree = tree })) where
+    node-value : (k : NodeNumber) (t : Tree) → NodeStands seen page k t → (x : N) → Among v.values (k.0, x) → ValueStands seen page x t
+    node-value _ _ (here k y own t has typed means stands fits) x among =
         let counts : ℕ × N → ℕ = λ z. one (z.0 == k.0) in
         let its : 0 < one (k.0 == k.0) = grind (arith, nat_tests) in
         let both : ◌≡◌ {A = ℕ × N} (k.0, y) (k.0, x) = unique counts v.values (k.0, y) (k.0, x) has among its its (value-once g.type_of v whole step k.0) in
         let same : y ≡ x = ap (λ (z : ℕ × N). z.1) both in
-        let nothing = all-at (λ z. references z.1 ≡ []) v.values (k.0, y) hold.none has in
-        let unnamed = none-named (references y) (references_in own) nothing (hold.refers y own means) in
-        let lift = stands-lifted seen page own t.meaning stands unnamed in
-        (subst (λ z. MeansTree g z t) same (record { typed = typed; means = subst (λ o. g.means y o) lift.0 means }), lift.1)
-    node-means _ _ (away k key t gone is fits) x among =
+        subst (λ z. ValueStands seen page z t) same (record { own = own; typed = typed; means = means; stands = stands })
+    node-value _ _ (away k key t gone is fits) x among =
         let a = at-most-sum (λ (z : ℕ × N). one (z.0 == k.0)) v.values (k.0, x) among in
         let its : one (k.0 == k.0) ≡ 1 = grind (arith, nat_tests) in
         absurd (omega arith)
+
+    -- a value in memory stands for its node's tree
+    value-stands : (x : ℕ × N) → Among v.values x → ValueStands seen page x.1 (tree x.0)
+    value-stands x among = node-value (record { 0 = x.0 }) (tree x.0) (rep.stands x.0 (value-row g.type_of v whole step x among)) x.1 among
+
+    -- where it holds no references, the tree has none
+    pub bare-trees : HoldNoReferences g references v → TreesHaveNone v tree
+    bare-trees hold =
+        all-of (λ x. HasNoReference (tree x.0).meaning) v.values (λ x among.
+            let stands = value-stands x among in
+            let nothing = all-at (λ (z : ℕ × N). references z.1 ≡ []) v.values x hold.none among in
+            let unnamed = none-named (references x.1) (references_in stands.own) nothing (hold.refers x.1 stands.own stands.means) in
+            stands-bare seen page stands.own (tree x.0).meaning stands.stands unnamed)
 
     node-key : (k : NodeNumber) (t : Tree) → NodeStands seen page k t → KeyFits seen page k t
     node-key _ _ (here k y own t has typed means stands fits) = fits
     node-key _ _ (away k key t gone is fits) = fits
 
-    its-value : (x : ℕ × N) → Among v.values x → MeansTree g x.1 (tree x.0) × HasNoReference (tree x.0).meaning
-    its-value x among = node-means (record { 0 = x.0 }) (tree x.0) (rep.stands x.0 (value-row g.type_of v whole step x among)) x.1 among
+    module _ (store : b.stored ≡ g.stored v.storage) (bare : TreesHaveNone v tree) where
+      its-value : (x : ℕ × N) → Among v.values x → MeansTree g x.1 (tree x.0)
+      its-value x among =
+          let stands = value-stands x among in
+          let lift = stands-lifted seen page stands.own (tree x.0).meaning stands.stands (all-at (λ (z : ℕ × N). HasNoReference (tree z.0).meaning) v.values x bare among) in
+          record { typed = stands.typed; means = subst (λ o. g.means x.1 o) lift stands.means }
 
-    its-cell : (cell : Cell) → Among (cells_of v.book.nodes) cell → CellFits g v cell (tree cell.number)
-    its-cell cell among =
-        let row = map-at cell_of v.book.nodes among.0 cell among.1 in
-        let live = subst (λ (c : Cell). 0 < held c.number v.book.handles) row.2 (live-row g.type_of v whole step row.0 (among.0, row.1)) in
-        let has = rep.typed cell.number live in
-        let counts : Cell → ℕ = λ c. one (is_cell cell.number c) in
-        let its_number = has.1.1 in
-        let first : 0 < counts has.0 = grind (arith, nat_tests) in
-        let second : 0 < counts cell = grind (arith, nat_tests) in
-        let same : has.0 ≡ cell = unique counts (cells_of v.book.nodes) has.0 cell has.1.0 among first second (cell-once g.type_of v whole step cell.number) in
-        let T : Types = record { nodes = g.shape_of v.env; parts = g.parts v.env } in
-        record {
-          typed = ap (λ (c : Cell). c.node_type) (sym same) ∙ has.2;
-          key = λ key is.
-              let reads = node-key (record { 0 = cell.number }) (tree cell.number) (rep.stands cell.number live) key (cell, (among, refl), is) in
-              subst (λ s. ReadsTree s T key (tree cell.number)) store reads;
-        }
+      its-cell : (cell : Cell) → Among (cells_of v.book.nodes) cell → CellFits g v cell (tree cell.number)
+      its-cell cell among =
+          let row = map-at cell_of v.book.nodes among.0 cell among.1 in
+          let live = subst (λ (c : Cell). 0 < held c.number v.book.handles) row.2 (live-row v.book whole row.0 (among.0, row.1)) in
+          let has = rep.typed cell.number live in
+          let counts : Cell → ℕ = λ c. one (is_cell cell.number c) in
+          let its_number = has.1.1 in
+          let first : 0 < counts has.0 = grind (arith, nat_tests) in
+          let second : 0 < counts cell = grind (arith, nat_tests) in
+          let same : has.0 ≡ cell = unique counts (cells_of v.book.nodes) has.0 cell has.1.0 among first second (cell-once v.book whole cell.number) in
+          let T : Types = record { nodes = g.shape_of v.env; parts = g.parts v.env } in
+          record {
+            typed = ap (λ (c : Cell). c.node_type) (sym same) ∙ has.2;
+            key = λ key is.
+                let reads = node-key (record { 0 = cell.number }) (tree cell.number) (rep.stands cell.number live) key (cell, (among, refl), is) in
+                subst (λ s. ReadsTree s T key (tree cell.number)) store reads;
+          }
 
-    pub represents-today : StandsToday g v tree
-    represents-today =
-        record {
-          trees = all-of (λ x. HasNoReference (tree x.0).meaning) v.values (λ x among. (its-value x among).1);
-          represents = record {
+      pub represents-today : RepresentsToday g v (record { plain = plain v.book; tree = tree })
+      represents-today =
+          record {
             same = refl;
-            values = all-of (λ x. MeansTree g x.1 (tree x.0)) v.values (λ x among. (its-value x among).0);
+            values = all-of (λ x. MeansTree g x.1 (tree x.0)) v.values its-value;
             cells = all-of (λ cell. CellFits g v cell (tree cell.number)) (cells_of v.book.nodes) its-cell;
-          };
-        }
+          }
 
-pub stands-whole : {N S E : Type 0} (g : Sight N S E) → StandsWhole g
-stands-whole g b v tree references hash whole step store plain_trees rep = represents-whole g b v tree references hash whole step store rep plain_trees
+pub today-stands : {N S E : Type 0} (g : Sight N S E) → TodayStands g
+today-stands g b v tree references hash whole step store bare =
+    record {
+      whole = λ rep. represents-whole g b v tree references hash whole step store rep bare;
+      today = λ rep. represents-today g b v tree references hash whole step rep store bare;
+    }
 
-pub whole-stands : {N S E : Type 0} (g : Sight N S E) → WholeStands g
-whole-stands g b v tree references hash whole step store hold rep = represents-today g b v tree references hash whole step store hold rep
+pub holders-have-none : {N S E : Type 0} (g : Sight N S E) → HoldersHaveNone g
+holders-have-none g b v tree references hash whole step hold rep = bare-trees g b v tree references hash whole step rep hold

@@ -9,7 +9,8 @@ use Rattle.pagable_world.specs.declared.rows.Mode.TheVariants as modes
 use Rattle.pagable_world.specs.declared.rows.Owner.{Owner}
 use Rattle.pagable_world.specs.declared.rows.Owner.TheVariants as owners
 use Rattle.pagable_world.specs.declared.rows.HandleRow.{HandleRow}
-use Rattle.pagable_world.specs.State.{WellFormed, one, held, pins, is_node, is_number, is_pinning, is_shared, is_of_load, is_aside, idle_pin, is_load, is_load_with, is_own, count_at, has_key}
+use Rattle.pagable_world.specs.declared.rows.NodeRow.{NodeRow}
+use Rattle.pagable_world.specs.State.{WellFormed, one, held, handle_of, pins, is_node, is_number, is_pinning, is_shared, is_of_load, is_aside, idle_pin, is_load, is_load_with, is_own, count_at, has_key}
 use Rattle.pagable_world.specs.Cells.{cell_of, cells_of}
 use Rattle.pagable_world.specs.Values.{value_with}
 use Rattle.pagable_world.specs.Least.{is_of_value, sharing, share_of, keyed, keyed_at}
@@ -20,7 +21,7 @@ use Rattle.pagable_world.specs.Words.{Among, times}
 use Rattle.pagable_world.specs.Whole.{Whole, OpenLoad, HasType, is_owner, is_cell, is_open_load}
 use Rattle.pagable_world.specs.Pages as pages
 use Rattle.pagable_world.specs.Pages.{Pages, HandlesAreWhole, OwnersAreThere, WorkIsWhole, MayOwnLoad, IsCellBefore, kept_at, named_at, HasValue}
-use Rattle.pagable_plain_world.specs.TodayLaws.{Beside, whole_of, whole_load, count_of, pages_of, seen_of, OwnsToday, AreToday, WholeToday}
+use Rattle.pagable_plain_world.specs.TodayLaws.{Beside, whole_of, whole_load, count_of, pages_of, seen_of, OwnsToday, AreToday, WholeToday, LoadsFitTheirCells}
 use Rattle.pagable_plain_world.proofs.Sums.{sum-le, sum-zero, at-most-sum, counted}
 use Rattle.pagable_plain_world.proofs.Places.{sum-remove}
 use Rattle.pagable_plain_world.proofs.TodayRows.{row-of, node-once}
@@ -195,10 +196,10 @@ module _ {N S E : Type 0} (g : Sight N S E) (b : Beside) (v : Shown N S E) (refe
             let zero_values : sum_by (value_with (λ _. true) n) v.book.nodes ≡ 0 = omega arith in
             step.each (λ _. true) n ∙ zero_values ∙ sym (ap (λ h. one (nat_lt 0 h && (nat_lt 0 (pins n v.book.handles) || nat_eq (keyed n (cells_of v.book.nodes)) 0))) none)
         | inr some ↦
-            let row = row-of g.type_of v whole step n some in
+            let row = row-of v.book whole n some in
             let node = row.0 in
             let there : 0 < is_node n node = grind (arith, nat_tests) in
-            let once = node-once g.type_of v whole step n in
+            let once = node-once v.book whole n in
             let values = only (value_with (λ _. true) n) (is_node n) v.book.nodes node row.1 there once (λ y out. grind (arith, nat_tests)) in
             let counts = only (count_at n) (is_node n) v.book.nodes node row.1 there once (λ y out. grind (arith, nat_tests)) in
             let keys = only (λ y. keyed_at n (cell_of y)) (is_node n) v.book.nodes node row.1 there once (λ y out. grind (arith, nat_tests)) in
@@ -239,6 +240,24 @@ module _ {N S E : Type 0} (g : Sight N S E) (b : Beside) (v : Shown N S E) (refe
         inside = inside-as;
         references = λ n x r has among. absurd (none-among r (references x) (all-at (λ (y : ℕ × N). references y.1 ≡ []) v.values (n, x) nothing has) among);
       }
+
+-- a load reads a live cell, with its type
+pub loads-fit : LoadsFitTheirCells
+loads-fit b s whole load among =
+    let q = load.number.0 in
+    let h = load.own.0 in
+    let n = load.node.0 in
+    let a = at-most-sum (is_load_with q h n) s.loads load among in
+    let its : is_load_with q h n load ≡ 1 = grind (arith, nat_tests) in
+    let e = whole.loads.owned q h n in
+    let it = counted (is_own q h n) s.handles (omega arith) in
+    let c = at-most-sum (handle_of n) s.handles it.0 it.1 in
+    let at : 0 < handle_of n it.0 = grind (arith, nat_tests) in
+    let some : 0 < held n s.handles = omega arith in
+    let row = row-of s whole n some in
+    let there : 0 < is_node n row.0 = grind (arith, nat_tests) in
+    let typed = only (λ (y : NodeRow). if y.number.0 == n then y.node_type else 0) (is_node n) s.nodes row.0 row.1 there (node-once s whole n) (λ y out. grind (arith, nat_tests)) in
+    (cell_of row.0, (among-map cell_of s.nodes row.0 row.1, row.2), sym (typed ∙ counts-as n row.0.number.0 row.0.node_type row.2))
 
 pub whole-today : {N S E : Type 0} (g : Sight N S E) → WholeToday g
 whole-today g b v references hash whole step now nothing = is-whole g b v references hash whole step now nothing

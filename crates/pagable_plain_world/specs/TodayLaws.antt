@@ -17,7 +17,8 @@ use Rattle.pagable_world.specs.World.{plain, greatest}
 use Rattle.pagable_world.specs.Shown.{Shown}
 use Rattle.pagable_world.specs.InStep.{InStep}
 use Rattle.pagable_world.specs.TodayTrees.{Sight, RepresentsToday}
-use Rattle.pagable_world.specs.Whole.{Whole, Written, OpenLoad, of_cell}
+use Rattle.pagable_world.specs.Words.{Among}
+use Rattle.pagable_world.specs.Whole.{Whole, Written, OpenLoad, of_cell, HasType}
 use Rattle.pagable_world.specs.Seen.{Seen}
 use Rattle.pagable_world.specs.Pages as pages
 use Rattle.pagable_world.specs.Pages.{Pages}
@@ -62,6 +63,10 @@ whole_of b s =
 abbrev pub IsOfToday : Type 0
 IsOfToday = (b : Beside) (s : State) → today s.loads (whole_of b s) ≡ plain s
 
+-- Each of its loads reads a live cell, with the type of that cell.
+abbrev pub LoadsFitTheirCells : Type 0
+LoadsFitTheirCells = (b : Beside) (s : State) → WellFormed s → (load : LoadRow) → Among s.loads load → HasType (whole_of b s) load.node (type_at load.node.0 s.nodes)
+
 -- the node's number and its count
 abbrev pub count_of : NodeRow → ℕ × ℕ
 count_of node = (node.number.0, node.count)
@@ -83,31 +88,34 @@ seen_of g env references hash =
       hash = hash;
     }
 
+-- no tree of a value in memory has a reference
+abbrev pub TreesHaveNone : {N S E : Type 0} → Shown N S E → (ℕ → Tree) → Type 0
+TreesHaveNone v tree = All (λ x. HasNoReference (tree x.0).meaning) v.values
+
+-- It stands for the world with these trees by the whole product's definition exactly if it does so by today's.
+pub record StandsAlike {N S E : Type 0} (g : Sight N S E) (b : Beside) (v : Shown N S E) (tree : ℕ → Tree) (references : N → List ArcRef) (hash : List ℕ → List ℕ) : Type 0 where
+  pub whole : RepresentsToday g v (record { plain = plain v.book; tree = tree }) → Represents (seen_of g v.env references hash) (pages_of b v) (record { plain = whole_of b v.book; tree = tree })
+  pub today : Represents (seen_of g v.env references hash) (pages_of b v) (record { plain = whole_of b v.book; tree = tree }) → RepresentsToday g v (record { plain = plain v.book; tree = tree })
+
+-- Where the tables are whole, the values in step with them and no value's tree has a reference, today's definition and the
+-- whole product's say the same.
+abbrev pub TodayStands : {N S E : Type 0} → Sight N S E → Type 0
+TodayStands {N} {S} {E} g =
+    (b : Beside) (v : Shown N S E) (tree : ℕ → Tree) (references : N → List ArcRef) (hash : List ℕ → List ℕ)
+    → WellFormed v.book → InStep g.type_of v.book v.values → b.stored ≡ g.stored v.storage → TreesHaveNone v tree → StandsAlike g b v tree references hash
+
 -- the values in memory hold no references, and mean what they refer to
 pub record HoldNoReferences {N S E : Type 0} (g : Sight N S E) (references : N → List ArcRef) (v : Shown N S E) : Type 0 where
   pub none : All (λ x. references x.1 ≡ []) v.values
   pub refers : (x : N) (a : Meaning ArcRef) → g.means x a → SameHandles (references x) (references_in a)
 
--- Where the tables are whole and the values in step with them, and no value's tree has a reference: what stands for a world
--- with trees by today's definition does so by the whole product's.
-abbrev pub StandsWhole : {N S E : Type 0} → Sight N S E → Type 0
-StandsWhole {N} {S} {E} g =
+-- And where the values hold no references, no tree has one that they stand for in the whole product.
+abbrev pub HoldersHaveNone : {N S E : Type 0} → Sight N S E → Type 0
+HoldersHaveNone {N} {S} {E} g =
     (b : Beside) (v : Shown N S E) (tree : ℕ → Tree) (references : N → List ArcRef) (hash : List ℕ → List ℕ)
-    → WellFormed v.book → InStep g.type_of v.book v.values → b.stored ≡ g.stored v.storage → All (λ x. HasNoReference (tree x.0).meaning) v.values
-    → RepresentsToday g v (record { plain = plain v.book; tree = tree })
+    → WellFormed v.book → InStep g.type_of v.book v.values → HoldNoReferences g references v
     → Represents (seen_of g v.env references hash) (pages_of b v) (record { plain = whole_of b v.book; tree = tree })
-
--- And the other way round, where the values hold no references. Then no value's tree has one.
-pub record StandsToday {N S E : Type 0} (g : Sight N S E) (v : Shown N S E) (tree : ℕ → Tree) : Type 0 where
-  pub trees : All (λ x. HasNoReference (tree x.0).meaning) v.values
-  pub represents : RepresentsToday g v (record { plain = plain v.book; tree = tree })
-
-abbrev pub WholeStands : {N S E : Type 0} → Sight N S E → Type 0
-WholeStands {N} {S} {E} g =
-    (b : Beside) (v : Shown N S E) (tree : ℕ → Tree) (references : N → List ArcRef) (hash : List ℕ → List ℕ)
-    → WellFormed v.book → InStep g.type_of v.book v.values → b.stored ≡ g.stored v.storage → HoldNoReferences g references v
-    → Represents (seen_of g v.env references hash) (pages_of b v) (record { plain = whole_of b v.book; tree = tree })
-    → StandsToday g v tree
+    → TreesHaveNone v tree
 
 -- the caller, the list and loads own handles today
 abbrev pub OwnsToday : Owner → Type 0

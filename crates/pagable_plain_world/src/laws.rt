@@ -4,7 +4,7 @@ ghost use Rattle.pagable_world.specs.Seen.{Seen};
 ghost use Rattle.pagable_plain_world.specs.FallLaws.{IsThere, IsOne, IsGivenAlone, PinsAreAFilter, TwoLevelsFall, TwoLevelsAreReleased, LoneIsListed};
 ghost use Rattle.pagable_plain_world.specs.RunLaws.{RunsJoin, NewIsWhole};
 ghost use Rattle.pagable_plain_world.specs.Bridges.{ReleasesToday, ReleaseIsToday, UnpinsToday};
-ghost use Rattle.pagable_plain_world.specs.TodayLaws.{IsOfToday, StandsWhole, WholeStands, WholeToday};
+ghost use Rattle.pagable_plain_world.specs.TodayLaws.{IsOfToday, LoadsFitTheirCells, WholeToday, TodayStands, HoldersHaveNone};
 ghost use Rattle.pagable_world.specs.TodayTrees.{Sight};
 ghost use Rattle.pagable_plain_world.specs.KeepLaws.{BirthKeeps, AwayBirthKeeps, CloneKeeps, PinKeeps, UnpinKeeps, ReleaseKeeps, SetKeyKeeps, LoosenKeeps, ScheduleKeeps, TakeKeeps, RecallKeeps, FetchKeeps, StoreKeeps, FlushKeeps, LookChangesNothing};
 ghost use Rattle.pagable_plain_world.specs.NearMisses.{NewNodeHasItsValue, NoLoadInMemory, OnlyLooseIsUnfit, ItemIsAtOne, FirstIsTheRoot, NoWaitForFree};
@@ -51,15 +51,17 @@ pub fn unpins_today()
     ensures { UnpinsToday }
 {}
 
-/// A pager that stands for a world with trees today does so by the whole product's definition, and the other way round.
+/// Where no value's tree has a reference, a pager stands for a world with trees today exactly if it does so by the whole
+/// product's definition; and where its values hold no references, no such tree has one.
 pub fn today_stands<N: SightOf<S, E>, S, E>()
-    ensures whole { StandsWhole N.sight }
-    ensures today { WholeStands N.sight }
+    ensures alike { TodayStands N.sight }
+    ensures bare { HoldersHaveNone N.sight }
 {}
 
 /// Today's pager is whole as one of the whole product.
 pub fn whole_today<N: SightOf<S, E>, S, E>()
     ensures tables { IsOfToday }
+    ensures loads { LoadsFitTheirCells }
     ensures whole { WholeToday N.sight }
 {}
 
