@@ -3,6 +3,7 @@ mod Mapped
 mod TodayRows
 mod TodayStanding
 mod TodayWhole
+mod TodayOne
 mod Existing
 mod Alone
 mod Two

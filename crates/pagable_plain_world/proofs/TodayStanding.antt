@@ -175,10 +175,10 @@ module _ {N S E : Type 0} (g : Sight N S E) (b : Beside) (v : Shown N S E) (tree
     pub bare-trees : HoldNoReferences g references v → TreesHaveNone v tree
     bare-trees hold =
         all-of (λ x. HasNoReference (tree x.0).meaning) v.values (λ x among.
-            let stands = value-stands x among in
-            let nothing = all-at (λ (z : ℕ × N). references z.1 ≡ []) v.values x hold.none among in
-            let unnamed = none-named (references x.1) (references_in stands.own) nothing (hold.refers x.1 stands.own stands.means) in
-            stands-bare seen page stands.own (tree x.0).meaning stands.stands unnamed)
+        let stands = value-stands x among in
+        let nothing = all-at (λ (z : ℕ × N). references z.1 ≡ []) v.values x hold.none among in
+        let unnamed = none-named (references x.1) (references_in stands.own) nothing (hold.refers x.1 stands.own stands.means) in
+        stands-bare seen page stands.own (tree x.0).meaning stands.stands unnamed)
 
     node-key : (k : NodeNumber) (t : Tree) → NodeStands seen page k t → KeyFits seen page k t
     node-key _ _ (here k y own t has typed means stands fits) = fits

@@ -10,7 +10,8 @@ use Rattle.pagable_world.specs.declared.rows.Owner.{Owner}
 use Rattle.pagable_world.specs.declared.rows.Owner.TheVariants as owners
 use Rattle.pagable_world.specs.declared.rows.HandleRow.{HandleRow}
 use Rattle.pagable_world.specs.declared.rows.NodeRow.{NodeRow}
-use Rattle.pagable_world.specs.State.{WellFormed, one, held, handle_of, pins, is_node, is_number, is_pinning, is_shared, is_of_load, is_aside, idle_pin, is_load, is_load_with, is_own, count_at, has_key}
+use Rattle.pagable_world.specs.declared.rows.LoadRow.{LoadRow}
+use Rattle.pagable_world.specs.State.{State, WellFormed, one, held, handle_of, pins, is_node, is_number, is_pinning, is_shared, is_of_load, is_aside, idle_pin, is_load, is_load_with, is_own, count_at, has_key}
 use Rattle.pagable_world.specs.Cells.{cell_of, cells_of}
 use Rattle.pagable_world.specs.Values.{value_with}
 use Rattle.pagable_world.specs.Least.{is_of_value, sharing, share_of, keyed, keyed_at}
@@ -21,7 +22,7 @@ use Rattle.pagable_world.specs.Words.{Among, times}
 use Rattle.pagable_world.specs.Whole.{Whole, OpenLoad, HasType, is_owner, is_cell, is_open_load}
 use Rattle.pagable_world.specs.Pages as pages
 use Rattle.pagable_world.specs.Pages.{Pages, HandlesAreWhole, OwnersAreThere, WorkIsWhole, MayOwnLoad, IsCellBefore, kept_at, named_at, HasValue}
-use Rattle.pagable_plain_world.specs.TodayLaws.{Beside, whole_of, whole_load, count_of, pages_of, seen_of, OwnsToday, AreToday, WholeToday, LoadsFitTheirCells}
+use Rattle.pagable_plain_world.specs.TodayLaws.{type_at, Beside, whole_of, whole_load, count_of, pages_of, seen_of, OwnsToday, AreToday, WholeToday, LoadsFitTheirCells}
 use Rattle.pagable_plain_world.proofs.Sums.{sum-le, sum-zero, at-most-sum, counted}
 use Rattle.pagable_plain_world.proofs.Places.{sum-remove}
 use Rattle.pagable_plain_world.proofs.TodayRows.{row-of, node-once}
@@ -241,9 +242,15 @@ module _ {N S E : Type 0} (g : Sight N S E) (b : Beside) (v : Shown N S E) (refe
         references = λ n x r has among. absurd (none-among r (references x) (all-at (λ (y : ℕ × N). references y.1 ≡ []) v.values (n, x) nothing has) among);
       }
 
--- a load reads a live cell, with its type
-pub loads-fit : LoadsFitTheirCells
-loads-fit b s whole load among =
+-- the type of a node is that of its row
+type-there : (s : State) → WellFormed s → (n : ℕ) (node : NodeRow) → Among s.nodes node → node.number.0 ≡ n → type_at n s.nodes ≡ node.node_type
+type-there s whole n node among is =
+    let there : 0 < is_node n node = grind (arith, nat_tests) in
+    only (λ (y : NodeRow). if y.number.0 == n then y.node_type else 0) (is_node n) s.nodes node among there (node-once s whole n) (λ y out. grind (arith, nat_tests)) ∙ counts-as n node.number.0 node.node_type is
+
+-- a load's node is live
+live-load : (s : State) → WellFormed s → (load : LoadRow) → Among s.loads load → 0 < held load.node.0 s.handles
+live-load s whole load among =
     let q = load.number.0 in
     let h = load.own.0 in
     let n = load.node.0 in
@@ -253,11 +260,13 @@ loads-fit b s whole load among =
     let it = counted (is_own q h n) s.handles (omega arith) in
     let c = at-most-sum (handle_of n) s.handles it.0 it.1 in
     let at : 0 < handle_of n it.0 = grind (arith, nat_tests) in
-    let some : 0 < held n s.handles = omega arith in
-    let row = row-of s whole n some in
-    let there : 0 < is_node n row.0 = grind (arith, nat_tests) in
-    let typed = only (λ (y : NodeRow). if y.number.0 == n then y.node_type else 0) (is_node n) s.nodes row.0 row.1 there (node-once s whole n) (λ y out. grind (arith, nat_tests)) in
-    (cell_of row.0, (among-map cell_of s.nodes row.0 row.1, row.2), sym (typed ∙ counts-as n row.0.number.0 row.0.node_type row.2))
+    omega arith
+
+-- a load reads a live cell, with its type
+pub loads-fit : LoadsFitTheirCells
+loads-fit b s whole load among =
+    let row = row-of s whole load.node.0 (live-load s whole load among) in
+    (cell_of row.0, (among-map cell_of s.nodes row.0 row.1, row.2), sym (type-there s whole load.node.0 row.0 row.1 row.2))
 
 pub whole-today : {N S E : Type 0} (g : Sight N S E) → WholeToday g
 whole-today g b v references hash whole step now nothing = is-whole g b v references hash whole step now nothing

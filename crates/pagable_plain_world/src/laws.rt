@@ -5,6 +5,7 @@ ghost use Rattle.pagable_plain_world.specs.FallLaws.{IsThere, IsOne, IsGivenAlon
 ghost use Rattle.pagable_plain_world.specs.RunLaws.{RunsJoin, NewIsWhole};
 ghost use Rattle.pagable_plain_world.specs.Bridges.{ReleasesToday, ReleaseIsToday, UnpinsToday};
 ghost use Rattle.pagable_plain_world.specs.TodayLaws.{IsOfToday, LoadsFitTheirCells, WholeToday, TodayStands, HoldersHaveNone};
+ghost use Rattle.pagable_plain_world.specs.TodayExamples.{OneCellToday};
 ghost use Rattle.pagable_world.specs.TodayTrees.{Sight};
 ghost use Rattle.pagable_plain_world.specs.KeepLaws.{BirthKeeps, AwayBirthKeeps, CloneKeeps, PinKeeps, UnpinKeeps, ReleaseKeeps, SetKeyKeeps, LoosenKeeps, ScheduleKeeps, TakeKeeps, RecallKeeps, FetchKeeps, StoreKeeps, FlushKeeps, LookChangesNothing};
 ghost use Rattle.pagable_plain_world.specs.NearMisses.{NewNodeHasItsValue, NoLoadInMemory, OnlyLooseIsUnfit, ItemIsAtOne, FirstIsTheRoot, NoWaitForFree};
@@ -56,6 +57,11 @@ pub fn unpins_today()
 pub fn today_stands<N: SightOf<S, E>, S, E>()
     ensures alike { TodayStands N.sight }
     ensures bare { HoldersHaveNone N.sight }
+{}
+
+/// With one cell today's pager is as these laws ask; and a tree that is followed already it stands for today alone.
+pub fn one_cell_today()
+    ensures { OneCellToday }
 {}
 
 /// Today's pager is whole as one of the whole product.
