@@ -24,7 +24,7 @@ use Rattle.pagable_world.specs.Whole.{Written, HasType, is_cell}
 use Rattle.pagable_world.specs.Seen.{Seen}
 use Rattle.pagable_world.specs.Pages.{Pages}
 use Rattle.pagable_world.specs.Stands.{NodeStands, here, away, MeaningStands, number-stands, integer-stands, text-stands, pattern-stands, none-stands, pair-stands, variant-stands, reference-stands, KeyFits, ValueStands, Represents}
-use Rattle.pagable_plain_world.specs.TodayLaws.{Beside, whole_of, pages_of, seen_of, TreesHaveNone, HoldNoReferences, TodayStands, HoldersHaveNone}
+use Rattle.pagable_plain_world.specs.TodayLaws.{Beside, whole_of, pages_of, seen_of, TreesHaveNone, HoldNoReferences, TodayStands, MeaningsHaveNone, HoldersHaveNone}
 use Rattle.pagable_plain_world.proofs.Sums.{at-most-sum, counted}
 use Rattle.pagable_plain_world.proofs.Places.{unique}
 use Rattle.pagable_plain_world.proofs.TodayRows.{row-of, live-row, cell-once, value-row, value-once}
@@ -226,3 +226,9 @@ today-stands g b v tree references hash whole step store bare =
 
 pub holders-have-none : {N S E : Type 0} (g : Sight N S E) → HoldersHaveNone g
 holders-have-none g b v tree references hash whole step hold rep = bare-trees g b v tree references hash whole step rep hold
+
+pub meanings-have-none : {N S E : Type 0} (g : Sight N S E) → MeaningsHaveNone g
+meanings-have-none {N} g v tree bare rep =
+    all-of (λ (x : ℕ × N). HasNoReference (tree x.0).meaning) v.values (λ x among.
+    let means = all-at (λ (y : ℕ × N). MeansTree g y.1 (tree y.0)) v.values x rep.values among in
+    bare x.1 (tree x.0).meaning means.means)

@@ -2,7 +2,7 @@
 use Rattle.std.specs.Prelude.{ℕ, ◌≡◌, ◌≤◌, ◌==◌, if◌then◌else◌, Bool, false, List, [], map, sum_by, All, Option}
 use Rattle.pagable_model.specs.declared.numbers.ArcRef.{ArcRef}
 use Rattle.pagable_model.specs.Blob.{Blob}
-use Rattle.pagable_model.specs.Meaning.{Meaning}
+use Rattle.pagable_model.specs.Meaning.{Meaning, lifted}
 use Rattle.pagable_model.specs.Trees.{Tree}
 use Rattle.pagable_model.specs.Canonical.{HasNoReference}
 use Rattle.pagable_model.specs.References.{references_in, SameHandles}
@@ -104,12 +104,20 @@ TodayStands {N} {S} {E} g =
     (b : Beside) (v : Shown N S E) (tree : ℕ → Tree) (references : N → List ArcRef) (hash : List ℕ → List ℕ)
     → WellFormed v.book → InStep g.type_of v.book v.values → b.stored ≡ g.stored v.storage → TreesHaveNone v tree → StandsAlike g b v tree references hash
 
+-- Where no value means a tree that has a reference, no tree has one that the values in memory stand for today.
+abbrev pub MeaningsHaveNone : {N S E : Type 0} → Sight N S E → Type 0
+MeaningsHaveNone {N} {S} {E} g =
+    (v : Shown N S E) (tree : ℕ → Tree)
+    → ((x : N) (a : Meaning ⊥) → g.means x (lifted a) → HasNoReference a)
+    → RepresentsToday g v (record { plain = plain v.book; tree = tree })
+    → TreesHaveNone v tree
+
 -- the values in memory hold no references, and mean what they refer to
 pub record HoldNoReferences {N S E : Type 0} (g : Sight N S E) (references : N → List ArcRef) (v : Shown N S E) : Type 0 where
   pub none : All (λ x. references x.1 ≡ []) v.values
   pub refers : (x : N) (a : Meaning ArcRef) → g.means x a → SameHandles (references x) (references_in a)
 
--- And where the values hold no references, no tree has one that they stand for in the whole product.
+-- Where the values in memory hold no references, no tree has one that they stand for in the whole product.
 abbrev pub HoldersHaveNone : {N S E : Type 0} → Sight N S E → Type 0
 HoldersHaveNone {N} {S} {E} g =
     (b : Beside) (v : Shown N S E) (tree : ℕ → Tree) (references : N → List ArcRef) (hash : List ℕ → List ℕ)

@@ -4,7 +4,7 @@ ghost use Rattle.pagable_world.specs.Seen.{Seen};
 ghost use Rattle.pagable_plain_world.specs.FallLaws.{IsThere, IsOne, IsGivenAlone, PinsAreAFilter, TwoLevelsFall, TwoLevelsAreReleased, LoneIsListed};
 ghost use Rattle.pagable_plain_world.specs.RunLaws.{RunsJoin, NewIsWhole};
 ghost use Rattle.pagable_plain_world.specs.Bridges.{ReleasesToday, ReleaseIsToday, UnpinsToday};
-ghost use Rattle.pagable_plain_world.specs.TodayLaws.{IsOfToday, LoadsFitTheirCells, WholeToday, TodayStands, HoldersHaveNone};
+ghost use Rattle.pagable_plain_world.specs.TodayLaws.{IsOfToday, LoadsFitTheirCells, WholeToday, TodayStands, MeaningsHaveNone, HoldersHaveNone};
 ghost use Rattle.pagable_plain_world.specs.TodayExamples.{OneCellToday};
 ghost use Rattle.pagable_world.specs.TodayTrees.{Sight};
 ghost use Rattle.pagable_plain_world.specs.KeepLaws.{BirthKeeps, AwayBirthKeeps, CloneKeeps, PinKeeps, UnpinKeeps, ReleaseKeeps, SetKeyKeeps, LoosenKeeps, ScheduleKeeps, TakeKeeps, RecallKeeps, FetchKeeps, StoreKeeps, FlushKeeps, LookChangesNothing};
@@ -53,10 +53,12 @@ pub fn unpins_today()
 {}
 
 /// Where no value's tree has a reference, a pager stands for a world with trees today exactly if it does so by the whole
-/// product's definition; and where its values hold no references, no such tree has one.
+/// product's definition. No such tree has one today where no value means one that does, and in the whole product where the values
+/// hold no references.
 pub fn today_stands<N: SightOf<S, E>, S, E>()
     ensures alike { TodayStands N.sight }
-    ensures bare { HoldersHaveNone N.sight }
+    ensures means { MeaningsHaveNone N.sight }
+    ensures holds { HoldersHaveNone N.sight }
 {}
 
 /// With one cell today's pager is as these laws ask; and a tree that is followed already it stands for today alone.
