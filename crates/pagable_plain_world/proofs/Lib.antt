@@ -1,4 +1,9 @@
 mod Sums
+mod Mapped
+mod TodayRows
+mod TodayStanding
+mod TodayWhole
+mod TodayOne
 mod Existing
 mod Alone
 mod Two

@@ -4,6 +4,8 @@ pub mod CallBridges
 pub mod RunLaws
 pub mod NearMisses
 pub mod Bridges
+pub mod TodayLaws
+pub mod TodayExamples
 pub mod KeepLaws
 pub mod HandleExamples
 pub mod StoreExamples

@@ -5,6 +5,9 @@ ghost use Rattle.pagable_plain_world.specs.FallLaws.{IsThere, IsOne, IsGivenAlon
 ghost use Rattle.pagable_plain_world.specs.CallBridges.{AwayBirthsToday, ClonesToday, LoosensToday};
 ghost use Rattle.pagable_plain_world.specs.RunLaws.{RunsJoin, NewIsWhole};
 ghost use Rattle.pagable_plain_world.specs.Bridges.{ReleasesToday, ReleaseIsToday, UnpinsToday};
+ghost use Rattle.pagable_plain_world.specs.TodayLaws.{IsOfToday, LoadsFitTheirCells, WholeToday, TodayStands, MeaningsHaveNone, HoldersHaveNone};
+ghost use Rattle.pagable_plain_world.specs.TodayExamples.{OneCellToday};
+ghost use Rattle.pagable_world.specs.TodayTrees.{Sight};
 ghost use Rattle.pagable_plain_world.specs.KeepLaws.{BirthKeeps, AwayBirthKeeps, CloneKeeps, PinKeeps, UnpinKeeps, ReleaseKeeps, SetKeyKeeps, LoosenKeeps, ScheduleKeeps, TakeKeeps, RecallKeeps, FetchKeeps, StoreKeeps, FlushKeeps, LookChangesNothing};
 ghost use Rattle.pagable_plain_world.specs.NearMisses.{NewNodeHasItsValue, NoLoadInMemory, OnlyLooseIsUnfit, ItemIsAtOne, FirstIsTheRoot, NoWaitForFree};
 
@@ -12,6 +15,12 @@ ghost use Rattle.pagable_plain_world.specs.NearMisses.{NewNodeHasItsValue, NoLoa
 pub trait SeenAs<B, W>: Sized {
     // How they are seen.
     ghost seen: { Seen Self B W };
+}
+
+/// How today's pager sees values of this type, with storages S and environments E: any values, so that a law is one of all.
+pub trait SightOf<S, E>: Sized {
+    // How they are seen.
+    ghost sight: { Sight Self S E };
 }
 
 /// There is a least set of handles that fall with given ones.
@@ -57,6 +66,27 @@ pub fn away_births_today()
 /// An unpin as today's tables do it is one of the whole world.
 pub fn unpins_today()
     ensures { UnpinsToday }
+{}
+
+/// Where no value's tree has a reference, a pager stands for a world with trees today exactly if it does so by the whole
+/// product's definition. No such tree has one today where no value means one that does, and in the whole product where the values
+/// hold no references.
+pub fn today_stands<N: SightOf<S, E>, S, E>()
+    ensures alike { TodayStands N.sight }
+    ensures means { MeaningsHaveNone N.sight }
+    ensures holds { HoldersHaveNone N.sight }
+{}
+
+/// With one cell today's pager is as these laws ask; and a tree that is followed already it stands for today alone.
+pub fn one_cell_today()
+    ensures { OneCellToday }
+{}
+
+/// Today's pager is whole as one of the whole product.
+pub fn whole_today<N: SightOf<S, E>, S, E>()
+    ensures tables { IsOfToday }
+    ensures loads { LoadsFitTheirCells }
+    ensures whole { WholeToday N.sight }
 {}
 
 /// A clone keeps the world whole.
