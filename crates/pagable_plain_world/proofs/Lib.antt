@@ -22,3 +22,10 @@ mod OnTurns
 mod Births
 mod Backward
 mod Rekeying
+mod OnParts
+mod OnAnswers
+mod OnHeadlines
+mod OnWholeRuns
+mod OnIdentities
+mod OnEntries
+mod OnItems
