@@ -29,3 +29,4 @@ mod OnWholeRuns
 mod OnIdentities
 mod OnEntries
 mod OnItems
+mod Telling
