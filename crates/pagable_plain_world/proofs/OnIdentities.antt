@@ -71,13 +71,13 @@ filled stored key a b row other first_in second_in at bt same =
 
 not-doubly : (stored : ℕ → Option Blob) (key : ℕ) → ¬ HasOneIdentity sample (doubly_cached stored key)
 not-doubly stored key all =
-    let same = all child_kind child_kind key key first_node second_node (one_got stored key) (one_got stored key) (both_got stored key) [] [] (filled stored key) (gets-first stored key) (λ event among. absurd (cc)) refl (gets-second stored key) in
+    let same = all child_kind child_kind key key first_node second_node (one_got stored key) (one_got stored key) (both_got stored key) [] [] (filled stored key) refl (gets-first stored key) (λ event among. absurd (cc)) refl (gets-second stored key) in
     let e : ◌≡◌ {A = ℕ} 2 1 = ap (λ n. n.0) (same.1 (refl, refl)).1 in
     omega arith
 
 pub identities : IdentityExamples
 identities =
     record {
-      none_got = λ stored kind other_kind key other_key node other_node w1 w2 w3 happened replied filled_is gets leaves run gets_other. absurd (none-got stored kind key node w1 gets);
+      none_got = λ stored kind other_kind key other_key node other_node w1 w2 w3 happened replied filled_is stands_open gets leaves run gets_other. absurd (none-got stored kind key node w1 gets);
       not_doubly = not-doubly;
     }
