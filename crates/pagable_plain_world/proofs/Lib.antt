@@ -28,3 +28,11 @@ mod OnTurns
 mod Births
 mod Backward
 mod Rekeying
+mod OnParts
+mod OnAnswers
+mod OnHeadlines
+mod OnWholeRuns
+mod OnIdentities
+mod OnEntries
+mod OnItems
+mod Telling

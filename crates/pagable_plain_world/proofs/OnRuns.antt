@@ -81,7 +81,7 @@ lone-typed stored n x among =
     let f : ◌≡◌ {A = ℕ} x 0 = ap (λ (p : ℕ × ℕ). p.1) (the-one _ _ among) in
     (record { number = 1; node_type = 0; key = optional.None }, ((0, refl), sym e), sym f)
 
-well : (stored : ℕ → Option Blob) → WellFormed sample (lone_pages stored)
+pub well : (stored : ℕ → Option Blob) → WellFormed sample (lone_pages stored)
 well stored =
     record {
       whole = lone-whole stored;
@@ -92,20 +92,20 @@ well stored =
       references = λ n x r has among. absurd (cc);
     }
 
-no-key : (stored : ℕ → Option Blob) (n : NodeNumber) (key : ℕ) → KeyIs (lone stored) n (optional.Some key) → ⊥
+pub no-key : (stored : ℕ → Option Blob) (n : NodeNumber) (key : ℕ) → KeyIs (lone stored) n (optional.Some key) → ⊥
 no-key stored n key (cell, (among, at), is) =
     let a : has_key cell.key ≡ false = ap (λ c. has_key c.key) (the-one _ cell among) in
     let b : has_key cell.key ≡ true = ap has_key is in
     grind (arith, nat_tests)
 
-lone-stands : (stored : ℕ → Option Blob) → NodeStands sample (lone_pages stored) first_node (tree 0 none)
+pub lone-stands : (stored : ℕ → Option Blob) → NodeStands sample (lone_pages stored) first_node (tree 0 none)
 lone-stands stored = here first_node 0 none (tree 0 none) (0, refl) refl refl none-stands (λ key is. absurd (no-key stored first_node key is))
 
 not-other-type : (stored : ℕ → Option Blob) (t : Tree) → t.type ≡ 1 → ¬ NodeStands sample (lone_pages stored) first_node t
 not-other-type stored t one_is (here _ x own _ has typed means stands fits) = let f : ◌≡◌ {A = ℕ} x 0 = ap (λ (p : ℕ × ℕ). p.1) (the-one _ _ has) in omega arith
 not-other-type stored t one_is (away _ key _ none_is is fits) = omega arith
 
-at-one : (stored : ℕ → Option Blob) (n : ℕ) → 0 < held n (lone stored).rows → n ≡ 1
+pub at-one : (stored : ℕ → Option Blob) (n : ℕ) → 0 < held n (lone stored).rows → n ≡ 1
 at-one stored n some = grind (arith, nat_tests)
 
 lone-represents : (stored : ℕ → Option Blob) → Represents sample (lone_pages stored) (lone_trees stored 0)
@@ -119,7 +119,7 @@ lone-represents stored =
 not-represented : (stored : ℕ → Option Blob) → ¬ Represents sample (lone_pages stored) (lone_trees stored 1)
 not-represented stored r = not-other-type stored (tree 1 none) refl (r.stands 1 (omega arith))
 
-lawful : IsLawful sample
+pub lawful : IsLawful sample
 unfolding references_in
 lawful = record { some = λ x. (none, refl); refers = λ x a is. subst (λ b. SameHandles [] (references_in b)) (sym is) (λ q. refl) }
 
@@ -147,7 +147,7 @@ wholes =
 lone-value : (stored : ℕ → Option Blob) → ValueStands sample (lone_pages stored) 0 (tree 0 none)
 lone-value stored = record { own = none; typed = refl; means = refl; stands = none-stands }
 
-new-at : (n : ℕ) → (0 < n) × (n ≤ 1) → n ≡ 1
+pub new-at : (n : ℕ) → (0 < n) × (n ≤ 1) → n ≡ 1
 new-at n is = let a = is.0 in let b = is.1 in omega arith
 
 headline : (stored : ℕ → Option Blob) → Headline sample (new_pages stored) []
@@ -196,7 +196,7 @@ run-examples =
       not_from_there = λ stored line. let e = line.new.rows in absurd (cc);
     }
 
-not-two : (stored : ℕ → Option Blob) (row : HandleRow) → Among (lone stored).rows row → 2 ≡ pins row.node.0 (lone stored).rows → ⊥
+pub not-two : (stored : ℕ → Option Blob) (row : HandleRow) → Among (lone stored).rows row → 2 ≡ pins row.node.0 (lone stored).rows → ⊥
 not-two stored row among is = let e : 2 ≡ pins 1 (lone stored).rows = is ∙ ap (λ x. pins x.node.0 (lone stored).rows) (the-one _ row among) in omega arith
 
 not-other : (stored : ℕ → Option Blob) → ¬ GivesTree sample (lone_pages stored) (lone_trees stored 1) first

@@ -24,7 +24,7 @@ use Rattle.pagable_plain_world.specs.StepExamples.{BlobExamples, LoadStepExample
 use Rattle.pagable_plain_world.proofs.Alone.{given-least}
 use Rattle.pagable_plain_world.proofs.OnHandles.{the-one}
 
-wants-it : (key child : ℕ) → Wants sample_types (root_frame key 0 (referring child)) child_kind child
+pub wants-it : (key child : ℕ) → Wants sample_types (root_frame key 0 (referring child)) child_kind child
 unfolding read read_with
 wants-it key child = (refl, λ e other. refl)
 
@@ -32,11 +32,11 @@ not-other-kind : (key child : ℕ) → ¬ Wants sample_types (root_frame key 0 (
 unfolding read read_with
 not-other-kind key child (there, each) = let e = each errors.NoSuchHandle errors.NotYours in absurd (cc)
 
-is-read : (key : ℕ) → IsRead sample_types (root_frame key 1 bare) none
+pub is-read : (key : ℕ) → IsRead sample_types (root_frame key 1 bare) none
 unfolding read read_with
 is-read key = (record { bytes = []; refs = [] }, omega arith, refl)
 
-not-read : (key child : ℕ) (own : Meaning ArcRef) → ¬ IsRead sample_types (root_frame key 0 (referring child)) own
+pub not-read : (key child : ℕ) (own : Meaning ArcRef) → ¬ IsRead sample_types (root_frame key 0 (referring child)) own
 unfolding read read_with
 not-read key child own (rest, within, is) = absurd (cc)
 

@@ -136,7 +136,7 @@ claims-met stored slot among =
     subst (λ (s : SlotRow). TableMeets (claimed stored) s.table (record { kind = s.reference.kind; node = s.reference.node })) (sym (the-one _ slot among))
     (item_worker one_written, (0, refl), refl, meets-of-item one_written one_reference refl (0, refl))
 
-not-deep : (stored : ℕ → Option Blob) → ¬ DeepIsRefused sample (pages_of (empty stored)) (trees_of (working stored (of_item nothing_written))) wait_event fail_reply (pages_of (empty stored)) (trees_of (empty stored))
+pub not-deep : (stored : ℕ → Option Blob) → ¬ DeepIsRefused sample (pages_of (empty stored)) (trees_of (working stored (of_item nothing_written))) wait_event fail_reply (pages_of (empty stored)) (trees_of (empty stored))
 not-deep stored all = elim ((all (item_worker nothing_written) ((0, refl), refl)).0 refl) [ inl (r, among, deep) ↦ absurd (cc) | inr (r, among, none_is) ↦ absurd (cc) ]
 
 sound : (stored : ℕ → Option Blob) (key : ℕ) → LoadIsSound (pages_of (sound_world stored key)) (trees_of (sound_world stored key)) load_event (refused_reply errors.OutOfMemory) (pages_of (empty stored)) (trees_of (empty stored))
@@ -148,13 +148,13 @@ known_slot key = record { table = first_table; reference = one_reference; worker
 not-lost : (stored : ℕ → Option Blob) (key : ℕ) → ¬ LoadIsSound (pages_of (sound_world stored key)) (trees_of (sound_world stored key)) load_event (refused_reply (errors.NoData key)) (pages_of (empty stored)) (trees_of (empty stored))
 not-lost stored key all = all (record { number = first_load; owner = owners.Caller; key = key; root = of_cell first_node 0 first second; frames = []; steps = 0 }) first_node 0 first (errors.NoData key) ((0, refl), refl) (second, refl) (first_table, first_identity, 0, refl, (known_slot key, ((0, refl), refl, refl, refl), refl)) refl
 
-not-published : (w : Whole) (i : Identity) (key height : ℕ) → w.slots ≡ [] → IsPublished w first_table i key height → ⊥
+pub not-published : (w : Whole) (i : Identity) (key height : ℕ) → w.slots ≡ [] → IsPublished w first_table i key height → ⊥
 not-published w i key height none_is (slot, (among, table, kind, node), known) = let e : slice_get [] among.0 ≡ Some slot = subst (λ ss. slice_get ss among.0 ≡ Some slot) none_is among.1 in absurd (cc)
 
 open-unpublished : (stored : ℕ → Option Blob) (i : Identity) (key height : ℕ) → IsPublished (slot_open stored) first_table i key height → ⊥
 open-unpublished stored i key height (slot, (among, table, kind, node), known) = let e : published key height ≡ no_result = sym known ∙ ap (λ s. s.outcome) (the-one _ slot among) in absurd (cc)
 
-reads-bare-tree : (key : ℕ) → ReadsTree (all_of bare) sample_types key (tree 1 none)
+pub reads-bare-tree : (key : ℕ) → ReadsTree (all_of bare) sample_types key (tree 1 none)
 unfolding read read_with
 reads-bare-tree key = record { own = none; reads = record { blob = bare; stored = refl; rest = record { bytes = []; refs = [] }; reads = refl }; follows = none-followed }
 

@@ -31,7 +31,7 @@ use Rattle.pagable_plain_world.specs.WorkExamples.{WorkerExamples, OrderExamples
 use Rattle.pagable_plain_world.proofs.Alone.{given-least}
 use Rattle.pagable_plain_world.proofs.OnHandles.{the-one}
 
-not-push : {X : Type 0} (xs ys : List X) (x : X) → ¬ ([] ≡ xs ++ x ∷ ys)
+pub not-push : {X : Type 0} (xs ys : List X) (x : X) → ¬ ([] ≡ xs ++ x ∷ ys)
 not-push [] ys x e = absurd (cc)
 not-push (z ∷ zs) ys x e = absurd (cc)
 
@@ -55,7 +55,7 @@ same-blob : (bs cs ks ls : List ℕ) → bs ≡ cs → ks ≡ ls → ◌≡◌ {
 same-blob bs cs ks ls e f = cc
 
 -- a blob of nothing written is the bare one
-bare-blob : (w : Whole) (blob : Blob) → IsBlobOf w first_table nothing_written blob → blob ≡ bare
+pub bare-blob : (w : Whole) (blob : Blob) → IsBlobOf w first_table nothing_written blob → blob ≡ bare
 bare-blob w blob (bytes, keys) = part blob.keys refl keys
   where
     part : (ks : List ℕ) → blob.keys ≡ ks → AreKeysOf w first_table [] ks → blob ≡ bare
@@ -97,7 +97,7 @@ release-it stored key = (
   ),
 )
 
-height-none : (w : Whole) → IsHeight w first_table [] 0
+pub height-none : (w : Whole) → IsHeight w first_table [] 0
 height-none w = record { above = λ r key h among known. absurd (cc); reached = inl refl }
 
 not-higher : (w : Whole) → ¬ IsHeight w first_table [] 1

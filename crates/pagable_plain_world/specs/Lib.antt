@@ -17,3 +17,12 @@ pub mod SampleRuns
 pub mod RunExamples
 pub mod SampleTurns
 pub mod TurnExamples
+pub mod SampleParts
+pub mod PartExamples
+pub mod SampleAnswers
+pub mod AnswerExamples
+pub mod HeadlineExamples
+pub mod WholeRunExamples
+pub mod IdentityExamples
+pub mod EntryExamples
+pub mod ItemExamples

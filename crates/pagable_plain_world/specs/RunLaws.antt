@@ -8,6 +8,7 @@ use Rattle.pagable_world.specs.Seen.{Seen}
 use Rattle.pagable_world.specs.Pages.{WellFormed}
 use Rattle.pagable_world.specs.Stands.{TreeWorld, Represents}
 use Rattle.pagable_world.specs.Events.{Run, IsNew}
+use Rattle.pagable_world.specs.Alone.{KeysTellTrees}
 use Rattle.pagable_plain_world.specs.Samples.{empty, new_pages}
 
 -- A run goes on with another.
@@ -21,3 +22,7 @@ pub record NewIsWhole {N B W : Type 0} (m : Seen N B W) : Type 0 where
   pub new : (stored : ℕ → Option Blob) → IsNew (empty stored)
   pub whole : (stored : ℕ → Option Blob) → WellFormed m (new_pages stored)
   pub stands : (stored : ℕ → Option Blob) (u : TreeWorld) → u.plain ≡ empty stored → Represents m (new_pages stored) u
+
+-- In every world, keys tell stored trees of canonical types apart.
+abbrev pub KeysTellTheirTrees : {N B W : Type 0} → Seen N B W → Type 0
+KeysTellTheirTrees m = (w : Whole) → KeysTellTrees m w

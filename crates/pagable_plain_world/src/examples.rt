@@ -8,6 +8,13 @@ ghost use Rattle.pagable_plain_world.specs.StepExamples.{BlobExamples, LoadStepE
 ghost use Rattle.pagable_plain_world.specs.WorkExamples.{WorkerExamples, OrderExamples, BoundExamples};
 ghost use Rattle.pagable_plain_world.specs.RunExamples.{WholeExamples, RunExamples, FactExamples, OverExamples};
 ghost use Rattle.pagable_plain_world.specs.TurnExamples.{KindExamples, TurnExamples, SaidExamples};
+ghost use Rattle.pagable_plain_world.specs.AnswerExamples.{ReadExamples, PageOutExamples, PremiseExamples};
+ghost use Rattle.pagable_plain_world.specs.HeadlineExamples.{HeadlineExamples};
+ghost use Rattle.pagable_plain_world.specs.WholeRunExamples.{WholeRunExamples};
+ghost use Rattle.pagable_plain_world.specs.IdentityExamples.{IdentityExamples};
+ghost use Rattle.pagable_plain_world.specs.EntryExamples.{EntryExamples};
+ghost use Rattle.pagable_plain_world.specs.ItemExamples.{ItemIsStored};
+ghost use Rattle.pagable_plain_world.specs.PartExamples.{LoadPartExamples, WorkerPartExamples};
 
 /// The calls on handles and nodes.
 pub fn calls_on_handles()
@@ -58,4 +65,42 @@ pub fn turns()
     ensures kinds { KindExamples }
     ensures turns { TurnExamples }
     ensures said { SaidExamples }
+{}
+
+/// Parts of the steps of loads and workers.
+pub fn parts()
+    ensures loads { LoadPartExamples }
+    ensures workers { WorkerPartExamples }
+{}
+
+/// What is said of answers, and what is asked for it.
+pub fn answers()
+    ensures reads { ReadExamples }
+    ensures page_outs { PageOutExamples }
+    ensures premises { PremiseExamples }
+{}
+
+/// All that has happened, by two moments.
+pub fn headlines()
+    ensures { HeadlineExamples }
+{}
+
+/// Whole operations over an access, and whole walks.
+pub fn whole_runs()
+    ensures { WholeRunExamples }
+{}
+
+/// References through one cache.
+pub fn identities()
+    ensures { IdentityExamples }
+{}
+
+/// The whole page-out of a listed cell.
+pub fn entries()
+    ensures { EntryExamples }
+{}
+
+/// A page-out of an item that answers a key and stores nothing.
+pub fn items()
+    ensures { ItemIsStored }
 {}

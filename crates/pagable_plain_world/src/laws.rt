@@ -3,13 +3,15 @@
 ghost use Rattle.pagable_world.specs.Seen.{Seen};
 ghost use Rattle.pagable_plain_world.specs.FallLaws.{IsThere, IsOne, IsGivenAlone, PinsAreAFilter, TwoLevelsFall, TwoLevelsAreReleased, LoneIsListed};
 ghost use Rattle.pagable_plain_world.specs.CallBridges.{AwayBirthsToday, ClonesToday, LoosensToday};
-ghost use Rattle.pagable_plain_world.specs.RunLaws.{RunsJoin, NewIsWhole};
+ghost use Rattle.pagable_plain_world.specs.RunLaws.{RunsJoin, NewIsWhole, KeysTellTheirTrees};
 ghost use Rattle.pagable_plain_world.specs.Bridges.{ReleasesToday, ReleaseIsToday, UnpinsToday};
 ghost use Rattle.pagable_plain_world.specs.TodayLaws.{IsOfToday, LoadsFitTheirCells, WholeToday, TodayStands, MeaningsHaveNone, HoldersHaveNone};
 ghost use Rattle.pagable_plain_world.specs.TodayExamples.{OneCellToday};
 ghost use Rattle.pagable_world.specs.TodayTrees.{Sight};
 ghost use Rattle.pagable_plain_world.specs.KeepLaws.{BirthKeeps, AwayBirthKeeps, CloneKeeps, PinKeeps, UnpinKeeps, ReleaseKeeps, SetKeyKeeps, LoosenKeeps, ScheduleKeeps, TakeKeeps, RecallKeeps, FetchKeeps, StoreKeeps, FlushKeeps, LookChangesNothing};
 ghost use Rattle.pagable_plain_world.specs.NearMisses.{NewNodeHasItsValue, NoLoadInMemory, OnlyLooseIsUnfit, ItemIsAtOne, FirstIsTheRoot, NoWaitForFree};
+
+use pagable_plain::laws::is_key_of_one_tree;
 
 /// How values of this type are seen, with blobs B and what is written W: any values, so that a law is one of all.
 pub trait SeenAs<B, W>: Sized {
@@ -153,6 +155,13 @@ pub fn runs_join<N: SeenAs<B, W>, B, W>()
 pub fn new_is_whole<N: SeenAs<B, W>, B, W>()
     ensures { NewIsWhole N.seen }
 {}
+
+/// Of stored trees of canonical types the keys are equal exactly if the trees are: the law of values, in every world.
+pub fn keys_tell_trees<N: SeenAs<B, W>, B, W>()
+    ensures { KeysTellTheirTrees N.seen }
+{
+    is_key_of_one_tree()
+}
 
 /// A new node has the value that was handed in, which stands for its tree.
 pub fn new_node_has_its_value<N: SeenAs<B, W>, B, W>()

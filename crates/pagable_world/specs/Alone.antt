@@ -1,5 +1,5 @@
 -- What holds where each load's and each worker's steps stand together, and of one cache and one store.
-use Rattle.std.specs.Prelude.{ℕ, ◌≡◌, ◌≢◌, ◌+◌, ◌<◌, ◌⊎◌, ◌↔◌, List, Option, Some, None, Ok, Err, slice_get}
+use Rattle.std.specs.Prelude.{ℕ, ◌≡◌, ◌≢◌, ◌+◌, ◌<◌, ◌⊎◌, ◌↔◌, false, List, Option, Some, None, Ok, Err, slice_get}
 use Rattle.pagable_model.specs.declared.error.Error.{Error}
 use Rattle.pagable_model.specs.declared.error.Error.TheVariants as errors
 use Rattle.pagable_model.specs.declared.numbers.ArcRef.{ArcRef}
@@ -128,6 +128,7 @@ abbrev pub HasOneIdentity : {N B W : Type 0} → Seen N B W → Whole → Type 0
 HasOneIdentity {N} {B} {W} m w =
     (kind other_kind : Kind) (key other_key : ℕ) (node other_node : NodeNumber) (w1 w2 w3 : Whole) (happened : List (Event N B W)) (replied : List (EventReply N B W))
     → IsFilledByReading w
+    → w.closed ≡ false
     → GetsReference w kind key node w1
     → ((event : Event N B W) → Among happened event → LeavesCache event)
     → Run m w1 happened replied w2

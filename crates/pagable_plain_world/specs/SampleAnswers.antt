@@ -1,0 +1,74 @@
+-- Small worlds in which loads and workers answer, and what they answer.
+use Rattle.std.specs.Prelude.{ℕ, zero, suc, [], ◌∷◌, Option, Some, None, Ok}
+use Rattle.pagable_model.specs.declared.data_key.OptionalDataKey.TheVariants as optional
+use Rattle.pagable_model.specs.declared.numbers.ArcRef.{ArcRef}
+use Rattle.pagable_model.specs.declared.numbers.Identity.{Identity}
+use Rattle.pagable_model.specs.Blob.{Blob}
+use Rattle.pagable_model.specs.Deep.{longest_path}
+use Rattle.pagable_model.specs.Meaning.{Meaning, none, followed}
+use Rattle.pagable_model.specs.Shape as shapes
+use Rattle.pagable_model.specs.Trees.{Types, tree}
+use Rattle.pagable_world.specs.declared.events.LoadAnswer.TheVariants as ends
+use Rattle.pagable_world.specs.declared.events.Took.TheVariants as took
+use Rattle.pagable_world.specs.declared.events.WorkerAnswer.TheVariants as finals
+use Rattle.pagable_world.specs.declared.events.EventReply.{EventReply}
+use Rattle.pagable_world.specs.declared.events.EventReply.TheVariants as answers
+use Rattle.pagable_world.specs.Whole.{Whole, Written, WorkerRow, SlotRow, published}
+use Rattle.pagable_world.specs.Stands.{TreeWorld}
+use Rattle.pagable_plain_world.specs.Samples.{lone, first, first_node, all_of}
+use Rattle.pagable_plain_world.specs.SampleSeen.{referring, reading, first_table, first_worker, nothing_written, item_worker}
+use Rattle.pagable_plain_world.specs.SampleParts.{referring_load}
+
+-- a loose reference to a cell of the type 1, and an item of it
+abbrev pub nothing_reference : ArcRef
+nothing_reference = record { kind = record { 0 = 4 }; node = first_node; handle = first }
+
+abbrev pub nothing_identity : Identity
+nothing_identity = record { kind = record { 0 = 4 }; node = first_node }
+
+abbrev pub paged_item : Written
+paged_item = record { bytes = []; references = nothing_reference ∷ [] }
+
+-- its worker has answered this key, and the reference was paged out under it
+abbrev pub paged_slot : ℕ → SlotRow
+paged_slot key = record { table = first_table; reference = nothing_reference; worker = first_worker; written = Some nothing_written; outcome = published key 0 }
+
+abbrev pub paged_worker : ℕ → WorkerRow
+paged_worker key = record (item_worker paged_item) { answer = Some (finals.Key key) }
+
+abbrev pub paged : (ℕ → Option Blob) → ℕ → Whole
+paged stored key = record (lone stored) {
+  cells = record { number = 1; node_type = 1; key = optional.Some key } ∷ [];
+  workers = paged_worker key ∷ [];
+  slots = paged_slot key ∷ [];
+  last = record { node = 1; handle = 1; load = 0; table = 1; worker = 1 };
+}
+
+-- each node is of the type 1; and each leads down a path that is too long for an item
+abbrev pub nothing_trees : Whole → TreeWorld
+nothing_trees w = record { plain = w; tree = λ n. tree 1 none }
+
+unfoldable pub chain : ℕ → Meaning ⊥
+chain zero = none
+chain (suc n) = followed 5 (chain n)
+
+abbrev pub deep_trees : Whole → TreeWorld
+deep_trees w = record { plain = w; tree = λ n. tree 0 (chain longest_path) }
+
+-- a load answers a value; a worker answers a key, and publishes one
+abbrev pub read_reply : ℕ → EventReply ℕ Blob Written
+read_reply x = answers.LoadMoved (Ok (record { ended = Some (ends.Read x); steps = 2 }))
+
+abbrev pub answer_reply : ℕ → EventReply ℕ Blob Written
+answer_reply key = answers.WorkerMoved (Ok (record { took = took.Store None (Ok key); answer = Some (finals.Key key); steps = 1 }))
+
+abbrev pub publish_reply : ℕ → EventReply ℕ Blob Written
+publish_reply key = answers.WorkerMoved (Ok (record { took = took.Publish nothing_identity key 0; answer = None; steps = 1 }))
+
+-- a load of a key that takes one reference, after so many steps
+abbrev pub referring_steps : ℕ → ℕ → ℕ → Whole
+referring_steps key child steps = record (reading (all_of (referring child)) key 0 (referring child)) { loads = record (referring_load key child) { steps = steps } ∷ [] }
+
+-- values that are never read
+abbrev pub run_types : Types
+run_types = record { nodes = λ n. Some (shapes.run shapes.nothing); parts = λ n. shapes.nothing }
