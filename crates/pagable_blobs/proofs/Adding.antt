@@ -33,7 +33,7 @@ eqb-turned a b = elim (eqb_tells a b) [
   | inr f ↦ elim (eqb_tells b a) [ inl t ↦ absurd (f.1 (sym t.1)) | inr g ↦ f.0 ∙ sym g.0 ]
 ]
 
-abbrev Blobs : Type 0
+abbrev pub Blobs : Type 0
 Blobs = HashMap ℕ (Arc PagableData Global) (BuildHasherDefault FoldHasher)
 
 -- what stands under each key after an insertion

@@ -1,2 +1,3 @@
 pub mod Blobs
 pub mod Found
+pub mod Count

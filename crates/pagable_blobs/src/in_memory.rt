@@ -4,6 +4,7 @@ ghost use Rattle.std.specs.Prelude.{◌≡◌, ◌↔◌, ◌==◌, if◌then◌
 ghost use Rattle.pagable_model.specs.Gives.{memory};
 ghost use Rattle.pagable_core.specs.Data.{blob_of};
 ghost use Rattle.pagable_blobs.specs.Blobs.{stored_in};
+ghost use Rattle.pagable_blobs.specs.Count.{IsCount};
 ghost use Rattle.pagable_blobs.specs.Found.{IsFound};
 
 use pagable_codec::Env;
@@ -35,8 +36,10 @@ impl<E: Env> InMemoryBlobs<E> {
         }
     }
 
-    /// How many blobs are stored.
-    pub fn len(&self) -> usize {
+    /// How many blobs are stored, each under a key of its own.
+    pub fn len(&self) -> usize
+        ensures { IsCount (⟦<InMemoryBlobs<E> as PagableStorage<E>>⟧.stored self.now) result }
+    {
         self.blobs.len()
     }
 }

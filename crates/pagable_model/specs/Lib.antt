@@ -32,4 +32,3 @@ pub mod Tagged
 pub mod Session
 pub mod References
 pub mod ByteArrays
-pub mod Again

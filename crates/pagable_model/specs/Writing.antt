@@ -5,10 +5,9 @@ use Rattle.pagable_model.specs.declared.numbers.ArcRef.{ArcRef}
 use Rattle.pagable_model.specs.declared.numbers.PagableCursor.{PagableCursor}
 use Rattle.pagable_model.specs.Refusals.{is_writing_fault}
 use Rattle.pagable_model.specs.Meaning.{Meaning}
-use Rattle.pagable_model.specs.Keys.{Entry}
 use Rattle.pagable_model.specs.Shape.{Shape}
 use Rattle.pagable_model.specs.Reading.{deepest}
-use Rattle.pagable_model.specs.Form.{Form, Forms, Entries}
+use Rattle.pagable_model.specs.Form.{Form, Forms}
 
 -- the bytes, and the references in their order
 pub record Out : Type 0 where
@@ -32,9 +31,6 @@ FormAt n s m b k = Form ArcRef kind_of_arc n.parts (deepest - n.levels) s m b k
 
 abbrev pub FormsAt : Nesting → Shape → List (Meaning ArcRef) → List ℕ → List ArcRef → Type 0
 FormsAt n s ms b k = Forms ArcRef kind_of_arc n.parts (deepest - n.levels) s ms b k
-
-abbrev pub EntriesAt : Nesting → Shape → Shape → List (Entry ArcRef) → List ℕ → List ArcRef → Type 0
-EntriesAt n s t es b k = Entries ArcRef kind_of_arc n.parts (deepest - n.levels) s t es b k
 
 abbrev pub added : Out → List ℕ → List ArcRef → Out
 added out bytes refs = record { bytes = out.bytes ++ bytes; refs = out.refs ++ refs }

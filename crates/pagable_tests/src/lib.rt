@@ -1,6 +1,11 @@
-//! Tests of the crates below that are no data: cursors of readers and writers, references, laws, and the pager's calls.
+//! Tests of the crates below that are no data: cursors of readers and writers, byte arrays, second readings,
+//! references, laws, and the pager's calls.
 #![tactic(auto)]
 
+#[cfg(test)]
+mod again;
+#[cfg(test)]
+mod byte_arrays;
 #[cfg(test)]
 mod calls;
 #[cfg(test)]

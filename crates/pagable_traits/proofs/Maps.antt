@@ -19,9 +19,9 @@ use Rattle.pagable_model.specs.Meaning.{Meaning, pair, sequence, entry}
 use Rattle.pagable_model.specs.Keys.{Entry, KeyOrder, ordered, put_all, put_sorted, AllAfter, Apart, Ascends}
 use Rattle.pagable_model.specs.Shape.{Shape, both, sorted_map}
 use Rattle.pagable_model.specs.Carried.{of_entries}
-use Rattle.pagable_model.specs.Form.{Form, Forms, Entries, no-forms, more-forms, no-entries, more-entries, both-form, sorted-map-form}
+use Rattle.pagable_model.specs.Form.{Forms, Entries, no-forms, more-forms, no-entries, more-entries, both-form, sorted-map-form}
 use Rattle.pagable_model.specs.Reading.{Rest, Gets, Context, items, bytes_of, two, read, read_with}
-use Rattle.pagable_model.specs.Writing.{Out, Nesting, FormAt, FormsAt, EntriesAt, WritesSome, WritesSomeAll, added, kind_of_arc, NoForm, NoForms, NoFormOfSome, NoFormsOfSome, Refused, RefusedAll, Grows}
+use Rattle.pagable_model.specs.Writing.{Out, Nesting, FormAt, FormsAt, WritesSome, WritesSomeAll, added, kind_of_arc, NoFormOfSome, NoFormsOfSome, Refused, RefusedAll, Grows}
 use Rattle.pagable_model.specs.Standing.{Gave, SomeMeaning}
 use Rattle.pagable_model.specs.Collected.{Collected}
 use Rattle.pagable_model.specs.Lifted.{MeanAll, mean-none, mean-more, MeansList, MeansPair, items_have_meanings}

@@ -1,6 +1,5 @@
 -- Values that hold others: what writing their parts one after another adds, and what reading them so gives.
-use Rattle.std.proofs.Common.{◌≡◌, ℕ, true, false, subst, List, [], ◌∷◌, ◌++◌, refl, sym, ◌∙◌, Result, Ok, Err, Some, None, inl, inr}
-use Rattle.std.proofs.lemmas.List.{append-nil}
+use Rattle.std.proofs.Common.{◌≡◌, ℕ, true, false, subst, [], ◌∷◌, ◌++◌, refl, sym, ◌∙◌, Result, Ok, Err, Some, None, inl, inr}
 use Rattle.std.specs.Prelude.{IfErr, IsTrue}
 use Rattle.pagable_model.specs.declared.error.Error.{Error}
 use Rattle.pagable_model.specs.declared.numbers.ArcRef.{ArcRef}
@@ -12,10 +11,10 @@ use Rattle.pagable_model.specs.Lengths.{long_or_memory}
 use Rattle.pagable_model.specs.Meaning.{Meaning, pair, absent, present}
 use Rattle.pagable_model.specs.Shape.{Shape, optional, both}
 use Rattle.pagable_model.specs.Form.{none-form, some-form, both-form}
-use Rattle.pagable_model.specs.Writing.{Out, Nesting, WritesSome, Grows, added, NoForm, Refused, IsRefusal}
+use Rattle.pagable_model.specs.Writing.{Out, Nesting, WritesSome, added, NoForm, Refused, IsRefusal}
 use Rattle.pagable_model.specs.Standing.{Gave, SomeMeaning}
 use Rattle.pagable_model.specs.Lifted.{MeansOption, means-none, means-some, MeansPair}
-use Rattle.pagable_codec.proofs.Writing.{out_is, then}
+use Rattle.pagable_codec.proofs.Writing.{then}
 
 -- ---- causes
 

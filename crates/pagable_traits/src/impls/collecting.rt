@@ -1,6 +1,6 @@
 //! What items are put into one after another as they are read: lists, maps and sets.
 
-ghost use Rattle.std.specs.Prelude.{◌≡◌, List, [], OnOk, IfOk, IfErr};
+ghost use Rattle.std.specs.Prelude.{◌≡◌, ℕ, List, [], OnOk, IfOk, IfErr};
 ghost use Rattle.pagable_model.specs.Gives.{memory, memory_or};
 ghost use Rattle.pagable_model.specs.Reading.{items, read};
 ghost use Rattle.pagable_model.specs.Standing.{handles_at, MovesOn, GivesSome};
@@ -21,9 +21,13 @@ pub trait Collects<T>: Sized {
     // What it holds once one more item was put in.
     ghost put: { List T → T → List T };
 
+    // That it has room for so many items more, where it keeps room.
+    ghost has_room: { Self → ℕ → Type 0 };
+
     /// Nothing, with room for so many items where it keeps room. Refused by want of memory alone.
     fn with_places(alloc: Global, places: usize) -> Result<Self, Error>
         ensures empty { IfOk result (λ c. held c ≡ []) }
+        ensures room { IfOk result (λ c. has_room c places) }
         ensures only { IfErr result memory };
 
     /// Puts one more item in. Refused by want of memory alone.

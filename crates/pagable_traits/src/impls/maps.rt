@@ -66,6 +66,8 @@ impl<K: Ord + Drop, V: Drop> Collects<(K, V)> for BTreeMap<K, V> {
 
     ghost put = { λ es e. insert_entry K.cmp es e.0 e.1 };
 
+    ghost has_room = { λ m n. Unit {0} };
+
     fn with_places(alloc: Global, _places: usize) -> Result<Self, Error> {
         Ok(BTreeMap::new(alloc))
     }

@@ -1,7 +1,7 @@
 //! Maps in order of arrival.
 
-ghost use Rattle.std.specs.Prelude.{◌≡◌, map, OnOk, IfErr};
-ghost use Rattle.indexmap.specs.IndexMap.{insert_entry};
+ghost use Rattle.std.specs.Prelude.{◌≡◌, ◌≤◌, map, OnOk, IfErr};
+ghost use Rattle.indexmap.specs.IndexMap.{insert_entry, spare};
 ghost use Rattle.pagable_model.specs.Gives.{memory_or, either};
 ghost use Rattle.pagable_model.specs.Meaning.{pair, sequence};
 ghost use Rattle.pagable_model.specs.Shape.{both, placed_map};
@@ -48,6 +48,8 @@ impl<K: Eq + Hash + Drop, V: Drop> Collects<(K, V)> for IndexMap<K, V> {
     ghost held = { λ m. m.entries };
 
     ghost put = { λ es e. insert_entry K.eq es e.0 e.1 };
+
+    ghost has_room = { λ m n. n ≤ spare m };
 
     fn with_places(alloc: Global, places: usize) -> Result<Self, Error> {
         Ok(IndexMap::with_capacity(alloc, places)?)

@@ -1,6 +1,6 @@
 //! Sets.
 
-ghost use Rattle.std.specs.Prelude.{◌≡◌, map, OnOk, IfErr};
+ghost use Rattle.std.specs.Prelude.{◌≡◌, ◌≤◌, map, OnOk, IfErr};
 ghost use Rattle.std.specs.BTreeSet.{insert_key};
 ghost use Rattle.indexmap.specs.IndexSet as placed;
 ghost use Rattle.pagable_model.specs.Gives.{memory_or};
@@ -47,6 +47,8 @@ impl<T: Ord + Drop> Collects<T> for BTreeSet<T> {
     ghost held = { λ s. s.keys };
 
     ghost put = { λ ys y. insert_key T.cmp ys y };
+
+    ghost has_room = { λ s n. Unit {0} };
 
     fn with_places(alloc: Global, _places: usize) -> Result<Self, Error> {
         Ok(BTreeSet::new(alloc))
@@ -111,6 +113,8 @@ impl<T: Eq + Hash + Drop> Collects<T> for IndexSet<T> {
     ghost held = { λ s. s.keys };
 
     ghost put = { λ ys y. placed.insert_key T.eq ys y };
+
+    ghost has_room = { λ s n. n ≤ placed.spare s };
 
     fn with_places(alloc: Global, places: usize) -> Result<Self, Error> {
         Ok(IndexSet::with_capacity(alloc, places)?)

@@ -1,6 +1,6 @@
 //! Lists whose first items are kept in the value.
 
-ghost use Rattle.std.specs.Prelude.{◌++◌, ◌∷◌, [], map};
+ghost use Rattle.std.specs.Prelude.{◌≤◌, ◌++◌, ◌∷◌, [], map};
 ghost use Rattle.pagable_model.specs.Gives.{memory_or};
 ghost use Rattle.pagable_model.specs.Meaning.{sequence};
 ghost use Rattle.pagable_model.specs.Shape.{list};
@@ -23,6 +23,8 @@ impl<T: MadeWith<Global> + Drop, const N: usize> Collects<T> for SmallVec<T, N> 
     ghost held = { λ v. v.items };
 
     ghost put = { λ xs x. xs ++ x ∷ [] };
+
+    ghost has_room = { λ v n. n ≤ v.capacity };
 
     fn with_places(alloc: Global, places: usize) -> Result<Self, Error> {
         Ok(SmallVec::with_capacity(alloc, places)?)

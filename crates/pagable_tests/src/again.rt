@@ -1,0 +1,41 @@
+//! A value is read twice from one place.
+
+use pagable::{
+    Error, NoReferences, PagableDeserializer, PagableDeserializerImpl, WeighHash, read_twice,
+};
+use pagable_samples::TextEnv;
+use std::alloc::Global;
+
+type AnyEnv = TextEnv<WeighHash>;
+
+/// What two readings of a number after the first byte give, and how many bytes were read then.
+fn after_a_byte(alloc: Global, input: &[u8]) -> (Result<u16, Error>, Result<u16, Error>, usize) {
+    let env = AnyEnv::new();
+    let mut source = PagableDeserializerImpl::new(input, &[], NoReferences::new(&env));
+    let _byte = PagableDeserializer::<AnyEnv>::serde(&mut source).read_u8();
+    let (first, second) = read_twice::<AnyEnv, u16, _>(alloc, &mut source);
+    let place = PagableDeserializer::<AnyEnv>::position(&source).byte_pos;
+    (first, second, place)
+}
+
+#[test]
+fn a_number_is_read_twice(rt: HostRuntime) {
+    // 172 - 128 + 2 · 128 is 300.
+    let read = after_a_byte(rt.alloc(), &[9, 172, 2, 7]);
+    assert_eq!(rt; read, (Ok(300), Ok(300), 3));
+}
+
+#[test]
+fn a_fault_is_met_twice(rt: HostRuntime) {
+    // A last byte of 4 would stand for 65,536.
+    let read = after_a_byte(rt.alloc(), &[9, 255, 255, 4, 7]);
+    assert_eq!(rt;
+        (read.0, read.1),
+        (Err(Error::BadVarint), Err(Error::BadVarint))
+    );
+    let read = after_a_byte(rt.alloc(), &[9, 172]);
+    assert_eq!(rt;
+        (read.0, read.1),
+        (Err(Error::UnexpectedEnd), Err(Error::UnexpectedEnd))
+    );
+}

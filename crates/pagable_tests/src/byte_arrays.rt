@@ -1,0 +1,42 @@
+//! Byte arrays: a length, and so many bytes.
+
+use pagable::{Error, PagableSlice, PagableVecFlavor};
+use std::test::Fail;
+
+#[test]
+fn byte_arrays_are_written_and_read(rt: HostRuntime) -> Result<(), Fail> {
+    let rows: [(&[u8], &[u8]); 3] = [
+        (&[], &[0]),
+        (&[97], &[1, 97]),
+        (&[1, 2, 255], &[3, 1, 2, 255]),
+    ];
+    for (array, form) in rows {
+        let mut writer = PagableVecFlavor::new(rt.alloc());
+        writer.write_bytes(array)?;
+        writer.try_push(7)?;
+        let written = writer.finalize();
+        let mut reader = PagableSlice::new(written.as_slice());
+        assert_eq!(rt; reader.read_bytes(), Ok(array));
+        assert_eq!(rt; reader.finalize(), [7].as_slice());
+        assert_eq!(rt; written.as_slice().strip_suffix(&[7]), Some(form));
+    }
+    Ok(())
+}
+
+#[test]
+fn byte_arrays_are_refused(rt: HostRuntime) {
+    let rows: [(&[u8], Error); 5] = [
+        (&[], Error::UnexpectedEnd),
+        (&[2, 97], Error::UnexpectedEnd),
+        (&[255, 255, 255, 255, 15], Error::UnexpectedEnd),
+        (&[128, 128, 128, 128, 16], Error::TooLong),
+        (
+            &[128, 128, 128, 128, 128, 128, 128, 128, 128, 2],
+            Error::BadVarint,
+        ),
+    ];
+    for (input, refusal) in &rows {
+        let read = PagableSlice::new(input).read_bytes();
+        assert_eq!(rt; read.err().as_ref(), Some(refusal));
+    }
+}
