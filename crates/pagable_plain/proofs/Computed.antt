@@ -16,8 +16,9 @@ use Rattle.pagable_model.specs.Blob.{preimage, weight}
 use Rattle.pagable_model.specs.Deep.{kid, deep, folded}
 use Rattle.pagable_model.specs.Merkle.{unfolded, key-of, no-keys, more-keys}
 use Rattle.pagable_model.specs.Canonical.{IsReadable, IsCanonical, HasNoCase, LiesIn, unwritten, throughout-in}
-use Rattle.pagable_plain.specs.Rows.{NumbersAreSpelled, NumbersAreRead, CasesAreSpelled, ListsAreSpelled, MapsAreRead, JsonIsRead, KeysAreWeighed, TextsAreRead, DurationsAreRead, NamedTypesAreRead, RegistriesAreRead, ReferencesTakeKeys, UnknownTagsAreWritten, ReferencesAreFollowed, TreesHaveKeys, ShapesAreMet, only_cat, cats, chain}
-use Rattle.pagable_plain.specs.Samples.{no_parts}
+use Rattle.pagable_plain.specs.Rows.{NumbersAreSpelled, NumbersAreRead, CasesAreSpelled, ListsAreSpelled, MapsAreRead, JsonIsRead, KeysAreWeighed, TextsAreRead, DurationsAreRead, NamedTypesAreRead, RegistriesAreRead, ReferencesTakeKeys, UnknownTagsAreWritten, ReferencesAreFollowed, TreesHaveKeys, ShapesAreMet, only_cat, chain}
+use Rattle.pagable_plain.specs.Registries.{cats}
+use Rattle.pagable_plain.specs.Gathered.{no_parts}
 
 pub numbers_spelled : NumbersAreSpelled
 unfolding varint

@@ -19,6 +19,12 @@ mod AnyOrder
 mod JsonNumbers
 mod Inside
 mod Limits
+mod Gathering
+mod Appending
+mod ListSteps
+mod Places
+mod MapSteps
+mod Registries
 mod Spelled
 mod Weights
 mod Computed

@@ -3,7 +3,7 @@ use Rattle.std.proofs.Common.{◌≡◌, ℕ, ℤ, ◌<◌, ◌≤◌, ◌^◌, 
 use Rattle.std.specs.Int.{w8, w16, w64}
 use Rattle.std.specs.Char.{IsScalar}
 use Rattle.std.specs.Str.{IsUtf8}
-use Rattle.std.specs.Prelude.{OnOk}
+use Rattle.std.specs.Prelude.{OnOk, IfErr}
 use Rattle.std.specs.String.{string_bytes}
 use Rattle.std.specs.declared.string.String.{String}
 use Rattle.pagable_model.specs.declared.error.Error.{Error}
@@ -17,7 +17,9 @@ use Rattle.pagable_model.specs.Meaning as meanings
 use Rattle.pagable_model.specs.Shape.{unsigned, optional}
 use Rattle.pagable_model.specs.Carried.{of_option}
 use Rattle.pagable_model.specs.Form.{unsigned-form, signed-form, flag-form, text-form, letter-form, duration-form, none-form, some-form, ok-form, err-form}
-use Rattle.pagable_plain.specs.Samples.{Spells, WritesSample, IsMaybe, maybe_form, IsAttempt, attempt_form}
+use Rattle.pagable_model.specs.Reading.{deepest}
+use Rattle.pagable_plain.specs.Appended.{Appends, NoneWhere}
+use Rattle.pagable_plain.specs.Samples.{Spells, shape_of, sort_of, meaning_of, HasNoForm, WritesSample, IsMaybe, maybe_form, IsAttempt, attempt_form}
 
 on_ok : {X P Q : Type 0} (r : Result X Error) → (P → Q) → OnOk r P → OnOk r Q
 on_ok (Ok x) f p = f p
@@ -31,6 +33,10 @@ maybe-form (Some n) h = some-form _ _ _ _ _ (unsigned-form _ w8 n h)
 module _ {X : Type 0} (r : Result X Error) (v : Sample) (old new : List ℕ) where
   known : (w : Sample) → v ≡ w → OnOk r (WritesSample w old new) → OnOk r (WritesSample v old new)
   known w e h = let P : Sample → Type 0 = λ x. OnOk r (WritesSample x old new) in subst P (sym e) h
+
+  -- a form that a part appended
+  pub written_part : (w : Sample) → v ≡ w → OnOk r (Appends deepest (shape_of (sort_of w)) (meaning_of w) old new) → OnOk r (WritesSample v old new)
+  written_part w e f = known w e (on_ok r (λ g. record { bytes = g.bytes; form = g.form; grown = g.grown }) f)
 
   pub written_byte : (n : ℕ) → v ≡ values.Byte n → OnOk r ((n < 2 ^ 8) × (new ≡ old ++ n ∷ [])) → OnOk r (WritesSample v old new)
   written_byte n e f = known (values.Byte n) e (on_ok r (λ g. record { bytes = n ∷ []; form = unsigned-form _ w8 n g.0; grown = g.1 }) f)
@@ -65,3 +71,8 @@ module _ {X : Type 0} (r : Result X Error) (v : Sample) (old new : List ℕ) whe
   pub written_attempt : (a : Result (String Global) (String Global)) → v ≡ values.Attempt a → OnOk r (IsAttempt a × (new ≡ old ++ attempt_form a)) → OnOk r (WritesSample v old new)
   written_attempt (Ok t) e f = known (values.Attempt (Ok t)) e (on_ok r (λ g. record { bytes = attempt_form (Ok t); form = ok-form _ _ _ _ _ _ (text-form _ (string_bytes t) g.0.0 g.0.1); grown = g.1 }) f)
   written_attempt (Err t) e f = known (values.Attempt (Err t)) e (on_ok r (λ g. record { bytes = attempt_form (Err t); form = err-form _ _ _ _ _ _ (text-form _ (string_bytes t) g.0.0 g.0.1); grown = g.1 }) f)
+
+-- what has no form, in the words of a value
+pub refused_part : {X : Type 0} (r : Result X Error) (v w : Sample) → v ≡ w → IfErr r (NoneWhere deepest (shape_of (sort_of w)) (meaning_of w)) → IfErr r (HasNoForm v)
+refused_part (Ok x) v w is h = tt
+refused_part (Err e) v w is h = λ fault bytes form. h fault bytes [] (let P : Sample → Type 0 = λ x. Spells (shape_of (sort_of x)) (meaning_of x) bytes in subst P is form)

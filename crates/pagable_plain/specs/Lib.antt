@@ -2,5 +2,10 @@ pub mod Laws
 pub mod TreeLaws
 pub mod KeyLaws
 pub mod JsonLaws
+pub mod Gathered
+pub mod Lists
+pub mod Maps
+pub mod Registries
+pub mod Appended
 pub mod Samples
 pub mod Rows

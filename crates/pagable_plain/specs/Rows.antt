@@ -19,7 +19,9 @@ use Rattle.pagable_model.specs.Deep.{kid, deep, longest_path}
 use Rattle.pagable_model.specs.Merkle.{blob_of, KeyOf}
 use Rattle.pagable_model.specs.Canonical.{IsCanonical, IsReadable, Throughout, unwritten}
 use Rattle.pagable_plain.specs.Laws.{rest}
-use Rattle.pagable_plain.specs.Samples.{no_parts, reads, Spells}
+use Rattle.pagable_plain.specs.Gathered.{no_parts}
+use Rattle.pagable_plain.specs.Registries.{words, cats}
+use Rattle.pagable_plain.specs.Samples.{reads, Spells}
 
 -- these bytes, read as this, are refused so, or mean that and leave this
 abbrev pub IsRefused : Shape → List ℕ → Error → Type 0
@@ -142,18 +144,14 @@ NamedTypesAreRead =
     × Means (list (unsigned w8)) (0x02 ∷ 0x01 ∷ 0x02 ∷ []) (of_list number (1 ∷ 2 ∷ [])) []
     × Means (sorted_map integer_order (signed w16) (unsigned w8)) (0x02 ∷ 0x02 ∷ 0x05 ∷ 0x01 ∷ 0x06 ∷ []) (sequence (pair (integer (negsuc 0)) (number 6) ∷ pair (integer (pos 1)) (number 5) ∷ [])) []
 
--- the empty one, hello, world
-abbrev pub static_bytes : List (Meaning ⊥)
-static_bytes = text [] ∷ text (codes "hello") ∷ text (codes "world") ∷ []
-
 abbrev pub RegistriesAreRead : Type 0
 RegistriesAreRead =
-    Spells (static_value static_bytes) (text (codes "hello")) (0x01 ∷ [])
-    × Spells (static_value static_bytes) (text (codes "world")) (0x02 ∷ [])
-    × Spells (static_value static_bytes) (text []) (0x00 ∷ [])
-    × IsRefused (static_value static_bytes) (0x03 ∷ []) errors.BadStaticIndex
-    × Means (tagged_by only_cat ((codes "Cat", nothing) ∷ [])) (0x03 ∷ 0x43 ∷ 0x61 ∷ 0x74 ∷ []) (of_tagged (codes "Cat") none) []
-    × IsRefused (tagged_by only_cat ((codes "Cat", nothing) ∷ [])) (0x03 ∷ 0x44 ∷ 0x6F ∷ 0x67 ∷ []) errors.UnknownTag
+    Spells (static_value words) (text (codes "hello")) (0x01 ∷ [])
+    × Spells (static_value words) (text (codes "world")) (0x02 ∷ [])
+    × Spells (static_value words) (text []) (0x00 ∷ [])
+    × IsRefused (static_value words) (0x03 ∷ []) errors.BadStaticIndex
+    × Means (tagged_by only_cat cats) (0x03 ∷ 0x43 ∷ 0x61 ∷ 0x74 ∷ []) (of_tagged (codes "Cat") none) []
+    × IsRefused (tagged_by only_cat cats) (0x03 ∷ 0x44 ∷ 0x6F ∷ 0x67 ∷ []) errors.UnknownTag
     × Means (tagged_by only_cat ((codes "Cat", nothing) ∷ (codes "Cat", unsigned w8) ∷ [])) (0x03 ∷ 0x43 ∷ 0x61 ∷ 0x74 ∷ 0x05 ∷ []) (of_tagged (codes "Cat") (number 5)) []
 
 abbrev pub ReferencesTakeKeys : Type 0
@@ -198,10 +196,6 @@ TreesHaveKeys = KeyOf weigh_hash links (tree 1 (present (followed 4 absent))) 20
 -- a type that contains itself: a number, and maybe another one level further down
 abbrev pub chain : ℕ → Shape
 chain n = shapes.both (unsigned w8) (optional (nested 0))
-
--- one registration, of the tag Cat
-abbrev pub cats : List (List ℕ × Shape)
-cats = (codes "Cat", nothing) ∷ []
 
 -- what is asked of shapes can be met
 abbrev pub ShapesAreMet : Type 0

@@ -4,7 +4,7 @@ use Rattle.std.specs.declared.string.String.{String}
 use Rattle.std.specs.declared.alloc.Global.{Global}
 use Rattle.std.specs.Str.{IsUtf8}
 use Rattle.pagable_model.specs.Basic.{longest, text_form}
-use Rattle.std.specs.Int.{w8, w16, w64}
+use Rattle.std.specs.Int.{w8, w16, w32, w64}
 use Rattle.std.specs.String.{string_bytes}
 use Rattle.pagable_model.specs.declared.error.Error.{Error}
 use Rattle.pagable_plain.specs.declared.samples.Sample.{Sample}
@@ -12,23 +12,23 @@ use Rattle.pagable_plain.specs.declared.samples.Sample.TheVariants as values
 use Rattle.pagable_plain.specs.declared.samples.Sort.{Sort}
 use Rattle.pagable_plain.specs.declared.samples.Sort.TheVariants as sorts
 use Rattle.pagable_model.specs.Refusals.{is_writing_fault}
-use Rattle.pagable_model.specs.Meaning.{Meaning, number, integer}
+use Rattle.pagable_model.specs.Meaning.{Meaning, number, integer, sequence}
 use Rattle.pagable_model.specs.Meaning as meanings
-use Rattle.pagable_model.specs.Carried.{of_option, of_result, of_duration}
-use Rattle.pagable_model.specs.Shape.{Shape, nothing, unsigned, signed, flag, text, letter, duration, optional, outcome}
-use Rattle.pagable_model.specs.Reading.{Rest, read, deepest}
+use Rattle.pagable_model.specs.Carried.{of_option, of_result, of_duration, of_entries}
+use Rattle.pagable_model.specs.Shape.{Shape, unsigned, signed, flag, text, letter, duration, optional, outcome, list}
+use Rattle.pagable_model.specs.Reading.{Rest, deepest}
 use Rattle.pagable_model.specs.Form.{Form}
-use Rattle.pagable_model.specs.Trees.{KeyRef, key_ref}
+use Rattle.pagable_model.specs.Trees.{KeyRef}
 use Rattle.pagable_model.specs.Merkle.{kind_of_ref}
-use Rattle.pagable_plain.specs.Laws.{rest, at}
-
--- an environment without numbered parts
-abbrev pub no_parts : ℕ → Shape
-no_parts n = nothing
+use Rattle.pagable_plain.specs.Laws.{rest}
+use Rattle.pagable_plain.specs.Gathered.{no_parts, part}
+use Rattle.pagable_plain.specs.Lists.{numbers_of}
+use Rattle.pagable_plain.specs.Maps.{text_entries, byte_entries, placed_bytes, sorted_bytes}
+use Rattle.pagable_plain.specs.Registries.{word_meaning, tag_meaning, a_word, a_tag}
 
 -- these bytes, read with no key at no level
 abbrev pub reads : Shape → List ℕ → Result (Meaning KeyRef × Rest ℕ) Error
-reads s bytes = read (at 0 (λ kind key. Ok (key_ref kind key)) no_parts) s (rest bytes [])
+reads s bytes = part s (rest bytes [])
 
 -- the bytes are a form without references
 abbrev pub Spells : Shape → Meaning KeyRef → List ℕ → Type 0
@@ -46,6 +46,11 @@ shape_of sorts.Letter = letter
 shape_of sorts.Time = duration
 shape_of sorts.Maybe = optional (unsigned w8)
 shape_of sorts.Attempt = outcome text text
+shape_of sorts.Numbers = list (signed w32)
+shape_of sorts.Placed = placed_bytes
+shape_of sorts.Sorted = sorted_bytes
+shape_of sorts.Static = a_word
+shape_of sorts.Tagged = a_tag
 
 -- which sort a value is of
 abbrev pub sort_of : Sample → Sort
@@ -59,6 +64,11 @@ sort_of (values.Letter c) = sorts.Letter
 sort_of (values.Time s) = sorts.Time
 sort_of (values.Maybe o) = sorts.Maybe
 sort_of (values.Attempt r) = sorts.Attempt
+sort_of (values.Numbers v) = sorts.Numbers
+sort_of (values.Placed m) = sorts.Placed
+sort_of (values.Sorted m) = sorts.Sorted
+sort_of (values.Static w) = sorts.Static
+sort_of (values.Tagged t) = sorts.Tagged
 
 -- what a value means
 abbrev pub meaning_of : Sample → Meaning KeyRef
@@ -72,6 +82,11 @@ meaning_of (values.Letter c) = number c
 meaning_of (values.Time s) = of_duration s.seconds s.nanos
 meaning_of (values.Maybe o) = of_option number o
 meaning_of (values.Attempt r) = of_result (λ t. meanings.text (string_bytes t)) (λ t. meanings.text (string_bytes t)) r
+meaning_of (values.Numbers v) = sequence (numbers_of v.items)
+meaning_of (values.Placed m) = of_entries (text_entries m.entries.items)
+meaning_of (values.Sorted m) = of_entries (byte_entries m.entries.items)
+meaning_of (values.Static w) = word_meaning w
+meaning_of (values.Tagged t) = tag_meaning (string_bytes t)
 
 -- a flag, and the byte where it is true
 abbrev pub maybe_form : Option ℕ → List ℕ

@@ -5,11 +5,16 @@
 pub mod blobs;
 pub mod examples;
 pub mod laws;
+mod lists;
+pub mod maps;
 mod plain_reader;
 mod plain_writer;
+pub mod registered;
 pub mod samples;
 pub mod spans;
 
 pub use blobs::{preimage, weighed_key};
+pub use maps::{PlacedMap, SortedMap};
+pub use registered::Word;
 pub use samples::{Sample, Sort, read_sample, write_sample};
 pub use spans::Span;

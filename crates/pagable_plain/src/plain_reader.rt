@@ -1,8 +1,9 @@
 //! What stands at the front of some bytes, with the bytes after it.
 
-ghost use Rattle.std.specs.Prelude.{◌≡◌, ◌≤◌, ◌<◌, ◌^◌, IfOk};
+ghost use Rattle.std.specs.Prelude.{◌≡◌, ◌≤◌, ◌<◌, ◌^◌, IfOk, FitsSigned};
+ghost use Rattle.std.specs.Int.{w32};
 ghost use Rattle.pagable_model.specs.Gives.{Gives, never};
-ghost use Rattle.pagable_model.specs.Numbers.{varint_at, varint_limit, byte_at, from_zigzag};
+ghost use Rattle.pagable_model.specs.Numbers.{varint_at, varint_limit, byte_at, from_zigzag, signed_at};
 ghost use Rattle.pagable_model.specs.Basic.{bool_at, bytes_at, length_at, text_at, char_at, duration_at};
 
 use pagable_model::Error;
@@ -47,6 +48,25 @@ pub(crate) fn signed_from(number: u64) -> i64
 {
     let half = (number / 2) as i64;
     if number % 2 == 0 { half } else { -1 - half }
+}
+
+// The number of 32 bits with a sign that this one stands for.
+fn narrow_signed_from(number: u64) -> i32
+    requires { number < 2 ^ 32 }
+    ensures { result ≡ from_zigzag number }
+{
+    let half = (number / 2) as i32;
+    if number % 2 == 0 { half } else { -1 - half }
+}
+
+// The next number of 32 bits with a sign.
+#[tactic(auto, using(crate::proofs::Limits::limits))]
+pub(crate) fn next_i32(bytes: &[u8]) -> Result<(i32, &[u8]), Error>
+    ensures gives { Gives never (λ x. (x.0, x.1.now)) result (signed_at w32 bytes.now) }
+    ensures fits { IfOk result (λ x. FitsSigned w32 x.0) }
+{
+    let (number, after) = next_varint(bytes, 4, 15)?;
+    Ok((narrow_signed_from(number), after))
 }
 
 // The next flag.

@@ -1,11 +1,11 @@
 //! Appends to bytes. What a refusal leaves is what was appended until then.
 
 ghost use Rattle.std.specs.Prelude.{◌≡◌, ◌<◌, ◌^◌, ◌++◌, ◌∷◌, ◌⊎◌, ◌≤◌, [], length, OnOk, IfErr};
-ghost use Rattle.std.specs.Int.{w16, w64};
+ghost use Rattle.std.specs.Int.{w16, w32, w64};
 ghost use Rattle.std.specs.Char.{IsScalar};
 ghost use Rattle.pagable_model.specs.Gives.{memory};
 ghost use Rattle.pagable_model.specs.Numbers.{varint, varint_limit, zigzag, IsSigned, unsigned_form, signed_form};
-ghost use Rattle.pagable_model.specs.Basic.{longest, bool_form, text_form, char_form, duration_form};
+ghost use Rattle.pagable_model.specs.Basic.{longest, bool_form, length_form, text_form, char_form, duration_form};
 
 use crate::plain_reader::LONGEST;
 use pagable_model::Error;
@@ -78,6 +78,38 @@ pub(crate) fn write_i64(out: &mut Vec<u8>, number: &i64) -> Result<(), Error>
     ensures only { IfErr result memory }
 {
     write_varint(out, 9, unsigned_of(*number))
+}
+
+// The number of 32 bits without a sign that stands for this one.
+fn narrow_unsigned_of(number: i32) -> u32
+    ensures { result ≡ zigzag number }
+{
+    if number >= 0 {
+        2 * number as u32
+    } else {
+        2 * (-1 - number) as u32 + 1
+    }
+}
+
+// A number of 32 bits with a sign.
+#[tactic(auto, using(crate::proofs::Limits::writer_steps))]
+pub(crate) fn write_i32(out: &mut Vec<u8>, number: &i32) -> Result<(), Error>
+    ensures ok { OnOk result (IsSigned w32 number.now × (out.new.items ≡ out.old.items ++ signed_form w32 number.now)) }
+    ensures only { IfErr result memory }
+{
+    write_varint(out, 4, u64::from(narrow_unsigned_of(*number)))
+}
+
+// A length. `TooLong` where it is above 4,294,967,295.
+#[tactic(auto, using(crate::proofs::Limits::writer_steps))]
+pub(crate) fn write_length(out: &mut Vec<u8>, length: usize) -> Result<(), Error>
+    ensures ok { OnOk result ((length ≤ longest) × (out.new.items ≡ out.old.items ++ length_form length)) }
+    ensures too_long { IfErr result (λ e. ((e ≡ Error.TooLong) × (longest < length)) ⊎ memory e) }
+{
+    if length as u64 > LONGEST {
+        return Err(Error::TooLong);
+    }
+    write_varint(out, 9, length as u64)
 }
 
 // A flag.

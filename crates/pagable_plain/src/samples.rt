@@ -6,6 +6,8 @@ ghost use Rattle.pagable_model.specs.Basic.{longest};
 ghost use Rattle.pagable_plain.specs.Laws.{rest};
 ghost use Rattle.pagable_plain.specs.Samples.{reads, shape_of, meaning_of, IsMaybe, maybe_form, IsAttempt, attempt_text, attempt_form, WritesSample, HasNoForm};
 
+use crate::lists::{read_numbers, write_numbers};
+use crate::maps::{PlacedMap, SortedMap, read_placed, read_sorted, write_placed, write_sorted};
 use crate::plain_reader::{
     next_bool, next_byte, next_char, next_duration, next_text, next_varint, signed_from,
 };
@@ -13,6 +15,7 @@ use crate::plain_writer::{
     push_all, push_byte, write_bool, write_char, write_duration, write_i64, write_text, write_u16,
     write_u64,
 };
+use crate::registered::{Word, read_tag, read_word, write_tag, write_word};
 use crate::spans::Span;
 use pagable_model::Error;
 use std::alloc::Global;
@@ -30,6 +33,11 @@ pub enum Sample {
     Time(Span),
     Maybe(Option<u8>),
     Attempt(Result<String, String>),
+    Numbers(Vec<i32>),
+    Placed(PlacedMap),
+    Sorted(SortedMap),
+    Static(Word),
+    Tagged(String),
 }
 
 /// Which small value is wanted.
@@ -45,6 +53,11 @@ pub enum Sort {
     Time,
     Maybe,
     Attempt,
+    Numbers,
+    Placed,
+    Sorted,
+    Static,
+    Tagged,
 }
 
 // A text or its refusal, after a flag that says which.
@@ -133,6 +146,26 @@ pub fn read_sample(alloc: Global, sort: Sort, bytes: &[u8]) -> Result<(Sample, &
         Sort::Time => read_time(bytes)?,
         Sort::Maybe => read_maybe(bytes)?,
         Sort::Attempt => read_attempt(alloc, bytes)?,
+        Sort::Numbers => {
+            let (numbers, after) = read_numbers(alloc, bytes)?;
+            (Sample::Numbers(numbers), after)
+        }
+        Sort::Placed => {
+            let (map, after) = read_placed(alloc, bytes)?;
+            (Sample::Placed(map), after)
+        }
+        Sort::Sorted => {
+            let (map, after) = read_sorted(alloc, bytes)?;
+            (Sample::Sorted(map), after)
+        }
+        Sort::Static => {
+            let (word, after) = read_word(bytes)?;
+            (Sample::Static(word), after)
+        }
+        Sort::Tagged => {
+            let (tag, after) = read_tag(alloc, bytes)?;
+            (Sample::Tagged(tag), after)
+        }
     };
     Ok((sample, after))
 }
@@ -183,5 +216,10 @@ pub fn write_sample(out: &mut Vec<u8>, sample: &Sample) -> Result<(), Error>
         Sample::Time(span) => write_duration(out, span.seconds, span.nanos),
         Sample::Maybe(value) => write_maybe(out, *value),
         Sample::Attempt(value) => write_attempt(out, value),
+        Sample::Numbers(numbers) => write_numbers(out, numbers.as_slice()),
+        Sample::Placed(map) => write_placed(out, map),
+        Sample::Sorted(map) => write_sorted(out, map),
+        Sample::Static(word) => write_word(out, *word),
+        Sample::Tagged(tag) => write_tag(out, tag.as_str()),
     }
 }

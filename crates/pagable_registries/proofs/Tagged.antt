@@ -221,3 +221,7 @@ distinct_is_readable written rs distinct reads = (
 )
 
 pub ruleset laws = (distinct_is_readable)
+
+-- a tagged value means something where its body does
+pub tagged_means : {T : Type 0} (tag : T → List ℕ) (body : T → Meaning ArcRef → Type 0) → ((x : T) → SomeMeaning (body x)) → (x : T) → SomeMeaning (MeansTagged (tag x) (body x))
+tagged_means tag body has x = (of_tagged (tag x) (has x).0, record { body = (has x).0; is_body = (has x).1; is = refl })

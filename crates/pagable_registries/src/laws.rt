@@ -1,4 +1,4 @@
-//! What static values mean and how they are spelled, as laws that callers can cite: each is a function that does
+//! What static and tagged values mean and how they are spelled, as laws that callers can cite: each is a function that does
 //! nothing, whose contract holds for every environment and every value.
 
 ghost use Rattle.std.specs.Prelude.{◌≡◌, ◌↔◌, ℕ, Some, Ok};
@@ -9,12 +9,15 @@ ghost use Rattle.pagable_model.specs.Gives.{never, memory_or};
 ghost use Rattle.pagable_model.specs.Meaning.{Meaning, lifted};
 ghost use Rattle.pagable_model.specs.Reading.{registered};
 ghost use Rattle.pagable_model.specs.Shape.{static_value};
+ghost use Rattle.pagable_model.specs.Standing.{SomeMeaning};
 ghost use Rattle.pagable_model.specs.Statics.{meanings_of, unregistered};
+ghost use Rattle.pagable_model.specs.Tagged.{MeansTagged};
 ghost use Rattle.pagable_model.specs.declared.error.Error.{Error as Refusal};
 ghost use Rattle.pagable_model.specs.declared.numbers.ArcRef.{ArcRef as Reference};
 ghost use Rattle.pagable_registries.specs.declared.static_value.StaticValue.{StaticValue as Static};
 
 use crate::static_value::{HasStaticValueRegistry, StaticValue};
+use crate::typetag::PagableTagged;
 use pagable_codec::Env;
 use pagable_traits::{Carried, PagableDeserialize, PagableSerialize};
 
@@ -31,4 +34,9 @@ pub fn static_value_is_carried<E: Env, T: HasStaticValueRegistry<'static, E> + '
 pub fn static_values_are_read_again<E: Env, T: HasStaticValueRegistry<'static, E> + 'static>()
     ensures readable { (e : E) → IsReadable (static_value (meanings_of T.plain (T.known e))) }
     ensures value { (e : E) (i : ℕ) (known : Bor T) → slice_get (T.known e) i ≡ Some known → registered (meanings_of T.plain (T.known e)) i ≡ Ok (T.plain known.now) }
+{}
+
+/// A tagged value means its tag with something that its body means: what its type owes as the law `has_meaning` of `Carried`.
+pub fn tagged_has_meaning<E: Env, T: PagableTagged<E>>()
+    ensures { (x : T) → SomeMeaning (MeansTagged (T.tag x) (T.body_means x)) }
 {}

@@ -1,3 +1,4 @@
 pub mod Texts
+pub mod Counting
 pub mod Failing
 pub mod Cells

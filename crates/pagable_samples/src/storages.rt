@@ -36,11 +36,13 @@ impl<S> CountingStorage<S> {
 }
 
 impl<E: Env, S: PagableStorage<E>> PagableStorage<E> for CountingStorage<S> {
-    ghost stored = { λ s. S.stored s.inner };
+    ghost use Rattle.pagable_samples.specs.Counting.{counted};
 
-    ghost is_closed = { λ s. S.is_closed s.inner };
+    ghost stored = { λ s. S.stored (counted s) };
 
-    ghost failed = { λ s. S.failed s.inner };
+    ghost is_closed = { λ s. S.is_closed (counted s) };
+
+    ghost failed = { λ s. S.failed (counted s) };
 
     fn fetch_data_blocking(
         &mut self,
@@ -107,13 +109,13 @@ impl<S> FailingStorage<S> {
 }
 
 impl<E: Env, S: PagableStorage<E>> PagableStorage<E> for FailingStorage<S> {
-    ghost use Rattle.pagable_samples.specs.Failing.{failures_of};
+    ghost use Rattle.pagable_samples.specs.Failing.{called, failures_over};
 
-    ghost stored = { λ s. S.stored s.inner };
+    ghost stored = { λ s. S.stored (called s) };
 
-    ghost is_closed = { λ s. S.is_closed s.inner };
+    ghost is_closed = { λ s. S.is_closed (called s) };
 
-    ghost failed = { λ s. failures_of s.has_failed (S.failed s.inner) };
+    ghost failed = { λ s. failures_over s (S.failed (called s)) };
 
     #[tactic(auto, using(crate::proofs::Refusing::refusing))]
     fn fetch_data_blocking(

@@ -2,6 +2,7 @@
 
 use crate::answers::Answer;
 use anyhow::ensure;
+use indexmap::{IndexMap, IndexSet};
 use pagable::{
     Env, NoReferences, PagableDeserialize, PagableDeserializer, PagableDeserializerImpl,
     PagableSerialize, PagableSerializerImpl, WeighHash,
@@ -10,6 +11,7 @@ use pagable_samples::{Nested, NestedEnv, TextEnv};
 use smallvec::SmallVec;
 use std::alloc::Global;
 use std::boxed::BoxedSlice;
+use std::collections::{BTreeMap, BTreeSet};
 use std::fmt::Debug;
 
 /// The values hold no references, so any environment will do.
@@ -76,7 +78,7 @@ fn basic(alloc: Global, name: &str, input: &[u8]) -> anyhow::Result<Option<Answe
     Ok(Some(answer?))
 }
 
-/// What comes of an input of a type that holds values of others; None for another type.
+/// What comes of an input of a type that holds one or two values of others; None for another type.
 fn holder(alloc: Global, name: &str, input: &[u8]) -> anyhow::Result<Option<Answer>> {
     let answer = match name {
         "Box<u16>" => replay_as::<Box<u16>>(alloc, input),
@@ -88,10 +90,14 @@ fn holder(alloc: Global, name: &str, input: &[u8]) -> anyhow::Result<Option<Answ
         "(u8,u8)" => replay_as::<(u8, u8)>(alloc, input),
         "(bool,String)" => replay_as::<(bool, String)>(alloc, input),
         "Nested" => replay_in::<NestedEnv, Nested>(alloc, &NestedEnv, input),
-        "Box<[u32]>" => replay_as::<BoxedSlice<u32>>(alloc, input),
-        "Box<[String]>" => replay_as::<BoxedSlice<String>>(alloc, input),
-        "SmallVec<[u8;4]>" => replay_as::<SmallVec<u8, 4>>(alloc, input),
-        "SmallVec<[String;4]>" => replay_as::<SmallVec<String, 4>>(alloc, input),
+        _ => return Ok(None),
+    };
+    Ok(Some(answer?))
+}
+
+/// What comes of an input of a vector; None for another type.
+fn vector(alloc: Global, name: &str, input: &[u8]) -> anyhow::Result<Option<Answer>> {
+    let answer = match name {
         "Vec<()>" => replay_as::<Vec<()>>(alloc, input),
         "Vec<bool>" => replay_as::<Vec<bool>>(alloc, input),
         "Vec<u8>" => replay_as::<Vec<u8>>(alloc, input),
@@ -106,10 +112,52 @@ fn holder(alloc: Global, name: &str, input: &[u8]) -> anyhow::Result<Option<Answ
     Ok(Some(answer?))
 }
 
+/// What comes of an input of a list that isn't a vector; None for another type.
+fn list(alloc: Global, name: &str, input: &[u8]) -> anyhow::Result<Option<Answer>> {
+    let answer = match name {
+        "Box<[u32]>" => replay_as::<BoxedSlice<u32>>(alloc, input),
+        "Box<[String]>" => replay_as::<BoxedSlice<String>>(alloc, input),
+        "BoxedSlice<u8>" => replay_as::<BoxedSlice<u8>>(alloc, input),
+        "SmallVec<u8,2>" => replay_as::<SmallVec<u8, 2>>(alloc, input),
+        "SmallVec<[u8;4]>" => replay_as::<SmallVec<u8, 4>>(alloc, input),
+        "SmallVec<[String;4]>" => replay_as::<SmallVec<String, 4>>(alloc, input),
+        _ => return Ok(None),
+    };
+    Ok(Some(answer?))
+}
+
+/// What comes of an input of a map or a set; None for another type.
+fn collection(alloc: Global, name: &str, input: &[u8]) -> anyhow::Result<Option<Answer>> {
+    let answer = match name {
+        "BTreeMap<u8,u8>" => replay_as::<BTreeMap<u8, u8>>(alloc, input),
+        "IndexMap<u8,u8>" => replay_as::<IndexMap<u8, u8>>(alloc, input),
+        "IndexMap<String,u8>" => replay_as::<IndexMap<String, u8>>(alloc, input),
+        "BTreeMap<String,Vec<u16>>" => replay_as::<BTreeMap<String, Vec<u16>>>(alloc, input),
+        "IndexMap<String,Vec<u16>>" => replay_as::<IndexMap<String, Vec<u16>>>(alloc, input),
+        "BTreeMap<u16,BTreeMap<String,IndexSet<u8>>>" => {
+            replay_as::<BTreeMap<u16, BTreeMap<String, IndexSet<u8>>>>(alloc, input)
+        }
+        "BTreeSet<u8>" => replay_as::<BTreeSet<u8>>(alloc, input),
+        "BTreeSet<String>" => replay_as::<BTreeSet<String>>(alloc, input),
+        "IndexSet<u8>" => replay_as::<IndexSet<u8>>(alloc, input),
+        _ => return Ok(None),
+    };
+    Ok(Some(answer?))
+}
+
 /// What comes of an input of a carried type; None for another type.
 pub fn answer(alloc: Global, name: &str, input: &[u8]) -> anyhow::Result<Option<Answer>> {
-    match basic(alloc, name, input)? {
-        Some(answer) => Ok(Some(answer)),
-        None => holder(alloc, name, input),
+    if let Some(answer) = basic(alloc, name, input)? {
+        return Ok(Some(answer));
     }
+    if let Some(answer) = holder(alloc, name, input)? {
+        return Ok(Some(answer));
+    }
+    if let Some(answer) = vector(alloc, name, input)? {
+        return Ok(Some(answer));
+    }
+    if let Some(answer) = list(alloc, name, input)? {
+        return Ok(Some(answer));
+    }
+    collection(alloc, name, input)
 }

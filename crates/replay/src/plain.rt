@@ -17,6 +17,11 @@ fn sort_of(name: &str) -> Option<Sort> {
         "Duration" => Some(Sort::Time),
         "Option<u8>" => Some(Sort::Maybe),
         "Result<String,String>" => Some(Sort::Attempt),
+        "Vec<i32>" => Some(Sort::Numbers),
+        "IndexMap<String,u8>" => Some(Sort::Placed),
+        "BTreeMap<u8,u8>" => Some(Sort::Sorted),
+        "Word" => Some(Sort::Static),
+        "Tag" => Some(Sort::Tagged),
         _ => None,
     }
 }

@@ -1,4 +1,4 @@
-use Rattle.pagable_plain.proofs.Spelled.{written_byte, written_short, written_long, written_signed, written_flag, written_text, written_letter, written_time, written_maybe, written_attempt}
+use Rattle.pagable_plain.proofs.Spelled.{written_byte, written_short, written_long, written_signed, written_flag, written_text, written_letter, written_time, written_maybe, written_attempt, written_part, refused_part}
 use Rattle.pagable_plain.proofs.samples.write_sample.Goals as goal
 
 pub returns-in-Byte-clause-ok : goal.returns-in-Byte-clause-ok
@@ -30,3 +30,30 @@ returns-in-Maybe-clause-ok c = written_maybe _ _ _ _ _ c.in-Maybe.is c.write_may
 
 pub returns-in-Attempt-clause-ok : goal.returns-in-Attempt-clause-ok
 returns-in-Attempt-clause-ok c = written_attempt _ _ _ _ _ c.in-Attempt.is c.write_attempt.ensures.ok
+
+pub returns-in-Numbers-clause-ok : goal.returns-in-Numbers-clause-ok
+returns-in-Numbers-clause-ok c = written_part _ _ _ _ _ c.in-Numbers.is (rw c.as_slice.ensures.value at c.write_numbers.ensures.ok)
+
+pub returns-in-Numbers-clause-refused : goal.returns-in-Numbers-clause-refused
+returns-in-Numbers-clause-refused c = refused_part _ _ _ c.in-Numbers.is (rw c.as_slice.ensures.value at c.write_numbers.ensures.refused)
+
+pub returns-in-Placed-clause-ok : goal.returns-in-Placed-clause-ok
+returns-in-Placed-clause-ok c = written_part _ _ _ _ _ c.in-Placed.is c.write_placed.ensures.ok
+
+pub returns-in-Placed-clause-refused : goal.returns-in-Placed-clause-refused
+returns-in-Placed-clause-refused c = refused_part _ _ _ c.in-Placed.is c.write_placed.ensures.refused
+
+pub returns-in-Sorted-clause-ok : goal.returns-in-Sorted-clause-ok
+returns-in-Sorted-clause-ok c = written_part _ _ _ _ _ c.in-Sorted.is c.write_sorted.ensures.ok
+
+pub returns-in-Sorted-clause-refused : goal.returns-in-Sorted-clause-refused
+returns-in-Sorted-clause-refused c = refused_part _ _ _ c.in-Sorted.is c.write_sorted.ensures.refused
+
+pub returns-in-Static-clause-ok : goal.returns-in-Static-clause-ok
+returns-in-Static-clause-ok c = written_part _ _ _ _ _ c.in-Static.is c.write_word.ensures.ok
+
+pub returns-in-Tagged-clause-ok : goal.returns-in-Tagged-clause-ok
+returns-in-Tagged-clause-ok c = written_part _ _ _ _ _ c.in-Tagged.is (rw c.as_str-in-Tagged.ensures.value at c.write_tag.ensures.ok)
+
+pub returns-in-Tagged-clause-refused : goal.returns-in-Tagged-clause-refused
+returns-in-Tagged-clause-refused c = refused_part _ _ _ c.in-Tagged.is (rw c.as_str-in-Tagged.ensures.value at c.write_tag.ensures.refused)

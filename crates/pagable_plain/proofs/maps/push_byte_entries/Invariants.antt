@@ -1,0 +1,10 @@
+use Rattle.std.proofs.Common.{take}
+use Rattle.std.specs.Int.{w8}
+use Rattle.pagable_model.specs.Reading.{deepest}
+use Rattle.pagable_model.specs.Shape.{unsigned}
+use Rattle.pagable_plain.specs.Appended.{AppendsEntries}
+use Rattle.pagable_plain.specs.Maps.{byte_entries}
+use Rattle.pagable_plain.proofs.maps.push_byte_entries.Given as goal
+
+abbrev pub invariant-loop-key : goal.invariant-loop-key
+invariant-loop-key l = AppendsEntries deepest (unsigned w8) (unsigned w8) (byte_entries (take l.key-index l.entries)) l.fn.out.items l.out.items
