@@ -1,3 +1,4 @@
+pub mod Basics
 pub mod Parts
 pub mod Items
 pub mod Slices

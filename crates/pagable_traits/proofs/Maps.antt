@@ -164,8 +164,6 @@ lacks-among M has (y ∷ front) x rest n s lacks =
 pub refuses-among : {T : Type 0} (M : T → Meaning ArcRef → Type 0) (has : (x : T) → SomeMeaning (M x)) (front : List T) (x : T) (rest : List T) (n : Nesting) (s : Shape) (e : Error) → Refused (M x) n s e → RefusedAll (MeanAll M (front ++ x ∷ rest)) n s e
 refuses-among M has front x rest n s e h = λ fault. lacks-among M has front x rest n s (h fault)
 
-pub ruleset entries = (writes_entry)
-
 -- of all, those before left were written
 pub record Written {T : Type 0} (M : T → Meaning ArcRef → Type 0) (n : Nesting) (s : Shape) (all left : List T) (old new : Out) : Type 0 where
   pub front : List T

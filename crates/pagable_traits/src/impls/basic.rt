@@ -47,7 +47,6 @@ impl<'de, E: Env> PagableDeserialize<'de, E> for bool {
 
     ghost read_causes_are_own = { never_is_own_reading };
 
-    #[tactic(auto, unfolding(pagable_model::specs::Reading::read, pagable_model::specs::Reading::read_with), using(pagable_codec::proofs::Reading::parts))]
     fn pagable_deserialize<D: PagableDeserializer<E>>(
         _alloc: Global,
         deserializer: &mut D,
@@ -88,7 +87,6 @@ impl<'de, E: Env> PagableDeserialize<'de, E> for char {
 
     ghost read_causes_are_own = { never_is_own_reading };
 
-    #[tactic(auto, unfolding(pagable_model::specs::Reading::read, pagable_model::specs::Reading::read_with), using(pagable_codec::proofs::Reading::parts))]
     fn pagable_deserialize<D: PagableDeserializer<E>>(
         _alloc: Global,
         deserializer: &mut D,

@@ -7,6 +7,7 @@ ghost use Rattle.pagable_model.specs.Shape.{optional, both};
 ghost use Rattle.pagable_model.specs.Causes.{memory_or_is_own_reading, memory_or_is_own_writing, either_is_own_reading, either_is_own_writing};
 ghost use Rattle.pagable_model.specs.Lifted.{MeansOption, option_has_meaning, option_is_meaning, option_single, MeansPair, pair_has_meaning, pair_is_meaning, pair_single};
 
+use crate::impls::maps::write_entry;
 use crate::traits::{Carried, OneMeaning, PagableDeserialize, PagableSerialize};
 use pagable_codec::deserializer::PagableDeserializer;
 use pagable_codec::env::Env;
@@ -127,10 +128,8 @@ impl<E: Env, A: PagableSerialize<E>, B: PagableSerialize<E>> PagableSerialize<E>
 
     ghost write_causes_are_own = { either_is_own_writing A.write_causes B.write_causes A.write_causes_are_own B.write_causes_are_own };
 
-    #[tactic(auto, using(pagable_codec::proofs::Writing::parts, crate::proofs::Parts::pairs, crate::proofs::Parts::causes))]
     fn pagable_serialize<S: PagableSerializer<E>>(&self, serializer: &mut S) -> Result<(), Error> {
-        self.0.pagable_serialize(serializer)?;
-        self.1.pagable_serialize(serializer)
+        write_entry(&self.0, &self.1, serializer)
     }
 }
 

@@ -48,7 +48,6 @@ impl<'de, E: Env> PagableDeserialize<'de, E> for String {
 
     ghost read_causes_are_own = { memory_is_own_reading };
 
-    #[tactic(auto, unfolding(pagable_model::specs::Reading::read, pagable_model::specs::Reading::read_with), using(pagable_codec::proofs::Reading::parts))]
     fn pagable_deserialize<D: PagableDeserializer<E>>(
         alloc: Global,
         deserializer: &mut D,

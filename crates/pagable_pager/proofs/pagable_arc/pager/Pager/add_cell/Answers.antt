@@ -1,4 +1,4 @@
-use Rattle.std.proofs.Common.{◌≡◌, ◌+◌, refl, ◌++◌, ◌∷◌, [], map, arith, sym}
+use Rattle.std.proofs.Common.{rules, ◌≡◌, ◌+◌, refl, ◌++◌, ◌∷◌, [], map, arith, sym}
 use Rattle.pagable_pager.specs.Rows.{value_of}
 use Rattle.pagable_pager.proofs.Keeping.{in-comes, values-push}
 use Rattle.pagable_pager.proofs.Kept.{birth, none-there}
@@ -19,3 +19,6 @@ returns-in-Ok-clause-trees g c =
     let unused = rw c.in-Some.ensures.next at c.in-Some.ensures.unused in
     let free = none-there g.E.Node.NodeSet.type_of p.book (map value_of old) (p.book.last_node + 1) c.self.invariant c.in-Ok.ensures.comes.before in
     rw (← c.self.view_is) (birth _ _ _ c.args.node c.node_type-node_type.result c.args.mode c.node_type-node_type.ensures.value c.in-Ok.ensures.step.1 values refl refl unused free)
+
+pub returns-in_default-clause-why : goal.returns-in_default-clause-why
+returns-in_default-clause-why g c = search rules

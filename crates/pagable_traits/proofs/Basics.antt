@@ -1,0 +1,44 @@
+-- How a basic value is read: what a reader of bytes gives, and where the deserializer stands then.
+use Rattle.std.proofs.Common.{◌≡◌, ℕ, Bool, List, refl, Result, Ok, Err, inl, inr}
+use Rattle.std.specs.Prelude.{ℤ}
+use Rattle.std.specs.Int.{Width}
+use Rattle.pagable_model.specs.declared.error.Error.{Error}
+use Rattle.pagable_model.specs.declared.numbers.ArcRef.{ArcRef}
+use Rattle.pagable_model.specs.Basic.{bool_at, char_at, text_at}
+use Rattle.pagable_model.specs.Gives.{Gives, never, memory}
+use Rattle.pagable_model.specs.Meaning.{Meaning, number, integer, text, flag}
+use Rattle.pagable_model.specs.Numbers.{Read, unsigned_at, signed_at}
+use Rattle.pagable_model.specs.Reading.{Rest, bytes_of, read, read_with}
+use Rattle.pagable_model.specs.Shape.{Shape, unsigned, signed, letter, flag as flag_shape, text as text_shape}
+use Rattle.pagable_model.specs.Standing.{Answer, GivesSome, Is, handles_at}
+
+gives_bytes : {X Y : Type 0} (own : Error → Type 0) (view : X → Y) (meaning : Y → Meaning ArcRef) (at : List ℕ → Read Y) (r : Result X Error) (rest : Rest Answer) (after : List ℕ) → Gives own (λ x. (view x, after)) r (at rest.bytes)
+    → GivesSome own (Is (λ x. meaning (view x))) (record rest { bytes = after }) r (bytes_of at meaning rest)
+gives_bytes own view meaning at (Ok x) rest after h = record { m = meaning (view x); is = refl; gave = rw h refl }
+gives_bytes own view meaning at (Err e) rest after (inl h) = inl (rw h refl)
+gives_bytes own view meaning at (Err e) rest after (inr h) = inr h
+
+pub gives_unsigned : (w : Width) (levels : ℕ) (parts : ℕ → Shape) (r : Result ℕ Error) (rest last : Rest Answer) (bytes after : List ℕ) → rest.bytes ≡ bytes → last ≡ record rest { bytes = after } → Gives never (λ n. (n, after)) r (unsigned_at w bytes)
+    → GivesSome never (Is number) last r (read (handles_at levels parts) (unsigned w) rest)
+unfolding read read_with
+gives_unsigned w levels parts r rest last bytes after e f h = rw f (gives_bytes never (λ n. n) number (unsigned_at w) r rest after (rw e h))
+
+pub gives_signed : (w : Width) (levels : ℕ) (parts : ℕ → Shape) (r : Result ℤ Error) (rest last : Rest Answer) (bytes after : List ℕ) → rest.bytes ≡ bytes → last ≡ record rest { bytes = after } → Gives never (λ z. (z, after)) r (signed_at w bytes)
+    → GivesSome never (Is integer) last r (read (handles_at levels parts) (signed w) rest)
+unfolding read read_with
+gives_signed w levels parts r rest last bytes after e f h = rw f (gives_bytes never (λ z. z) integer (signed_at w) r rest after (rw e h))
+
+pub gives_flag : (levels : ℕ) (parts : ℕ → Shape) (r : Result Bool Error) (rest last : Rest Answer) (bytes after : List ℕ) → rest.bytes ≡ bytes → last ≡ record rest { bytes = after } → Gives never (λ b. (b, after)) r (bool_at bytes)
+    → GivesSome never (Is flag) last r (read (handles_at levels parts) flag_shape rest)
+unfolding read read_with
+gives_flag levels parts r rest last bytes after e f h = rw f (gives_bytes never (λ b. b) flag bool_at r rest after (rw e h))
+
+pub gives_letter : (levels : ℕ) (parts : ℕ → Shape) (r : Result ℕ Error) (rest last : Rest Answer) (bytes after : List ℕ) → rest.bytes ≡ bytes → last ≡ record rest { bytes = after } → Gives never (λ c. (c, after)) r (char_at bytes)
+    → GivesSome never (Is number) last r (read (handles_at levels parts) letter rest)
+unfolding read read_with
+gives_letter levels parts r rest last bytes after e f h = rw f (gives_bytes never (λ c. c) number char_at r rest after (rw e h))
+
+pub gives_text : {X : Type 0} (bytes_in : X → List ℕ) (levels : ℕ) (parts : ℕ → Shape) (r : Result X Error) (rest last : Rest Answer) (bytes after : List ℕ) → rest.bytes ≡ bytes → last ≡ record rest { bytes = after } → Gives memory (λ t. (bytes_in t, after)) r (text_at bytes)
+    → GivesSome memory (Is (λ t. text (bytes_in t))) last r (read (handles_at levels parts) text_shape rest)
+unfolding read read_with
+gives_text bytes_in levels parts r rest last bytes after e f h = rw f (gives_bytes memory bytes_in text text_at r rest after (rw e h))
