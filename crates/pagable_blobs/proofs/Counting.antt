@@ -15,7 +15,7 @@ use Rattle.std.proofs.lemmas.Map.Views.{IsSome-lookup_from_Contains, Contains-ke
 use Rattle.pagable_core.specs.Data.{blob_of}
 use Rattle.pagable_core.specs.declared.storage.data.PagableData.{PagableData}
 use Rattle.pagable_blobs.specs.Blobs.{stored_in}
-use Rattle.pagable_blobs.specs.Count.{IsCount}
+use Rattle.pagable_model.specs.Stored.{IsCount}
 use Rattle.pagable_blobs.proofs.Adding.{Blobs}
 
 -- what a function makes of a value is there exactly if the value is

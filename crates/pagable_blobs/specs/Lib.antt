@@ -1,3 +1,2 @@
 pub mod Blobs
 pub mod Found
-pub mod Count

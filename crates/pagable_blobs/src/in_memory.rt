@@ -4,7 +4,7 @@ ghost use Rattle.std.specs.Prelude.{◌≡◌, ◌↔◌, ◌==◌, if◌then◌
 ghost use Rattle.pagable_model.specs.Gives.{memory};
 ghost use Rattle.pagable_core.specs.Data.{blob_of};
 ghost use Rattle.pagable_blobs.specs.Blobs.{stored_in};
-ghost use Rattle.pagable_blobs.specs.Count.{IsCount};
+ghost use Rattle.pagable_model.specs.Stored.{IsCount};
 ghost use Rattle.pagable_blobs.specs.Found.{IsFound};
 
 use pagable_codec::Env;

@@ -1,5 +1,6 @@
 -- What a storage may answer.
-use Rattle.std.specs.Prelude.{◌≡◌, ◌≢◌, ◌-◌, ◌^◌, ◌<◌, ◌==◌, ◌⊎◌, ℕ, Bool, true, Option, Some, None, if◌then◌else◌}
+use Rattle.std.specs.Prelude.{◌≡◌, ◌≢◌, ◌-◌, ◌^◌, ◌<◌, ◌==◌, ◌⊎◌, ◌↔◌, ℕ, Bool, true, List, length, Option, Some, None, IsSome, if◌then◌else◌}
+use Rattle.std.specs.List.{AllPairs, Contains}
 use Rattle.pagable_model.specs.declared.error.Error.{Error}
 use Rattle.pagable_model.specs.declared.error.Error.TheVariants as errors
 use Rattle.pagable_model.specs.Blob.{Blob}
@@ -33,3 +34,10 @@ abbrev pub RefusesFlush : ℕ → ℕ → Error → Type 0
 RefusesFlush before after errors.OutOfMemory = Unit {0}
 RefusesFlush before after (errors.Storage code) = HasFailed before after
 RefusesFlush before after _ = ⊥
+
+-- the keys under which a blob stands are these, each named once, and they are so many
+pub record IsCount (stored : ℕ → Option Blob) (count : ℕ) : Type 0 where
+  pub keys : List ℕ
+  pub once : AllPairs (λ a b. a ≢ b) keys
+  pub all : (key : ℕ) → Contains keys key ↔ IsSome (stored key)
+  pub many : count ≡ length keys
