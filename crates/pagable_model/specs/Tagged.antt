@@ -1,5 +1,5 @@
 -- Values that are written as a tag and a body: what they mean, and which registration of a tag counts.
-use Rattle.std.specs.Prelude.{◌≡◌, refl, ℕ, ◌<◌, List, [], ◌∷◌, map, Bool, true, false, Some, ◌⊎◌}
+use Rattle.std.specs.Prelude.{◌≡◌, ℕ, ◌<◌, List, [], ◌∷◌, map, Bool, true, false, Some, ◌⊎◌}
 use Rattle.std.specs.List.{slice_get}
 use Rattle.std.specs.Str.{bytes_eq}
 use Rattle.pagable_model.specs.declared.numbers.ArcRef.{ArcRef}
@@ -7,16 +7,12 @@ use Rattle.pagable_model.specs.Meaning.{Meaning}
 use Rattle.pagable_model.specs.Carried.{of_tagged}
 use Rattle.pagable_model.specs.Canonical.{HasNoCase, IsReadable}
 use Rattle.pagable_model.specs.Shape.{Shape}
-use Rattle.pagable_model.specs.Standing.{SomeMeaning}
 
 -- the tag with what the body means
 pub record MeansTagged (tag : List ℕ) (M : Meaning ArcRef → Type 0) (m : Meaning ArcRef) : Type 0 where
   pub body : Meaning ArcRef
   pub is_body : M body
   pub is : m ≡ of_tagged tag body
-
-pub tagged_has_meaning : {T : Type 0} (tag : T → List ℕ) (M : T → Meaning ArcRef → Type 0) → ((x : T) → SomeMeaning (M x)) → (x : T) → SomeMeaning (MeansTagged (tag x) (M x))
-tagged_has_meaning tag M has x = (of_tagged (tag x) (has x).0, record { body = (has x).0; is_body = (has x).1; is = refl })
 
 -- the readers' grammars in an environment, by their tags
 abbrev pub grammars : {F V : Type 0} → (F → V → Shape) → V → List (List ℕ × F) → List (List ℕ × Shape)

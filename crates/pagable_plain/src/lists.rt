@@ -2,7 +2,6 @@
 
 ghost use Rattle.std.specs.Prelude.{◌≡◌, ◌⊎◌, [], length, OnOk, IfErr};
 ghost use Rattle.std.specs.Int.{w32};
-ghost use Rattle.pagable_model.specs.Basic.{longest};
 ghost use Rattle.pagable_model.specs.Gives.{Gives, memory};
 ghost use Rattle.pagable_model.specs.Meaning.{sequence};
 ghost use Rattle.pagable_model.specs.Reading.{items, deepest};

@@ -4,7 +4,6 @@ ghost use Rattle.std.specs.Prelude.{◌≡◌, ◌⊎◌, [], length, OnOk, IfOk
 ghost use Rattle.std.specs.Int.{w8};
 ghost use Rattle.std.specs.Str.{bytes_eq};
 ghost use Rattle.std.specs.String.{string_bytes};
-ghost use Rattle.pagable_model.specs.Basic.{longest};
 ghost use Rattle.pagable_model.specs.Carried.{of_entries};
 ghost use Rattle.pagable_model.specs.Gives.{Gives, never, memory};
 ghost use Rattle.pagable_model.specs.Keys.{number_order, put_placed, put_sorted};
@@ -14,7 +13,7 @@ ghost use Rattle.pagable_model.specs.Shape.{unsigned, text as text_shape};
 ghost use Rattle.pagable_plain.specs.Appended.{Appends, AppendsEntries, NoneWhere, NoEntriesWhere};
 ghost use Rattle.pagable_plain.specs.Gathered.{part, gathered};
 ghost use Rattle.pagable_plain.specs.Laws.{rest};
-ghost use Rattle.pagable_plain.specs.Maps.{text_entry, text_entries, TextsDiffer, byte_entry, byte_entries, BytesAscend, differing_is_prop, ascending_is_prop, placed_bytes, sorted_bytes};
+ghost use Rattle.pagable_plain.specs.Maps.{text_entries, TextsDiffer, byte_entries, BytesAscend, differing_is_prop, ascending_is_prop, placed_bytes, sorted_bytes};
 
 use crate::plain_reader::{next_byte, next_len, next_text};
 use crate::plain_writer::{push_byte, write_length, write_text};

@@ -115,7 +115,7 @@ fn read_time(bytes: &[u8]) -> Result<(Sample, &[u8]), Error>
 }
 
 /// Reads a value of this sort, and answers it with the bytes after it. A refusal is the first fault from the front, or
-/// `OutOfMemory` where a text can't be kept.
+/// `OutOfMemory` where what is read can't be kept.
 #[tactic(auto, using(crate::proofs::Limits::limits), unfolding(pagable_model::specs::Reading::read, pagable_model::specs::Reading::read_with))]
 pub fn read_sample(alloc: Global, sort: Sort, bytes: &[u8]) -> Result<(Sample, &[u8]), Error>
     ensures { Gives memory (λ x. (meaning_of x.0, rest x.1.now [])) result (reads (shape_of sort) bytes.now) }
@@ -198,8 +198,8 @@ fn write_attempt(out: &mut Vec<u8>, value: &Result<String, String>) -> Result<()
     }
 }
 
-/// Appends a form of the value. `TooLong` where a text is longer than 4,294,967,295 bytes, or `OutOfMemory`; what was
-/// appended until then stays.
+/// Appends a form of the value. `TooLong` where a text is longer than 4,294,967,295 bytes or a list or map has more items,
+/// or `OutOfMemory`; what was appended until then stays.
 pub fn write_sample(out: &mut Vec<u8>, sample: &Sample) -> Result<(), Error>
     ensures ok { OnOk result (WritesSample sample.now out.old.items out.new.items) }
     ensures refused { IfErr result (HasNoForm sample.now) }
