@@ -1,4 +1,4 @@
-//! What happens to cells: that they lose their value, are listed again, and have their value again.
+//! What happens to cells: that they lose their value, are listed again, and get their value by a load.
 
 use crate::calls::Call;
 use crate::counts::{Counts, Name};
