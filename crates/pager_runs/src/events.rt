@@ -1,4 +1,4 @@
-//! What happens to cells: that they lose their value, are listed again, and have their value again.
+//! What happens to cells: that they lose their value, are listed again, and get their value by a load.
 
 use crate::calls::Call;
 use crate::counts::{Counts, Name};
@@ -12,8 +12,8 @@ pub const EVICTED: Name = ("event", "eviction");
 /// A cell was listed that had been listed before.
 pub const LISTED_AGAIN: Name = ("event", "re-listing");
 
-/// A load brought the value back.
-pub const LOADED_AGAIN: Name = ("event", "load ended after an eviction");
+/// A load brought the value, which was evicted or never there.
+pub const LOADED: Name = ("event", "load that brought the value");
 
 /// The cell that a call is about, before the call.
 #[derive(Clone, Copy)]
@@ -70,7 +70,7 @@ impl Events {
             counts.add(EVICTED)?;
         }
         if before.is_away && plain.node_live(before.node).is_some() && !is_away {
-            counts.add(LOADED_AGAIN)?;
+            counts.add(LOADED)?;
         }
         if plain.pending() > before.pending {
             if self.listed.contains(&before.node) {

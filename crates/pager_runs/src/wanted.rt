@@ -1,10 +1,10 @@
 //! What has to happen in the runs.
 
 use crate::counts::{Counts, Name};
-use crate::events::{EVICTED, LISTED_AGAIN, LOADED_AGAIN};
+use crate::events::{EVICTED, LISTED_AGAIN, LOADED};
 
 /// What has to happen a hundred times.
-static OFTEN: [Name; 3] = [EVICTED, LISTED_AGAIN, LOADED_AGAIN];
+static OFTEN: [Name; 3] = [EVICTED, LISTED_AGAIN, LOADED];
 
 /// What has to happen: each refusal of each call that can be reached.
 static ONCE: [Name; 30] = [
