@@ -6,9 +6,9 @@ use Rattle.pagable_world.specs.declared.calls.Reply.{Reply}
 use Rattle.pagable_world.specs.Shown.{Shown}
 use Rattle.pagable_world.specs.TodayTrees.{TodayWorld, RepresentsToday}
 use Rattle.pagable_world.specs.MachineSteps.{MachineSight, world_of, CallDoes}
-use Rattle.pagable_world.specs.MachineRuns.{MachineMoment, IsWholeToday, AreSteps, LeadsOn, TreesAlong, shown_after, HasRun}
+use Rattle.pagable_world.specs.MachineRuns.{MachineMoment, IsWholeToday, AreMachineSteps, LeadsOn, TreesAlong, shown_after, HasRun}
 
-steps-more : {N S E B C : Type 0} (m : MachineSight N S E B C) (v : Shown N S E) (xs : List (MachineMoment N S E B C)) (x : MachineMoment N S E B C) → AreSteps m v xs → CallDoes m (world_of m (shown_after v xs)) x.call x.reply (world_of m x.after) → IsWholeToday m x.after → AreSteps m v (xs ++ x ∷ [])
+steps-more : {N S E B C : Type 0} (m : MachineSight N S E B C) (v : Shown N S E) (xs : List (MachineMoment N S E B C)) (x : MachineMoment N S E B C) → AreMachineSteps m v xs → CallDoes m (world_of m (shown_after v xs)) x.call x.reply (world_of m x.after) → IsWholeToday m x.after → AreMachineSteps m v (xs ++ x ∷ [])
 steps-more m v [] x all does whole = (does, whole, tt)
 steps-more m v (y ∷ ys) x all does whole = (all.0, all.1, steps-more m y.after ys x all.2 does whole)
 

@@ -24,9 +24,9 @@ pub record IsWholeToday {N S E B C : Type 0} (m : MachineSight N S E B C) (v : S
   pub values : InStep m.sight.type_of v.book v.values
 
 -- each call is a step of the plain world, and leaves the pager whole
-abbrev pub AreSteps : {N S E B C : Type 0} → MachineSight N S E B C → Shown N S E → List (MachineMoment N S E B C) → Type 0
-AreSteps m v [] = Unit {0}
-AreSteps m v (x ∷ xs) = CallDoes m (world_of m v) x.call x.reply (world_of m x.after) × IsWholeToday m x.after × AreSteps m x.after xs
+abbrev pub AreMachineSteps : {N S E B C : Type 0} → MachineSight N S E B C → Shown N S E → List (MachineMoment N S E B C) → Type 0
+AreMachineSteps m v [] = Unit {0}
+AreMachineSteps m v (x ∷ xs) = CallDoes m (world_of m v) x.call x.reply (world_of m x.after) × IsWholeToday m x.after × AreMachineSteps m x.after xs
 
 -- What is asked of a call: the key of a new cell reads as some tree of its type, a key that is set reads as the tree of its
 -- node, and a value that ends a load means the tree of the load's node.
@@ -71,5 +71,5 @@ pub record HasRun {N S E B C : Type 0} (m : MachineSight N S E B C) (old : Shown
   pub calls_are : map (λ x. x.call) moments ≡ called
   pub replies_are : map (λ x. x.reply) moments ≡ replied
   pub ends : shown_after old moments ≡ new
-  pub steps : AreSteps m old moments
+  pub steps : AreMachineSteps m old moments
   pub trees : (w : TodayWorld) → RepresentsToday m.sight old w → TreesAlong m old w moments

@@ -76,11 +76,7 @@ pub record TreeStep {N B W : Type 0} (m : Seen N B W) (s : Pages N) (u : TreeWor
   pub fixes : FixesTree m s u event reply s' u'
   pub stands : Represents m s' u'
 
--- the pager after these moments, and the last world
-abbrev pub pages_after : {N B W : Type 0} → Pages N → List (Moment N B W) → Pages N
-pages_after s [] = s
-pages_after s (x ∷ xs) = pages_after x.after xs
-
+-- the last world
 abbrev pub last_world : TreeWorld → List TreeWorld → TreeWorld
 last_world u [] = u
 last_world u (v ∷ vs) = last_world v vs
