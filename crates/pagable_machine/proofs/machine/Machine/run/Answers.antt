@@ -19,8 +19,11 @@ loop-call-preserved g c =
     let e = c.apply-reply.ensures in
     record {
       room = grind arith;
-      run = (run.0 ++ c.in-Some.call ∷ [], append_assoc run.0 (c.in-Some.call ∷ []) c.pop_front.new.self.items ∙ ap (λ xs. run.0 ++ xs) (sym c.in-Some.ensures.items) ∙ run.1,
-          rw c.put.ensures.items (run-more _ _ _ _ _ _ c.in-Some.call c.apply-reply.result run.2 e.does e.leads e.whole));
+      run = (
+        run.0 ++ c.in-Some.call ∷ [],
+        append_assoc run.0 (c.in-Some.call ∷ []) c.pop_front.new.self.items ∙ ap (λ xs. run.0 ++ xs) (sym c.in-Some.ensures.items) ∙ run.1,
+        rw c.put.ensures.items (run-more _ _ _ _ _ _ c.in-Some.call c.apply-reply.result run.2 e.does e.leads e.whole),
+      );
     }
 
 pub returns-clause-run : goal.returns-clause-run
