@@ -1,5 +1,5 @@
 //! The laws of the definitions of values, and a plain slow program whose contracts are those definitions: it reads and
-//! writes small values, and makes the preimage of a blob and its key. The other crates don't stand on this one.
+//! writes small values, and makes the preimage of a blob and its key. No library of the product stands on it.
 #![tactic(auto)]
 
 pub mod blobs;
