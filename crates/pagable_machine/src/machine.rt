@@ -62,7 +62,7 @@ where
     /// Replies and pagers are a run of the plain world: each call is one step of it, after each the tables are whole and a
     /// value is in memory exactly while its node is pinned or has no key, and counts are numbers of pinning handles. From
     /// each world with trees that the pager stood for, the run leads on through worlds in which every node keeps its tree,
-    /// as long as keys that are set, and values that are given to loads, are what the call asks for.
+    /// as long as keys that are set or given, and values that are given to loads, are what the call asks for.
     pub fn run(
         &mut self,
         alloc: Global,

@@ -1,5 +1,5 @@
-//! What the machine is asked: those of the product's calls, and of the steps of loads, that exist today. N is the
-//! caller's type of values, B that of blobs.
+//! What the machine is asked: those of the product's calls that exist today. N is the caller's type of values, B that of
+//! blobs.
 
 use pagable_model::{DataKey, HandleNumber, LoadNumber, NodeNumber};
 

@@ -138,8 +138,8 @@ fn vacant<'a>(
     }
 }
 
-/// Gives up a handle's pin, makes a Pinned handle loose, or answers how many handles pin its cell, the number of the cell's key, or whether the
-/// cell's text isn't in memory.
+/// Gives up a handle's pin, makes a Pinned handle loose, or answers how many handles pin its cell, the number of the
+/// cell's key, or whether the cell's text isn't in memory.
 fn ask<H: KeyHash>(
     pager: &mut TextPager<H>,
     verb: Verb,
