@@ -12,8 +12,11 @@ pub const EVICTED: Name = ("event", "eviction");
 /// A cell was listed that had been listed before.
 pub const LISTED_AGAIN: Name = ("event", "re-listing");
 
-/// A load brought the value, which was evicted or never there.
-pub const LOADED: Name = ("event", "load that brought the value");
+/// A load brought the value back to a cell that had been evicted.
+pub const LOADED_AGAIN: Name = ("event", "load after an eviction");
+
+/// A load brought the value to a cell that had never been evicted: it was made with a key alone.
+pub const LOADED_FIRST: Name = ("event", "first load of a cell made away");
 
 /// The cell that a call is about, before the call.
 #[derive(Clone, Copy)]
@@ -44,10 +47,11 @@ pub fn state_before(plain: &PlainPager, call: Call) -> Option<Before> {
     })
 }
 
-/// The cells that were listed.
+/// The cells that were listed, and those that were evicted.
 #[derive(Drop)]
 pub struct Events {
     listed: Vec<NodeNumber>,
+    evicted: Vec<NodeNumber>,
 }
 
 impl Events {
@@ -55,6 +59,7 @@ impl Events {
     pub fn new(alloc: Global) -> Events {
         Events {
             listed: Vec::new(alloc),
+            evicted: Vec::new(alloc),
         }
     }
 
@@ -68,9 +73,15 @@ impl Events {
         let is_away = plain.is_away(before.node);
         if is_away && !before.is_away {
             counts.add(EVICTED)?;
+            self.evicted.push(before.node)?;
         }
         if before.is_away && plain.node_live(before.node).is_some() && !is_away {
-            counts.add(LOADED)?;
+            let was_evicted = self.evicted.contains(&before.node);
+            counts.add(if was_evicted {
+                LOADED_AGAIN
+            } else {
+                LOADED_FIRST
+            })?;
         }
         if plain.pending() > before.pending {
             if self.listed.contains(&before.node) {

@@ -1,10 +1,10 @@
 //! What has to happen in the runs.
 
 use crate::counts::{Counts, Name};
-use crate::events::{EVICTED, LISTED_AGAIN, LOADED};
+use crate::events::{EVICTED, LISTED_AGAIN, LOADED_AGAIN, LOADED_FIRST};
 
 /// What has to happen a hundred times.
-static OFTEN: [Name; 3] = [EVICTED, LISTED_AGAIN, LOADED];
+static OFTEN: [Name; 4] = [EVICTED, LISTED_AGAIN, LOADED_AGAIN, LOADED_FIRST];
 
 /// What has to happen: each refusal of each call that can be reached.
 static ONCE: [Name; 30] = [
