@@ -15,9 +15,8 @@ use Rattle.pagable_world.specs.declared.events.LoadAnswer.{LoadAnswer}
 use Rattle.pagable_world.specs.declared.events.LoadAnswer.TheVariants as ends
 use Rattle.pagable_world.specs.declared.events.LoadReply.{LoadReply}
 use Rattle.pagable_world.specs.Cells.{Cell}
-use Rattle.pagable_world.specs.World.{World, HasCell, CannotMake, Closes}
-use Rattle.pagable_world.specs.Refusals.{RefusesOwn, IsOwn}
-use Rattle.pagable_world.specs.declared.rows.HandleRow.{HandleRow}
+use Rattle.pagable_world.specs.World.{World, greatest, HasCell, Closes}
+use Rattle.pagable_world.specs.Refusals.{RefusesOwn}
 use Rattle.pagable_world.specs.Calls.{HasLoad, IsNoLoad, Ended}
 use Rattle.pagable_world.specs.Shown.{Shown}
 use Rattle.pagable_world.specs.LoadSteps.{one_more}
@@ -76,9 +75,15 @@ pub record IsReadOf {N S E B C : Type 0} (m : EventSight N S E B C) (env : E) (t
 abbrev pub RefusesRoot : {N S E B C : Type 0} → EventSight N S E B C → E → ℕ → Blob → Error → Type 0
 RefusesRoot m env t blob e = (read_root m env t blob ≡ Err e) ⊎ m.read_causes e
 
+-- why no handle can be made: the last number was given, or memory was wanting, be it for the value's place
+abbrev pub NoPinLeft : World → Error → Type 0
+NoPinLeft w errors.NumbersSpent = w.last_handle ≡ greatest
+NoPinLeft w errors.OutOfMemory = Unit {0}
+NoPinLeft w _ = ⊥
+
 -- why a load that has read its value has no pin: its caller's handle is gone or another's, or no handle can be made
 abbrev pub RefusesPin : World → LoadRow → Error → Type 0
-RefusesPin w load e = RefusesOwn w load.handle e ⊎ ((i : ℕ) × (row : HandleRow) × IsOwn w load.handle i row × CannotMake w.last_handle e)
+RefusesPin w load e = RefusesOwn w load.handle e ⊎ NoPinLeft w e
 
 -- The first step: the load has its root's blob from now on and goes on; or the blob isn't found, and the load is closed.
 abbrev pub StepFetches : {N : Type 0} → EventWorld → ℕ → LoadRow → Option (LoadAnswer N) → EventWorld → Type 0
