@@ -1,9 +1,10 @@
 -- What is known of a row in tables that are whole.
-use Rattle.std.proofs.Common.{◌≡◌, ℕ, ◌<◌, ◌≤◌, Bool, true, false, List, length, get_or, sum_by, All, refl, ap, sym, ◌∙◌, subst, arith, Some, slice_get}
-use Rattle.std.specs.Prelude.{nat_lt}
+use Rattle.std.proofs.Common.{◌≡◌, ℕ, ◌+◌, ◌<◌, ◌≤◌, Bool, true, false, List, length, get_or, sum_by, All, refl, ap, sym, ◌∙◌, subst, arith, Some, slice_get}
+use Rattle.std.specs.Prelude.{nat_lt, ◌≢◌}
 use Rattle.std.specs.List.{remove}
 use Rattle.std.proofs.lemmas.Bool.Decides.{nat_tests}
 use Rattle.std.proofs.lemmas.List.Sums.{sum_by-le, sum_by-le-sum_by}
+use Rattle.std.proofs.lemmas.Option.{slice_get-get_or}
 use Rattle.pagable_model.specs.declared.numbers.HandleNumber.{HandleNumber}
 use Rattle.pagable_world.specs.declared.rows.Mode.{Mode}
 use Rattle.pagable_world.specs.declared.rows.Mode.TheVariants as modes
@@ -112,6 +113,23 @@ own-live s p load w there =
     let o = w.loads.owned load.number.0 load.own.0 load.node.0 in
     let le = sum_by-le-sum_by (is_own load.number.0 load.own.0 load.node.0) (is_number load.own.0) s.handles (λ h. grind (arith, nat_tests)) in
     grind (arith, nat_tests)
+
+-- a load's node has a handle
+load-held : (s : State) (p : ℕ) (load : LoadRow) → WellFormed s → slice_get s.loads p ≡ Some load → 0 < held load.node.0 s.handles
+load-held s p load w there =
+    let e = row-le-sum (is_load_with load.number.0 load.own.0 load.node.0) s.loads p load there in
+    let o = w.loads.owned load.number.0 load.own.0 load.node.0 in
+    let le = sum_by-le-sum_by (is_own load.number.0 load.own.0 load.node.0) (handle_of load.node.0) s.handles (λ h. grind (arith, nat_tests)) in
+    grind (arith, nat_tests)
+
+-- no load reads the next node
+pub next-unread : (s : State) → WellFormed s → All (λ load. load.node.0 ≢ s.last_node + 1) s.loads
+next-unread s w = λ k d lt same.
+    let load = get_or s.loads k d in
+    let some = load-held s k load w (slice_get-get_or s.loads k d lt) in
+    let live = w.nodes.live load.node.0 in
+    let fresh = w.nodes.fresh load.node.0 (omega arith) in
+    absurd (grind (arith, nat_tests))
 
 -- its row counts as the load's own
 own-row : (s : State) (p i : ℕ) (load : LoadRow) (x : HandleRow) → WellFormed s → slice_get s.loads p ≡ Some load → slice_get s.handles i ≡ Some x → x.number ≡ load.own → is_own load.number.0 load.own.0 load.node.0 x ≡ 1

@@ -4,7 +4,7 @@ ghost use Rattle.std.specs.Prelude.{◌≡◌, ◌≢◌, ℕ, ◌+◌, [], All,
 ghost use Rattle.pagable_world.specs.State.{State, WellFormed, value_at, is_node};
 ghost use Rattle.pagable_world.specs.Cells.{Cell};
 ghost use Rattle.pagable_world.specs.World.{plain, greatest, HasCell};
-ghost use Rattle.pagable_world.specs.Calls.{Born, BornAway, Cloned, Loosened, PinnedBy, Unpinned, Released, Counts, KeyIs, AwayIs, NodeIs, PinsNode, Took, KeySet, Begun, HasLoad, LooksLoad, Ended, Dropped};
+ghost use Rattle.pagable_world.specs.Calls.{Born, BornAway, Cloned, Loosened, PinnedBy, Unpinned, Released, Counts, KeyIs, AwayIs, NodeIs, PinsNode, Took, KeySet, Begun, HasLoad, LooksLoad, LoadTypeIs, Ended, Dropped};
 ghost use Rattle.pagable_world.specs.Values.{values_of, value_of_node, here, SameValues, NoValueComes, OnlyItsValueGoes, ValueComes, ValueIsThere};
 ghost use Rattle.pagable_world.specs.Refusals.{IsOwn};
 ghost use Rattle.pagable_world.specs.declared.rows.HandleRow.{HandleRow};
@@ -78,6 +78,7 @@ impl Book {
     pub fn add_paged_out(&mut self, node_type: u32, key: DataKey) -> Result<HandleNumber, Error>
         ensures step { BornAway (plain self.old) node_type key result (plain self.new) }
         ensures unused { All (λ cell. cell.number ≢ self.old.last_node + 1) (plain self.old).cells }
+        ensures unread { All (λ load. load.node.0 ≢ self.old.last_node + 1) (plain self.old).loads }
         ensures before { value_of_node (self.old.last_node + 1) self.old ≡ 0 }
         ensures values { SameValues self.old self.new }
     {
@@ -191,9 +192,10 @@ impl Book {
         Ok(Some(looked.handle.row.node))
     }
 
-    /// The number that the next node will have, which no node has, or None where all were given.
+    /// The number that the next node will have, which no node has and no open load reads, or None where all were given.
     pub fn next_node(&self) -> Option<NodeNumber>
         ensures unused { IfSome result (λ node. All (λ cell. cell.number ≢ node.0) (plain self.now).cells) }
+        ensures unread { IfSome result (λ node. All (λ load. load.node.0 ≢ node.0) (plain self.now).loads) }
         ensures next { IfSome result (λ node. node.0 ≡ self.now.last_node + 1) }
         ensures spent { IfNone result (self.now.last_node ≡ greatest) }
     {
@@ -252,6 +254,14 @@ impl Book {
     {
         let at = loads::find(&self.tables, load)?;
         Ok(at.row.key)
+    }
+
+    /// The type of the value that an open load reads. NoSuchHandle for a load that isn't open.
+    pub fn load_type(&self, load: LoadNumber) -> Result<u32, Error>
+        ensures { LoadTypeIs (plain self.now) load result }
+    {
+        let (_node, node_type) = self.load_cell(load)?;
+        Ok(node_type)
     }
 
     /// The node whose value an open load reads, and the type of that value. NoSuchHandle for a load that isn't open.

@@ -22,7 +22,7 @@ use Rattle.pagable_world.specs.declared.rows.Mode.TheVariants as modes
 use Rattle.pagable_world.specs.Calls.{BornAway}
 use Rattle.pagable_world.specs.MachineSteps.{MachineSight}
 use Rattle.pagable_world.specs.MachineRuns.{LeadsOn}
-use Rattle.pagable_pager.proofs.Kept.{cells-move}
+use Rattle.pagable_pager.proofs.Kept.{cells-move, loads-move}
 use Rattle.std.proofs.lemmas.List.Elements.{All-same}
 
 -- the named handle is counted
@@ -60,10 +60,12 @@ all-followed (followed kind a) e = ap (followed kind) (all-followed a e)
 unchanged-stands : {N S E : Type 0} (g : Sight N S E) (old new : Shown N S E) (w : TodayWorld) → Unchanged old new → RepresentsToday g old w → RepresentsToday g new w
 unchanged-stands g old new w same rep =
     let cells = ap (λ (x : World). x.cells) same.world in
+    let loads = ap (λ (x : World). x.loads) same.world in
     record {
       same = rep.same ∙ sym same.world;
       values = All-same (λ x. MeansTree g x.1 (w.tree x.0)) new.values old.values same.values rep.values;
       cells = cells-move g old new w.tree (plain_world new.book).cells same.storage same.env (All-same (λ cell. CellFits g old cell (w.tree cell.number)) (plain_world new.book).cells (plain_world old.book).cells cells rep.cells);
+      loads = loads-move g old new w.tree (plain_world new.book).loads same.storage same.env (All-same (λ load. KeyReads g old load.key (w.tree load.node.0)) (plain_world new.book).loads (plain_world old.book).loads loads rep.loads);
     }
 
 -- a value without references means a tree

@@ -138,6 +138,10 @@ abbrev pub LooksLoad : World → LoadNumber → {X : Type 0} → (X → LoadRow 
 LooksLoad w l holds (Ok x) = (p : ℕ) × (load : LoadRow) × HasLoad w l p load × holds x load
 LooksLoad w l holds (Err e) = IsNoLoad w l × (e ≡ errors.NoSuchHandle)
 
+-- the type of the node whose value an open load reads
+abbrev pub LoadTypeIs : World → LoadNumber → Result ℕ Error → Type 0
+LoadTypeIs w l r = LooksLoad w l (λ t load. (cell : Cell) × HasCell w load.node cell × (t ≡ cell.node_type)) r
+
 -- A load ends: its caller's handle is pinned from now on, one more handle that pins is made, and the load is closed.
 -- Where the caller's handle is gone or another's, the load is closed and no more; every other refusal changes nothing.
 abbrev pub Ended : World → LoadNumber → Result HandleNumber EndRefusal → World → Type 0

@@ -2,12 +2,14 @@
 use Rattle.std.specs.Prelude.{ℕ, ℤ, ◌≡◌, ◌<◌, ◌≤◌, List, map}
 use Rattle.pagable_model.specs.declared.data_key.OptionalDataKey.TheVariants as optional
 use Rattle.pagable_model.specs.declared.numbers.ArcRef.{ArcRef}
+use Rattle.pagable_model.specs.declared.numbers.HandleNumber.{HandleNumber}
 use Rattle.pagable_model.specs.declared.numbers.NodeNumber.{NodeNumber}
 use Rattle.pagable_model.specs.Meaning.{Meaning, number, integer, text, pattern, none, pair, variant, reference, followed}
 use Rattle.pagable_model.specs.Trees.{Tree, tree, type_of, ReadsTree}
 use Rattle.pagable_model.specs.Deep.{Kid, kid}
 use Rattle.pagable_world.specs.State.{held}
-use Rattle.pagable_world.specs.Whole.{Whole, KeyIs, HasType}
+use Rattle.pagable_world.specs.Words.{Among}
+use Rattle.pagable_world.specs.Whole.{Whole, OpenLoad, of_cell, KeyIs, HasType}
 use Rattle.pagable_world.specs.Seen.{Seen}
 use Rattle.pagable_world.specs.Pages.{Pages, HasValue, HasNoValue, WellFormed}
 
@@ -45,12 +47,17 @@ pub record TreeWorld : Type 0 where
   pub plain : Whole
   pub tree : ℕ → Tree
 
--- The pager stands for the world with trees: it is the same world, each live node stands for its tree, and the tree is of the
--- node's type.
+-- the key that a load of a cell reads, reads as its node's tree; of other loads nothing is asked
+abbrev pub LoadFits : {N B W : Type 0} → Seen N B W → Pages N → (ℕ → Tree) → OpenLoad → Type 0
+LoadFits m s tree load = (n : NodeNumber) (t : ℕ) (h own : HandleNumber) → load.root ≡ of_cell n t h own → ReadsTree s.world.stored m.types load.key (tree n.0)
+
+-- The pager stands for the world with trees: it is the same world, each live node stands for its tree, the tree is of the
+-- node's type, and what an open load of a cell reads is its node's tree.
 pub record Represents {N B W : Type 0} (m : Seen N B W) (s : Pages N) (u : TreeWorld) : Type 0 where
   pub same : u.plain ≡ s.world
   pub stands : (n : ℕ) → 0 < held n s.world.rows → NodeStands m s (record { 0 = n }) (u.tree n)
   pub typed : (n : ℕ) → 0 < held n s.world.rows → HasType s.world (record { 0 = n }) (u.tree n).type
+  pub loads : (load : OpenLoad) → Among s.world.loads load → LoadFits m s u.tree load
 
 -- each node up to the one with this number keeps its tree
 abbrev pub SameTrees : ℕ → (ℕ → Tree) → (ℕ → Tree) → Type 0

@@ -49,11 +49,13 @@ pub record TodayWorld : Type 0 where
   pub tree : ℕ → Tree
 
 -- The pager stands for the world: its tables are the same, each value in memory means its node's tree, and each node that is
--- live fits its tree. So a node whose value is away stands for its tree by its key.
+-- live fits its tree. So a node whose value is away stands for its tree by its key. What an open load reads is that too: the
+-- key by which it was opened reads as its node's tree, also where the node has got another key since.
 pub record RepresentsToday {N S E : Type 0} (g : Sight N S E) (v : Shown N S E) (w : TodayWorld) : Type 0 where
   pub same : w.plain ≡ plain v.book
   pub values : All (λ x. MeansTree g x.1 (w.tree x.0)) v.values
   pub cells : All (λ cell. CellFits g v cell (w.tree cell.number)) (plain v.book).cells
+  pub loads : All (λ load. KeyReads g v load.key (w.tree load.node.0)) (plain v.book).loads
 
 -- From each world that the old state stands for, and of which the premise is true, this step leads to one that the new
 -- state stands for, and each node keeps its tree.

@@ -1,6 +1,7 @@
 use Rattle.pagable_book.specs.Shape.{state_of}
 use Rattle.pagable_book.proofs.Comes.{away-step, away-values, next-valueless}
 use Rattle.pagable_book.proofs.Here.{next-unused}
+use Rattle.pagable_book.proofs.Known.{next-unread}
 use Rattle.pagable_book.proofs.book.Book.add_paged_out.Goals as goal
 
 pub returns-clause-values : goal.returns-clause-values
@@ -14,3 +15,6 @@ returns-clause-unused c = rw (← c.self.view_is) (next-unused (state_of c.self.
 
 pub returns-clause-before : goal.returns-clause-before
 returns-clause-before c = rw (← c.self.view_is) (next-valueless (state_of c.self.inside.tables) c.self.invariant)
+
+pub returns-clause-unread : goal.returns-clause-unread
+returns-clause-unread c = rw (← c.self.view_is) (next-unread (state_of c.self.inside.tables) c.self.invariant)

@@ -17,8 +17,9 @@ returns-in-Ok-clause-trees g c =
     let pushed : c.push.new.self.items ≡ old ++ record { node = c.in-Some.number; value = c.args.node } ∷ [] = grind arith in
     let values = rw c.in-Some.ensures.next at (values-push old c.push.new.self.items c.in-Some.number c.args.node pushed) in
     let unused = rw c.in-Some.ensures.next at c.in-Some.ensures.unused in
+    let unread = rw c.in-Some.ensures.next at c.in-Some.ensures.unread in
     let free = none-there g.E.Node.NodeSet.type_of p.book (map value_of old) (p.book.last_node + 1) c.self.invariant c.in-Ok.ensures.comes.before in
-    rw (← c.self.view_is) (birth _ _ _ c.args.node c.node_type-node_type.result c.args.mode c.node_type-node_type.ensures.value c.in-Ok.ensures.step.1 values refl refl unused free)
+    rw (← c.self.view_is) (birth _ _ _ c.args.node c.node_type-node_type.result c.args.mode c.node_type-node_type.ensures.value c.in-Ok.ensures.step.1 values refl refl unused unread free)
 
 pub returns-in_default-clause-why : goal.returns-in_default-clause-why
 returns-in_default-clause-why g c = search rules

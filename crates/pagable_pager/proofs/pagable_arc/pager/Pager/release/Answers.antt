@@ -2,7 +2,7 @@ use Rattle.std.proofs.Common.{map, refl}
 use Rattle.pagable_pager.specs.Rows.{value_of}
 use Rattle.pagable_pager.proofs.Keeping.{in-kept}
 use Rattle.pagable_world.specs.Calls.{Released}
-use Rattle.pagable_pager.proofs.Kept.{keeps-kept, release-cells}
+use Rattle.pagable_pager.proofs.Kept.{keeps-kept, release-keeps}
 use Rattle.pagable_pager.proofs.pagable_arc.pager.Pager.release.Goals as goal
 
 pub invariant_of-self : goal.invariant_of-self
@@ -14,4 +14,4 @@ returns-clause-step g c = rw (← c.self.view_is) c.release-outcome.ensures.step
 pub returns-clause-trees : goal.returns-clause-trees
 returns-clause-trees g c =
     let s = c.release-outcome.ensures.step in
-    rw (← c.self.view_is) (keeps-kept _ _ _ (λ w w'. Released w c.args.handle c.release-outcome.result w') s (release-cells _ _ c.args.handle c.release-outcome.result s) c.sweep.ensures refl refl)
+    rw (← c.self.view_is) (keeps-kept _ _ _ (λ w w'. Released w c.args.handle c.release-outcome.result w') s (release-keeps _ _ c.args.handle c.release-outcome.result s) c.sweep.ensures refl refl)

@@ -2,7 +2,7 @@ use Rattle.std.proofs.Common.{map, refl}
 use Rattle.pagable_pager.specs.Rows.{value_of}
 use Rattle.pagable_pager.proofs.Keeping.{in-kept}
 use Rattle.pagable_world.specs.Calls.{Unpinned}
-use Rattle.pagable_pager.proofs.Kept.{keeps-kept, unpin-cells}
+use Rattle.pagable_pager.proofs.Kept.{keeps-kept, unpin-keeps}
 use Rattle.pagable_pager.proofs.pagable_arc.pager.Pager.unpin.Goals as goal
 
 pub invariant_of-self : goal.invariant_of-self
@@ -14,4 +14,4 @@ returns-clause-step g c = rw (← c.self.view_is) c.unpin-outcome.ensures.step
 pub returns-clause-trees : goal.returns-clause-trees
 returns-clause-trees g c =
     let s = c.unpin-outcome.ensures.step in
-    rw (← c.self.view_is) (keeps-kept _ _ _ (λ w w'. Unpinned w c.args.handle c.unpin-outcome.result w') s (unpin-cells _ _ c.args.handle c.unpin-outcome.result s) c.sweep.ensures refl refl)
+    rw (← c.self.view_is) (keeps-kept _ _ _ (λ w w'. Unpinned w c.args.handle c.unpin-outcome.result w') s (unpin-keeps _ _ c.args.handle c.unpin-outcome.result s) c.sweep.ensures refl refl)
