@@ -30,7 +30,7 @@ is_named : ℕ → ArcRef → ℕ
 is_named q r = if r.handle.0 == q then 1 else 0
 
 -- who names what nobody names, names nothing
-nothing-named : (rs : List ArcRef) → SameHandles [] rs → rs ≡ []
+pub nothing-named : (rs : List ArcRef) → SameHandles [] rs → rs ≡ []
 nothing-named [] same = refl
 nothing-named (r ∷ rs) same =
     let counted = sum_by-cons (λ (x : ArcRef). if x.handle.0 == r.handle.0 then 1 else 0) r rs in

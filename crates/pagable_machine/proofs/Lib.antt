@@ -1,3 +1,4 @@
 pub mod Leading
 pub mod Running
 pub mod Pins
+pub mod Alone

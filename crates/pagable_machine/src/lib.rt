@@ -3,6 +3,7 @@
 
 pub mod laws;
 pub mod machine;
+mod reading;
 mod single;
 
 pub use machine::Machine;

@@ -37,4 +37,6 @@ pub mod Alone
 pub mod Over
 pub mod Results
 pub mod MachineSteps
+pub mod LoadMoves
+pub mod MachineEvents
 pub mod MachineRuns

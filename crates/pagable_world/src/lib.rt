@@ -16,5 +16,5 @@ pub use events::{
     Claim, Event, EventReply, LoadAnswer, LoadReply, PinStep, TableNumber, Took, WorkerAnswer,
     WorkerReply,
 };
-pub use machine::MachineCall;
+pub use machine::{MachineCall, MachineEvent};
 pub use rows::{HandleRow, LoadRow, Mode, NodeRow, Owner};

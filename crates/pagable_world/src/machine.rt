@@ -1,5 +1,5 @@
-//! What the machine is asked: those of the product's calls that exist today. N is the caller's type of values, B that of
-//! blobs.
+//! What the machine is asked: those of the product's calls and events that exist today. N is the caller's type of values, B
+//! that of blobs.
 
 use pagable_model::{DataKey, HandleNumber, LoadNumber, NodeNumber};
 
@@ -50,4 +50,15 @@ pub enum MachineCall<N: Drop, B: Drop> {
     LoadEnd(LoadNumber, N),
     /// A load is given up.
     LoadDrop(LoadNumber),
+}
+
+/// One event of the machine: a call, or a step of a load.
+#[derive(Drop)]
+pub enum MachineEvent<N: Drop, B: Drop> {
+    /// One call of the pager.
+    Call(MachineCall<N, B>),
+    /// A load of a loose handle's cell begins.
+    LoadStart(HandleNumber),
+    /// A load's next step: it fetches the blob of its root; or it reads the value, and ends.
+    LoadStep(LoadNumber),
 }
