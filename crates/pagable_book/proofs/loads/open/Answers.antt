@@ -1,3 +1,4 @@
+use Rattle.std.proofs.lemmas.Grind.{common_steps}
 use Rattle.std.proofs.Common.{◌≡◌, ◌+◌, ◌++◌, ◌∷◌, [], arith}
 use Rattle.pagable_world.specs.declared.rows.Mode.TheVariants as modes
 use Rattle.pagable_world.specs.declared.rows.Owner.TheVariants as owners
@@ -16,3 +17,9 @@ returns-clause-whole c =
     let loads : c.push.new.self.items ≡ s.loads ++ load ∷ [] = grind arith in
     let handles : c.push-2.new.self.items ≡ s.handles ++ h ∷ [] = grind arith in
     rw (loads, handles) (whole-begin s c.args.at.place c.args.key x c.requires.whole c.requires.place c.requires.mode)
+
+pub returns-then-is_err-2-clause-whole : goal.returns-then-is_err-2-clause-whole
+returns-then-is_err-2-clause-whole c = grind (arith, common_steps)
+
+pub returns-then-is_err-2-clause-err : goal.returns-then-is_err-2-clause-err
+returns-then-is_err-2-clause-err c = grind (arith, common_steps)

@@ -1,3 +1,4 @@
+use Rattle.std.proofs.Common.{rules}
 use Rattle.std.proofs.Common.{ap, ◌∙◌, slice_get}
 use Rattle.pagable_world.specs.World.{World}
 use Rattle.pagable_book.proofs.Sums.{push-there}
@@ -10,3 +11,6 @@ add-requires-clause-live c = row-held (state_of c.args.t.now) c.args.at.place c.
 
 pub keep_pinned-requires-clause-place : goal.keep_pinned-requires-clause-place
 keep_pinned-requires-clause-place c = ap (λ (w : World). slice_get w.rows c.args.at.place) c.in_ok-number.ensures.world ∙ push-there c.args.t.now.handles.items _ c.args.at.place c.args.at.row c.requires.place
+
+pub returns-clause-world : goal.returns-clause-world
+returns-clause-world c = search rules
