@@ -19,6 +19,8 @@ mod Calls
 mod Looks
 mod Unpinning
 mod CallsToday
+mod HandlesToday
+mod LooksToday
 mod OnHandles
 mod OnStorage
 mod OnSteps

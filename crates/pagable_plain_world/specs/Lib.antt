@@ -1,6 +1,7 @@
 pub mod Samples
 pub mod FallLaws
 pub mod CallBridges
+pub mod LookBridges
 pub mod RunLaws
 pub mod NearMisses
 pub mod Bridges

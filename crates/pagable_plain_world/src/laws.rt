@@ -2,7 +2,8 @@
 
 ghost use Rattle.pagable_world.specs.Seen.{Seen};
 ghost use Rattle.pagable_plain_world.specs.FallLaws.{IsThere, IsOne, IsGivenAlone, PinsAreAFilter, TwoLevelsFall, TwoLevelsAreReleased, LoneIsListed};
-ghost use Rattle.pagable_plain_world.specs.CallBridges.{AwayBirthsToday, ClonesToday, LoosensToday};
+ghost use Rattle.pagable_plain_world.specs.CallBridges.{AwayBirthsToday, BirthsToday, ClonesToday, LoosensToday, PinsToday, TakesToday};
+ghost use Rattle.pagable_plain_world.specs.LookBridges.{CountsToday, KeysToday, AwayToday, NodesToday, TypesToday};
 ghost use Rattle.pagable_plain_world.specs.RunLaws.{RunsJoin, NewIsWhole, KeysTellTheirTrees};
 ghost use Rattle.pagable_plain_world.specs.Bridges.{ReleasesToday, ReleaseIsToday, UnpinsToday};
 ghost use Rattle.pagable_plain_world.specs.TodayLaws.{IsOfToday, LoadsFitTheirCells, WholeToday, TodayStands, MeaningsHaveNone, HoldersHaveNone};
@@ -63,6 +64,30 @@ pub fn loosens_today()
 /// So is the birth of a cell whose value is away.
 pub fn away_births_today()
     ensures { AwayBirthsToday }
+{}
+
+/// So is the birth of a cell of a value without references.
+pub fn births_today<N>()
+    ensures { BirthsToday N }
+{}
+
+/// So is a pin, with the key that has to be read first.
+pub fn pins_today()
+    ensures { PinsToday }
+{}
+
+/// So is the taking of an entry of the list.
+pub fn takes_today()
+    ensures { TakesToday }
+{}
+
+/// What today's look-ups answer they answer of the whole world too.
+pub fn looks_today()
+    ensures counts { CountsToday }
+    ensures keys { KeysToday }
+    ensures away { AwayToday }
+    ensures nodes { NodesToday }
+    ensures types { TypesToday }
 {}
 
 /// An unpin as today's tables do it is one of the whole world.
