@@ -55,21 +55,21 @@ births-today w loads x node_type mode (Err e) v small (cannot, same) =
     (found.0, found.1 ∙ sym same, found.2)
 
 -- what is in memory or away today is so in the whole world
-here-too : (w : Whole) (loads : List LoadRow) (n : NodeNumber) → IsHere (today loads w) n → IsInMemory w n
+pub here-too : (w : Whole) (loads : List LoadRow) (n : NodeNumber) → IsHere (today loads w) n → IsInMemory w n
 here-too w loads n (inl some) = inl some
 here-too w loads n (inr (cell, (j, there, number), is)) = inr (cell, ((j, there), number), is)
 
-away-too : (w : Whole) (loads : List LoadRow) (n : NodeNumber) (key : ℕ) → IsAway (today loads w) n key → IsPagedOut w n key
+pub away-too : (w : Whole) (loads : List LoadRow) (n : NodeNumber) (key : ℕ) → IsAway (today loads w) n key → IsPagedOut w n key
 away-too w loads n key (none, (cell, (j, there, number), is)) = (none, (cell, ((j, there), number), is))
 
-owns-too : (w : Whole) (loads : List LoadRow) (h : HandleNumber) (i : ℕ) (row : HandleRow) → IsOwn (today loads w) h i row → is_loose row.mode ≡ true → Owns w owners.Caller h LooseMode row
+pub owns-too : (w : Whole) (loads : List LoadRow) (h : HandleNumber) (i : ℕ) (row : HandleRow) → IsOwn (today loads w) h i row → is_loose row.mode ≡ true → Owns w owners.Caller h LooseMode row
 owns-too w loads h i row own loose = (((i, own.there), own.number), own.owner, loose)
 
 lone : (w : Whole) (h : HandleNumber) (i : ℕ) (row x : HandleRow) → IsWhole w → slice_get w.rows i ≡ Some row → row.number ≡ h → HasRowOf w h x → x ≡ row
 lone w h i row x whole there number (among, is) = let n = ap (λ q. q.0) is in let m = ap (λ q. q.0) number in unique (is_number h.0) w.rows x row among (i, there) (grind (arith, nat_tests)) (grind (arith, nat_tests)) (whole.handles.once h.0)
 
 -- an own loose handle is none of the causes that come before numbers and memory
-fit : (w : Whole) (loads : List LoadRow) (h : HandleNumber) (i : ℕ) (row : HandleRow) → IsWhole w → IsOwn (today loads w) h i row → is_loose row.mode ≡ true → (x : HandleRow) → HasRowOf w h x → (x.owner ≡ owners.Caller) × LooseMode x.mode
+pub fit : (w : Whole) (loads : List LoadRow) (h : HandleNumber) (i : ℕ) (row : HandleRow) → IsWhole w → IsOwn (today loads w) h i row → is_loose row.mode ≡ true → (x : HandleRow) → HasRowOf w h x → (x.owner ≡ owners.Caller) × LooseMode x.mode
 fit w loads h i row whole own loose x has =
     let same = lone w h i row x whole own.there own.number has in
     (ap (λ y. y.owner) same ∙ own.owner, ap (λ y. is_loose y.mode) same ∙ loose)
@@ -78,15 +78,13 @@ fit w loads h i row whole own loose x has =
 pin-refused : (w : Whole) (loads : List LoadRow) (h : HandleNumber) (i : ℕ) (row : HandleRow) (e : Error) → IsWhole w → IsOwn (today loads w) h i row → is_loose row.mode ≡ true → IsHere (today loads w) row.node → CannotMake w.last.handle e
     → (w' : Whole) × (today loads w' ≡ today loads w) × PinCall w owners.Caller h (Err e) w'
 pin-refused w loads h i row errors.NumbersSpent whole own loose here spent =
-    let fits = fit w loads h i row whole own loose in
-    (
+    let fits = fit w loads h i row whole own loose in (
       w,
       refl,
       (record { rest = refl; grows = omega arith }, (is-live w h i row own.there own.number, (λ foreign. foreign.2 (fits foreign.0 foreign.1).0), (λ unfit. unfit.2 (fits unfit.0 unfit.1).1), (λ no. no), ((row, ((i, own.there), own.number), here-too w loads row.node here), omega arith))),
     )
 pin-refused w loads h i row errors.OutOfMemory whole own loose here room =
-    let fits = fit w loads h i row whole own loose in
-    (
+    let fits = fit w loads h i row whole own loose in (
       record w { refusals = w.refusals + 1 },
       refl,
       (

@@ -21,6 +21,9 @@ mod Unpinning
 mod CallsToday
 mod HandlesToday
 mod LooksToday
+mod StorageToday
+mod KeysToday
+mod BeginsToday
 mod OnHandles
 mod OnStorage
 mod OnSteps

@@ -1,5 +1,5 @@
--- Today's births, clones, loosenings, pins and takings are those of the whole world. The numbers that are given are there: a
--- number has 64 bits.
+-- Today's births, clones, loosenings, pins, takings, set keys and begins of loads are those of the whole world. The numbers that
+-- are given are there: a number has 64 bits.
 use Rattle.std.specs.Prelude.{ℕ, ◌≡◌, ◌≤◌, ◌<◌, List, [], Option, Result, Ok, Err, IfOk}
 use Rattle.pagable_model.specs.declared.error.Error.{Error}
 use Rattle.pagable_model.specs.declared.numbers.HandleNumber.{HandleNumber}
@@ -8,11 +8,15 @@ use Rattle.pagable_world.specs.declared.rows.Owner.TheVariants as owners
 use Rattle.pagable_world.specs.declared.rows.LoadRow.{LoadRow}
 use Rattle.pagable_world.specs.declared.answers.Pinning.{Pinning}
 use Rattle.pagable_world.specs.declared.answers.Pinning.TheVariants as pinnings
+use Rattle.pagable_world.specs.declared.answers.Beginning.{Beginning}
+use Rattle.pagable_world.specs.declared.answers.Beginning.TheVariants as beginnings
 use Rattle.pagable_world.specs.World.{World, greatest}
-use Rattle.pagable_world.specs.Calls.{Born, BornAway, Cloned, Loosened, PinnedBy, Took}
+use Rattle.pagable_world.specs.Calls.{Begun, Born, BornAway, Cloned, KeySet, Loosened, PinnedBy, Took}
 use Rattle.pagable_world.specs.Whole.{Whole}
 use Rattle.pagable_world.specs.Pages.{IsWhole}
-use Rattle.pagable_world.specs.Handles.{AwayBirthCall, BirthCall, CloneCall, LoosenCall, PinCall, TakeCall}
+use Rattle.pagable_world.specs.Handles.{AwayBirthCall, BirthCall, CloneCall, LoosenCall, PinCall, SetKeyCall, TakeCall}
+use Rattle.pagable_world.specs.Loads.{BeginCall}
+use Rattle.pagable_plain_world.specs.FallLaws.{OwnsNothing}
 use Rattle.pagable_plain_world.specs.Bridges.{today}
 
 -- a clone as today's tables make it, or its refusal
@@ -66,3 +70,22 @@ TakesToday =
     (w : Whole) (loads : List LoadRow) (i : ℕ) (r : Option HandleNumber) (v : World)
     → IsWhole w → Took (today loads w) i r v
     → (w' : Whole) × (today loads w' ≡ v) × TakeCall w owners.Caller i r w'
+
+-- a key that is set, or the refusal, where no value owns a handle
+abbrev pub SetKeysToday : Type 0
+SetKeysToday =
+    (w : Whole) (loads : List LoadRow) (h : HandleNumber) (key : ℕ) (r : Result (Unit {0}) Error) (v : World)
+    → IsWhole w → OwnsNothing w.rows → KeySet (today loads w) h key r v
+    → (w' : Whole) × (today loads w' ≡ v) × SetKeyCall w owners.Caller h key r w'
+
+-- the numbers of a load that begins, and of its own handle, are there
+abbrev pub HasNumbers : Whole → Beginning → Type 0
+HasNumbers w (beginnings.Load l key) = (l.0 ≤ greatest) × (w.last.handle < greatest)
+HasNumbers w beginnings.InMemory = Unit {0}
+
+-- a load that begins, with its row in today's tables; or that nothing has to be read, or the refusal
+abbrev pub BeginsToday : Type 0
+BeginsToday =
+    (w : Whole) (loads : List LoadRow) (h : HandleNumber) (r : Result Beginning Error) (v : World)
+    → IsWhole w → IfOk r (HasNumbers w) → Begun (today loads w) h r v
+    → (w' : Whole) × (today v.loads w' ≡ v) × BeginCall w owners.Caller h r w'

@@ -2,7 +2,9 @@
 
 ghost use Rattle.pagable_world.specs.Seen.{Seen};
 ghost use Rattle.pagable_plain_world.specs.FallLaws.{IsThere, IsOne, IsGivenAlone, PinsAreAFilter, TwoLevelsFall, TwoLevelsAreReleased, LoneIsListed};
-ghost use Rattle.pagable_plain_world.specs.CallBridges.{AwayBirthsToday, BirthsToday, ClonesToday, LoosensToday, PinsToday, TakesToday};
+ghost use Rattle.pagable_plain_world.specs.CallBridges.{AwayBirthsToday, BeginsToday, BirthsToday, ClonesToday, LoosensToday, PinsToday, SetKeysToday, TakesToday};
+ghost use Rattle.pagable_plain_world.specs.StoreBridges.{FetchesToday, StoresToday};
+ghost use Rattle.pagable_world.specs.MachineSteps.{MachineSight};
 ghost use Rattle.pagable_plain_world.specs.LookBridges.{CountsToday, KeysToday, AwayToday, NodesToday, TypesToday};
 ghost use Rattle.pagable_plain_world.specs.RunLaws.{RunsJoin, NewIsWhole, KeysTellTheirTrees};
 ghost use Rattle.pagable_plain_world.specs.Bridges.{ReleasesToday, ReleaseIsToday, UnpinsToday};
@@ -24,6 +26,13 @@ pub trait SeenAs<B, W>: Sized {
 pub trait SightOf<S, E>: Sized {
     // How they are seen.
     ghost sight: { Sight Self S E };
+}
+
+/// How today's machine sees values of this type, with storages S, environments E, blobs B that are handed in and blobs C that are
+/// answered: any values, so that a law is one of all.
+pub trait MachineSightOf<S, E, B, C>: Sized {
+    // How they are seen.
+    ghost sees: { MachineSight Self S E B C };
 }
 
 /// There is a least set of handles that fall with given ones.
@@ -79,6 +88,22 @@ pub fn pins_today()
 /// So is the taking of an entry of the list.
 pub fn takes_today()
     ensures { TakesToday }
+{}
+
+/// So is a key that is set, where no value owns a handle.
+pub fn set_keys_today()
+    ensures { SetKeysToday }
+{}
+
+/// So is the begin of a load.
+pub fn begins_today()
+    ensures { BeginsToday }
+{}
+
+/// What today's machine does to the storage is what the whole world's calls do to it.
+pub fn storage_today<N: MachineSightOf<S, E, B, C>, S, E, B, C>()
+    ensures fetches { FetchesToday N.sees }
+    ensures stores { StoresToday N.sees }
 {}
 
 /// What today's look-ups answer they answer of the whole world too.
