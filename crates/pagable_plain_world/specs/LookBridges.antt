@@ -1,5 +1,5 @@
 -- What today's look-ups answer they answer of the whole world too.
-use Rattle.std.specs.Prelude.{ℕ, ◌≡◌, Bool, List, Option, length, Result}
+use Rattle.std.specs.Prelude.{ℕ, Bool, List, Option, Result}
 use Rattle.pagable_model.specs.declared.error.Error.{Error}
 use Rattle.pagable_model.specs.declared.data_key.OptionalDataKey.{OptionalDataKey}
 use Rattle.pagable_model.specs.declared.numbers.HandleNumber.{HandleNumber}

@@ -3,7 +3,7 @@
 ghost use Rattle.pagable_world.specs.Seen.{Seen};
 ghost use Rattle.pagable_plain_world.specs.FallLaws.{IsThere, IsOne, IsGivenAlone, PinsAreAFilter, TwoLevelsFall, TwoLevelsAreReleased, LoneIsListed};
 ghost use Rattle.pagable_plain_world.specs.CallBridges.{AwayBirthsToday, BeginsToday, BirthsToday, ClonesToday, LoosensToday, PinsToday, SetKeysToday, TakesToday};
-ghost use Rattle.pagable_plain_world.specs.StoreBridges.{FetchesToday, StoresToday};
+ghost use Rattle.pagable_plain_world.specs.StoreBridges.{AsksToday, FetchesToday, StoresToday};
 ghost use Rattle.pagable_world.specs.MachineSteps.{MachineSight};
 ghost use Rattle.pagable_plain_world.specs.LookBridges.{CountsToday, KeysToday, AwayToday, NodesToday, TypesToday};
 ghost use Rattle.pagable_plain_world.specs.RunLaws.{RunsJoin, NewIsWhole, KeysTellTheirTrees};
@@ -104,6 +104,7 @@ pub fn begins_today()
 pub fn storage_today<N: MachineSightOf<S, E, B, C>, S, E, B, C>()
     ensures fetches { FetchesToday N.sees }
     ensures stores { StoresToday N.sees }
+    ensures asks { AsksToday N.sees }
 {}
 
 /// What today's look-ups answer they answer of the whole world too.
