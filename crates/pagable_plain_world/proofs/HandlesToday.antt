@@ -1,6 +1,6 @@
 -- Births, pins and takings, as today's tables do them, are those of the whole world.
-use Rattle.std.proofs.Common.{◌≡◌, ℕ, ◌+◌, ◌<◌, ◌≤◌, ◌==◌, true, false, List, [], ◌∷◌, ◌++◌, refl, ap, sym, ◌∙◌, subst, inl, inr, arith}
-use Rattle.std.specs.Prelude.{◌⊎◌, Ok, Err, Some, None, Result, slice_get, slice_set}
+use Rattle.std.proofs.Common.{◌≡◌, ℕ, ◌+◌, ◌<◌, ◌≤◌, true, List, [], ◌∷◌, ◌++◌, refl, ap, sym, ◌∙◌, subst, inl, inr, arith}
+use Rattle.std.specs.Prelude.{Ok, Err, Some, None, slice_get}
 use Rattle.std.specs.List.{remove}
 use Rattle.std.proofs.lemmas.Bool.Decides.{nat_tests}
 use Rattle.pagable_model.specs.declared.error.Error.{Error}
@@ -15,13 +15,13 @@ use Rattle.pagable_world.specs.declared.rows.Owner.TheVariants as owners
 use Rattle.pagable_world.specs.declared.rows.HandleRow.{HandleRow}
 use Rattle.pagable_world.specs.declared.rows.LoadRow.{LoadRow}
 use Rattle.pagable_world.specs.State.{is_number, is_loose}
-use Rattle.pagable_world.specs.World.{World, greatest, joined, next_row, turned, CannotBear, CannotMake, IsHere, IsAway}
-use Rattle.pagable_world.specs.Refusals.{IsOwn, RefusesLoose}
+use Rattle.pagable_world.specs.World.{greatest, next_row, CannotBear, CannotMake, IsHere, IsAway}
+use Rattle.pagable_world.specs.Refusals.{IsOwn}
 use Rattle.pagable_world.specs.Whole.{Whole, HasRowOf}
 use Rattle.pagable_world.specs.Pages.{IsWhole}
 use Rattle.pagable_world.specs.Causes.{RefusesHandle, LooseMode, Owns}
 use Rattle.pagable_world.specs.Falls.{only_handle}
-use Rattle.pagable_world.specs.Handles.{BirthCall, PinCall, IsInMemory, IsPagedOut, moved, next_node, row_of, with_handle, with_mode, with_node}
+use Rattle.pagable_world.specs.Handles.{BirthCall, PinCall, IsInMemory, IsPagedOut, moved, next_node, with_handle, with_mode, with_node}
 use Rattle.pagable_plain_world.specs.Bridges.{today}
 use Rattle.pagable_plain_world.specs.CallBridges.{BirthsToday, PinsToday, TakesToday}
 use Rattle.pagable_plain_world.proofs.Places.{changed-one, unique}

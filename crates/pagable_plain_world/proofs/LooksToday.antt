@@ -1,13 +1,12 @@
 -- What today's look-ups answer they answer of the whole world too.
-use Rattle.std.proofs.Common.{◌≡◌, ℕ, ◌<◌, ◌≤◌, ◌==◌, ◌&&◌, Bool, true, false, List, [], ◌∷◌, sum_by, All, refl, ap, sym, ◌∙◌, subst, inl, inr, arith}
-use Rattle.std.specs.Prelude.{◌⊎◌, ◌≢◌, nat_eq, Option, Some, None, Result, Ok, Err, slice_get}
+use Rattle.std.proofs.Common.{◌≡◌, ℕ, ◌==◌, ◌&&◌, Bool, true, false, refl, sym, inl, inr, arith}
+use Rattle.std.specs.Prelude.{◌≢◌, nat_eq, Some, None, Ok, Err}
 use Rattle.std.proofs.lemmas.Bool.Decides.{nat_tests}
 use Rattle.pagable_model.specs.declared.data_key.OptionalDataKey.{OptionalDataKey}
 use Rattle.pagable_model.specs.declared.data_key.OptionalDataKey.TheVariants as optional
 use Rattle.pagable_model.specs.declared.numbers.NodeNumber.{NodeNumber}
 use Rattle.pagable_world.specs.State.{one, pins, has_key}
 use Rattle.pagable_world.specs.Cells.{Cell}
-use Rattle.pagable_world.specs.Words.{Among}
 use Rattle.pagable_world.specs.Whole.{Whole, KeyIs, is_cell}
 use Rattle.pagable_world.specs.Handles.{AwayIfTrue}
 use Rattle.pagable_plain_world.specs.LookBridges.{CountsToday, KeysToday, AwayToday, NodesToday, TypesToday}
