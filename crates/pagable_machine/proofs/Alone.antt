@@ -411,13 +411,16 @@ means-its-tree M types type blob own after means gave stored key t found typed t
     let is = follows-itself (plain own) (subst (λ m. IsFollowed (ReadsAs stored types) m t.meaning) same tree.follows) in
     subst M (alike.whole ∙ ap (λ (m : Meaning ⊥). lifted m) is) means
 
--- It holds no references.
+-- What was read so has no references.
+pub has-none : (types : Types) (type : ℕ) (blob : Blob) (own : Meaning ArcRef) (after : Rest Answer) → read_typed (handles_at 0 types.parts) (types.nodes type) (refused_rest blob) ≡ Ok (own, after) → references_in own ≡ []
+has-none types type blob own after gave =
+    let alike = read-alike 0 types.parts (types.nodes type) blob blob.keys (blob_context types).look own after gave in
+    ap (λ (m : Meaning ArcRef). references_in m) alike.whole ∙ followed-holds-none (plain own)
+
+-- So a value that means it holds none.
 pub holds-none : {X : Type 0} (refs_of : X → List ArcRef) (x : X) (types : Types) (type : ℕ) (blob : Blob) (own : Meaning ArcRef) (after : Rest Answer) → SameHandles (refs_of x) (references_in own)
     → read_typed (handles_at 0 types.parts) (types.nodes type) (refused_rest blob) ≡ Ok (own, after) → refs_of x ≡ []
-holds-none refs_of x types type blob own after same gave =
-    let alike = read-alike 0 types.parts (types.nodes type) blob blob.keys (blob_context types).look own after gave in
-    let none = ap (λ (m : Meaning ArcRef). references_in m) alike.whole ∙ followed-holds-none (plain own) in
-    nothing-named (refs_of x) (subst (λ rs. SameHandles rs (refs_of x)) none (λ q. sym (same q)))
+holds-none refs_of x types type blob own after same gave = nothing-named (refs_of x) (subst (λ rs. SameHandles rs (refs_of x)) (has-none types type blob own after gave) (λ q. sym (same q)))
 
 -- ---- of a result
 

@@ -349,7 +349,7 @@ module _ (w : Whole) (whole : IsWhole w) (h : HandleNumber) (i : ℕ) (row : Han
   released-at loads r v nothing stands (inr (mode, (mid, prepared, leaves))) = with-pin loads r mid v nothing stands mode prepared leaves
 
 -- a refusal of today's is one of the whole world
-refuses : (w : Whole) (loads : List LoadRow) (h : HandleNumber) (e : Error) → RefusesOwn (today loads w) h e → RefusesHandle w owners.Caller h AnyMode e
+pub refuses : (w : Whole) (loads : List LoadRow) (h : HandleNumber) (e : Error) → RefusesOwn (today loads w) h e → RefusesHandle w owners.Caller h AnyMode e
 refuses w loads h errors.NoSuchHandle unknown = unknown
 refuses w loads h errors.NotYours (i, row, (at, number), other) =
     ((λ unknown. let a = at-most-sum (is_number h.0) w.rows row (i, at) in let n : row.number.0 ≡ h.0 = ap (λ x. x.0) number in let s = same-number row.number.0 h.0 n in absurd (grind (arith, nat_tests))), (row, ((i, at), number), other))

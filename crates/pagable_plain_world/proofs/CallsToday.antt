@@ -26,7 +26,7 @@ use Rattle.pagable_plain_world.proofs.Turning.{one-changed}
 use Rattle.pagable_plain_world.proofs.Bridging.{same-number}
 
 -- a handle with a row is live
-is-live : (w : Whole) (h : HandleNumber) (i : ℕ) (row : HandleRow) → slice_get w.rows i ≡ Some row → row.number ≡ h → IsNotLive w h → ⊥
+pub is-live : (w : Whole) (h : HandleNumber) (i : ℕ) (row : HandleRow) → slice_get w.rows i ≡ Some row → row.number ≡ h → IsNotLive w h → ⊥
 is-live w h i row at named unknown = let a = at-most-sum (is_number h.0) w.rows row (i, at) in let s = same-number row.number.0 h.0 (ap (λ x. x.0) named) in absurd (grind (arith, nat_tests))
 
 -- where no handle can be made, a clone is refused; a growth that was refused is counted
@@ -74,12 +74,12 @@ loosens-today w loads h (Ok k) v whole (i, row, own, mode, named, is) =
 loosens-today w loads h (Err e) v whole (why, same) = (w, sym same, (refuses w loads h e whole why, refl))
 
 -- a value without references moves no handle
-none-moved : (o : Owner) (rows : List HandleRow) → moved (is_named_by []) o rows ≡ rows
+pub none-moved : (o : Owner) (rows : List HandleRow) → moved (is_named_by []) o rows ≡ rows
 unfolding is_named_by
 none-moved o [] = refl
 none-moved o (x ∷ xs) = ap (λ ys. x ∷ ys) (none-moved o xs)
 
-not-spent : (w : Whole) → w.last.node < greatest → w.last.handle < greatest → IsSpent w.last.node 1 ⊎ IsSpent w.last.handle 1 → ⊥
+pub not-spent : (w : Whole) → w.last.node < greatest → w.last.handle < greatest → IsSpent w.last.node 1 ⊎ IsSpent w.last.handle 1 → ⊥
 not-spent w node handle (inl spent) = let above : greatest < w.last.node + 1 = spent in omega arith
 not-spent w node handle (inr spent) = let above : greatest < w.last.handle + 1 = spent in omega arith
 

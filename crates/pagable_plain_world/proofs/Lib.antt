@@ -20,6 +20,11 @@ mod Calls
 mod Looks
 mod Unpinning
 mod CallsToday
+mod HandlesToday
+mod LooksToday
+mod StorageToday
+mod KeysToday
+mod BeginsToday
 mod OnHandles
 mod OnStorage
 mod OnSteps

@@ -30,7 +30,7 @@ use Rattle.pagable_plain_world.proofs.Turning.{sum-set, one-changed}
 use Rattle.pagable_plain_world.proofs.Bridging.{self-number, one-true, left-true, same-number, same-world, held-live, single-key, no-shares}
 
 -- a place of the first list is one of both
-set-append : {X : Type 0} (xs ys : List X) (i : ℕ) (x y : X) → slice_get xs i ≡ Some x → set (xs ++ ys) i y ≡ set xs i y ++ ys
+pub set-append : {X : Type 0} (xs ys : List X) (i : ℕ) (x y : X) → slice_get xs i ≡ Some x → set (xs ++ ys) i y ≡ set xs i y ++ ys
 set-append [] ys i x y at = absurd (cc)
 set-append (z ∷ zs) ys zero x y at = refl
 set-append (z ∷ zs) ys (suc i) x y at = ap (λ ls. z ∷ ls) (set-append zs ys i x y at)
@@ -205,7 +205,7 @@ live-known : (w : Whole) (h : HandleNumber) (i : ℕ) (row : HandleRow) → slic
 live-known w h i row at named unknown = let a = at-most-sum (is_number h.0) w.rows row (i, at) in let s = same-number row.number.0 h.0 (ap (λ x. x.0) named) in absurd (grind (arith, nat_tests))
 
 -- a refusal of today's is one of the whole world
-refuses : (w : Whole) (loads : List LoadRow) (h : HandleNumber) (e : Error) → IsWhole w → RefusesLoose (today loads w) h e → RefusesHandle w owners.Caller h LooseMode e
+pub refuses : (w : Whole) (loads : List LoadRow) (h : HandleNumber) (e : Error) → IsWhole w → RefusesLoose (today loads w) h e → RefusesHandle w owners.Caller h LooseMode e
 refuses w loads h errors.NoSuchHandle whole unknown = unknown
 refuses w loads h errors.NotYours whole (i, row, (at, named), other) = (live-known w h i row at named, (row, ((i, at), named), other))
 refuses w loads h errors.WrongMode whole (i, row, own, tight) = (

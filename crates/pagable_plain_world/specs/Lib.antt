@@ -1,6 +1,8 @@
 pub mod Samples
 pub mod FallLaws
 pub mod CallBridges
+pub mod LookBridges
+pub mod StoreBridges
 pub mod RunLaws
 pub mod NearMisses
 pub mod Bridges

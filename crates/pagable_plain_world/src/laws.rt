@@ -2,7 +2,10 @@
 
 ghost use Rattle.pagable_world.specs.Seen.{Seen};
 ghost use Rattle.pagable_plain_world.specs.FallLaws.{IsThere, IsOne, IsGivenAlone, PinsAreAFilter, TwoLevelsFall, TwoLevelsAreReleased, LoneIsListed};
-ghost use Rattle.pagable_plain_world.specs.CallBridges.{AwayBirthsToday, ClonesToday, LoosensToday};
+ghost use Rattle.pagable_plain_world.specs.CallBridges.{AwayBirthsToday, BeginsToday, BirthsToday, ClonesToday, LoosensToday, PinsToday, SetKeysToday, TakesToday};
+ghost use Rattle.pagable_plain_world.specs.StoreBridges.{AsksToday, FetchesToday, StoresToday};
+ghost use Rattle.pagable_world.specs.MachineSteps.{MachineSight};
+ghost use Rattle.pagable_plain_world.specs.LookBridges.{CountsToday, KeysToday, AwayToday, NodesToday, TypesToday};
 ghost use Rattle.pagable_plain_world.specs.RunLaws.{RunsJoin, NewIsWhole, KeysTellTheirTrees};
 ghost use Rattle.pagable_plain_world.specs.Bridges.{ReleasesToday, ReleaseIsToday, UnpinsToday};
 ghost use Rattle.pagable_plain_world.specs.TodayLaws.{IsOfToday, LoadsFitTheirCells, WholeToday, TodayStands, MeaningsHaveNone, HoldersHaveNone};
@@ -24,6 +27,13 @@ pub trait SeenAs<B, W>: Sized {
 pub trait SightOf<S, E>: Sized {
     // How they are seen.
     ghost sight: { Sight Self S E };
+}
+
+/// How today's machine sees values of this type, with storages S, environments E, blobs B that are handed in and blobs C that are
+/// answered: any values, so that a law is one of all.
+pub trait MachineSightOf<S, E, B, C>: Sized {
+    // How they are seen.
+    ghost sees: { MachineSight Self S E B C };
 }
 
 /// There is a least set of handles that fall with given ones.
@@ -64,6 +74,47 @@ pub fn loosens_today()
 /// So is the birth of a cell whose value is away.
 pub fn away_births_today()
     ensures { AwayBirthsToday }
+{}
+
+/// So is the birth of a cell of a value without references.
+pub fn births_today<N>()
+    ensures { BirthsToday N }
+{}
+
+/// So is a pin, with the key that has to be read first.
+pub fn pins_today()
+    ensures { PinsToday }
+{}
+
+/// So is the taking of an entry of the list.
+pub fn takes_today()
+    ensures { TakesToday }
+{}
+
+/// So is a key that is set, where no value owns a handle.
+pub fn set_keys_today()
+    ensures { SetKeysToday }
+{}
+
+/// So is the begin of a load.
+pub fn begins_today()
+    ensures { BeginsToday }
+{}
+
+/// What today's machine does to the storage is what the whole world's calls do to it.
+pub fn storage_today<N: MachineSightOf<S, E, B, C>, S, E, B, C>()
+    ensures fetches { FetchesToday N.sees }
+    ensures stores { StoresToday N.sees }
+    ensures asks { AsksToday N.sees }
+{}
+
+/// What today's look-ups answer they answer of the whole world too.
+pub fn looks_today()
+    ensures counts { CountsToday }
+    ensures keys { KeysToday }
+    ensures away { AwayToday }
+    ensures nodes { NodesToday }
+    ensures types { TypesToday }
 {}
 
 /// An unpin as today's tables do it is one of the whole world.
