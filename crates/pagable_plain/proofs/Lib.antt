@@ -17,6 +17,9 @@ mod Natural
 mod Deep
 mod AnyOrder
 mod JsonNumbers
+mod JsonMembers
+mod JsonReading
+mod JsonWriting
 mod Inside
 mod Limits
 mod Gathering

@@ -1,12 +1,16 @@
 -- The forms of small values.
-use Rattle.std.proofs.Common.{◌≡◌, ℕ, ℤ, ◌<◌, ◌≤◌, ◌^◌, Bool, List, [], ◌∷◌, ◌++◌, length, Option, Some, None, Result, Ok, Err, sym, subst, Global}
+use Rattle.std.proofs.Common.{◌≡◌, ℕ, ℤ, ◌<◌, ◌≤◌, ◌^◌, Bool, List, [], ◌∷◌, ◌++◌, length, Option, Some, None, Result, Ok, Err, sym, subst, inl, inr, Global}
 use Rattle.std.specs.Int.{w8, w16, w64}
 use Rattle.std.specs.Char.{IsScalar}
 use Rattle.std.specs.Str.{IsUtf8}
-use Rattle.std.specs.Prelude.{OnOk, IfErr}
+use Rattle.std.specs.Prelude.{OnOk, IfErr, ◌⊎◌}
 use Rattle.std.specs.String.{string_bytes}
 use Rattle.std.specs.declared.string.String.{String}
 use Rattle.pagable_model.specs.declared.error.Error.{Error}
+use Rattle.pagable_model.specs.declared.error.Error.TheVariants as errors
+use Rattle.pagable_model.specs.Gives.{memory}
+use Rattle.pagable_plain.specs.declared.json.OrderedJson.{OrderedJson}
+use Rattle.pagable_plain.specs.JsonValues.{IsJsonRefusal}
 use Rattle.pagable_plain.specs.declared.samples.Sample.{Sample}
 use Rattle.pagable_plain.specs.declared.samples.Sample.TheVariants as values
 use Rattle.pagable_plain.specs.declared.spans.Span.{Span}
@@ -19,7 +23,7 @@ use Rattle.pagable_model.specs.Carried.{of_option}
 use Rattle.pagable_model.specs.Form.{unsigned-form, signed-form, flag-form, text-form, letter-form, duration-form, none-form, some-form, ok-form, err-form}
 use Rattle.pagable_model.specs.Reading.{deepest}
 use Rattle.pagable_plain.specs.Appended.{Appends, NoneWhere}
-use Rattle.pagable_plain.specs.Samples.{Spells, shape_of, sort_of, meaning_of, HasNoForm, WritesSample, IsMaybe, maybe_form, IsAttempt, attempt_form}
+use Rattle.pagable_plain.specs.Samples.{Spells, shape_of, sort_of, meaning_of, HasNoForm, IsJsonFault, WritesSample, IsMaybe, maybe_form, IsAttempt, attempt_form}
 
 on_ok : {X P Q : Type 0} (r : Result X Error) → (P → Q) → OnOk r P → OnOk r Q
 on_ok (Ok x) f p = f p
@@ -71,6 +75,20 @@ module _ {X : Type 0} (r : Result X Error) (v : Sample) (old new : List ℕ) whe
   pub written_attempt : (a : Result (String Global) (String Global)) → v ≡ values.Attempt a → OnOk r (IsAttempt a × (new ≡ old ++ attempt_form a)) → OnOk r (WritesSample v old new)
   written_attempt (Ok t) e f = known (values.Attempt (Ok t)) e (on_ok r (λ g. record { bytes = attempt_form (Ok t); form = ok-form _ _ _ _ _ _ (text-form _ (string_bytes t) g.0.0 g.0.1); grown = g.1 }) f)
   written_attempt (Err t) e f = known (values.Attempt (Err t)) e (on_ok r (λ g. record { bytes = attempt_form (Err t); form = err-form _ _ _ _ _ _ (text-form _ (string_bytes t) g.0.0 g.0.1); grown = g.1 }) f)
+
+-- why a JSON value isn't written
+json-refusal : (v : Sample) (j : OrderedJson) (e : Error) → v ≡ values.Json j → IsJsonRefusal e → ((e ≡ errors.TooLong) ⊎ memory e) ⊎ IsJsonFault v e
+json-refusal v j e is h = let P : Sample → Type 0 = λ x. ((e ≡ errors.TooLong) ⊎ memory e) ⊎ IsJsonFault x e in subst P (sym is) (by h)
+  where
+    by : IsJsonRefusal e → ((e ≡ errors.TooLong) ⊎ memory e) ⊎ IsJsonFault (values.Json j) e
+    by (inl long) = inl (inl long)
+    by (inr (inl deep)) = inr (inl deep)
+    by (inr (inr (inl number))) = inr (inr number)
+    by (inr (inr (inr own))) = inl (inr own)
+
+pub json_refused : {X : Type 0} (r : Result X Error) (v : Sample) (j : OrderedJson) → v ≡ values.Json j → IfErr r IsJsonRefusal → IfErr r (λ e. ((e ≡ errors.TooLong) ⊎ memory e) ⊎ IsJsonFault v e)
+json_refused (Ok x) v j is h = tt
+json_refused (Err e) v j is h = json-refusal v j e is h
 
 -- what has no form, in the words of a value
 pub refused_part : {X : Type 0} (r : Result X Error) (v w : Sample) → v ≡ w → IfErr r (NoneWhere deepest (shape_of (sort_of w)) (meaning_of w)) → IfErr r (HasNoForm v)

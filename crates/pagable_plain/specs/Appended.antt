@@ -40,6 +40,10 @@ HasNone left s m = (b : List ℕ) (k : List KeyRef) → FormOf left s m b k → 
 abbrev pub NoneWhere : ℕ → Shape → Meaning KeyRef → Error → Type 0
 NoneWhere left s m e = IsTrue (is_writing_fault e) → HasNone left s m
 
+-- the same of items
+abbrev pub NoItemsWhere : ℕ → Shape → List (Meaning KeyRef) → Error → Type 0
+NoItemsWhere left s ms e = IsTrue (is_writing_fault e) → (b : List ℕ) (k : List KeyRef) → Forms KeyRef kind_of_ref no_parts left s ms b k → ⊥
+
 -- the same of entries
 abbrev pub NoEntriesWhere : ℕ → Shape → Shape → List (Entry KeyRef) → Error → Type 0
 NoEntriesWhere left s t es e = IsTrue (is_writing_fault e) → (b : List ℕ) (k : List KeyRef) → Entries KeyRef kind_of_ref no_parts left s t es b k → ⊥

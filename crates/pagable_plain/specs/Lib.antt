@@ -7,5 +7,6 @@ pub mod Lists
 pub mod Maps
 pub mod Registries
 pub mod Appended
+pub mod JsonValues
 pub mod Samples
 pub mod Rows

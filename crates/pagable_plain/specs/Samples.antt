@@ -1,5 +1,5 @@
 -- What the small values of the plain program are, and how they are read and written.
-use Rattle.std.specs.Prelude.{◌≡◌, ◌<◌, ◌≤◌, ◌^◌, ℕ, List, [], ◌∷◌, ◌++◌, length, Option, Some, None, Result, Ok, Err, IsTrue}
+use Rattle.std.specs.Prelude.{◌≡◌, ◌⊎◌, ◌<◌, ◌≤◌, ◌^◌, ℕ, List, [], ◌∷◌, ◌++◌, length, Option, Some, None, Result, Ok, Err, IsTrue}
 use Rattle.std.specs.declared.string.String.{String}
 use Rattle.std.specs.declared.alloc.Global.{Global}
 use Rattle.std.specs.Str.{IsUtf8}
@@ -11,17 +11,19 @@ use Rattle.pagable_plain.specs.declared.samples.Sample.{Sample}
 use Rattle.pagable_plain.specs.declared.samples.Sample.TheVariants as values
 use Rattle.pagable_plain.specs.declared.samples.Sort.{Sort}
 use Rattle.pagable_plain.specs.declared.samples.Sort.TheVariants as sorts
+use Rattle.pagable_model.specs.declared.error.Error.TheVariants as errors
 use Rattle.pagable_model.specs.Refusals.{is_writing_fault}
 use Rattle.pagable_model.specs.Meaning.{Meaning, number, integer, sequence}
 use Rattle.pagable_model.specs.Meaning as meanings
 use Rattle.pagable_model.specs.Carried.{of_option, of_result, of_duration, of_entries}
-use Rattle.pagable_model.specs.Shape.{Shape, unsigned, signed, flag, text, letter, duration, optional, outcome, list}
+use Rattle.pagable_model.specs.Shape.{Shape, unsigned, signed, flag, text, letter, duration, optional, outcome, list, json}
 use Rattle.pagable_model.specs.Reading.{Rest, deepest}
 use Rattle.pagable_model.specs.Form.{Form}
 use Rattle.pagable_model.specs.Trees.{KeyRef}
 use Rattle.pagable_model.specs.Merkle.{kind_of_ref}
 use Rattle.pagable_plain.specs.Laws.{rest}
 use Rattle.pagable_plain.specs.Gathered.{no_parts, part}
+use Rattle.pagable_plain.specs.JsonValues.{of_json}
 use Rattle.pagable_plain.specs.Lists.{numbers_of}
 use Rattle.pagable_plain.specs.Maps.{text_entries, byte_entries, placed_bytes, sorted_bytes}
 use Rattle.pagable_plain.specs.Registries.{word_meaning, tag_meaning, a_word, a_tag}
@@ -51,6 +53,7 @@ shape_of sorts.Placed = placed_bytes
 shape_of sorts.Sorted = sorted_bytes
 shape_of sorts.Static = a_word
 shape_of sorts.Tagged = a_tag
+shape_of sorts.Json = json
 
 -- which sort a value is of
 abbrev pub sort_of : Sample → Sort
@@ -69,6 +72,7 @@ sort_of (values.Placed m) = sorts.Placed
 sort_of (values.Sorted m) = sorts.Sorted
 sort_of (values.Static w) = sorts.Static
 sort_of (values.Tagged t) = sorts.Tagged
+sort_of (values.Json j) = sorts.Json
 
 -- what a value means
 abbrev pub meaning_of : Sample → Meaning KeyRef
@@ -87,6 +91,7 @@ meaning_of (values.Placed m) = of_entries (text_entries m.entries.items)
 meaning_of (values.Sorted m) = of_entries (byte_entries m.entries.items)
 meaning_of (values.Static w) = word_meaning w
 meaning_of (values.Tagged t) = tag_meaning (string_bytes t)
+meaning_of (values.Json j) = of_json j.value
 
 -- a flag, and the byte where it is true
 abbrev pub maybe_form : Option ℕ → List ℕ
@@ -117,6 +122,11 @@ pub record WritesSample (v : Sample) (old new : List ℕ) : Type 0 where
   pub bytes : List ℕ
   pub form : Spells (shape_of (sort_of v)) (meaning_of v) bytes
   pub grown : new ≡ old ++ bytes
+
+-- why a JSON value isn't written, beside length and memory
+abbrev pub IsJsonFault : Sample → Error → Type 0
+IsJsonFault (values.Json j) e = (e ≡ errors.TooDeep) ⊎ (e ≡ errors.JsonNumber)
+IsJsonFault _ e = ⊥
 
 -- a refusal that says that a value has no form is right
 abbrev pub HasNoForm : Sample → Error → Type 0

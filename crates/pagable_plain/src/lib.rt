@@ -4,6 +4,7 @@
 
 pub mod blobs;
 pub mod examples;
+pub mod json;
 pub mod laws;
 mod lists;
 pub mod maps;
@@ -14,6 +15,7 @@ pub mod samples;
 pub mod spans;
 
 pub use blobs::{preimage, weighed_key};
+pub use json::OrderedJson;
 pub use maps::{PlacedMap, SortedMap};
 pub use registered::Word;
 pub use samples::{Sample, Sort, read_sample, write_sample};

@@ -4,8 +4,9 @@ ghost use Rattle.std.specs.Prelude.{◌≡◌, ◌<◌, ◌⊎◌, ◌++◌, [],
 ghost use Rattle.pagable_model.specs.Gives.{Gives, never, memory};
 ghost use Rattle.pagable_model.specs.Basic.{longest};
 ghost use Rattle.pagable_plain.specs.Laws.{rest};
-ghost use Rattle.pagable_plain.specs.Samples.{reads, shape_of, meaning_of, IsMaybe, maybe_form, IsAttempt, attempt_text, attempt_form, WritesSample, HasNoForm};
+ghost use Rattle.pagable_plain.specs.Samples.{reads, shape_of, meaning_of, IsMaybe, maybe_form, IsAttempt, attempt_text, attempt_form, WritesSample, HasNoForm, IsJsonFault};
 
+use crate::json::{OrderedJson, read_json, write_json};
 use crate::lists::{read_numbers, write_numbers};
 use crate::maps::{PlacedMap, SortedMap, read_placed, read_sorted, write_placed, write_sorted};
 use crate::plain_reader::{
@@ -38,6 +39,7 @@ pub enum Sample {
     Sorted(SortedMap),
     Static(Word),
     Tagged(String),
+    Json(OrderedJson),
 }
 
 /// Which small value is wanted.
@@ -58,6 +60,7 @@ pub enum Sort {
     Sorted,
     Static,
     Tagged,
+    Json,
 }
 
 // A text or its refusal, after a flag that says which.
@@ -166,6 +169,10 @@ pub fn read_sample(alloc: Global, sort: Sort, bytes: &[u8]) -> Result<(Sample, &
             let (tag, after) = read_tag(alloc, bytes)?;
             (Sample::Tagged(tag), after)
         }
+        Sort::Json => {
+            let (value, after) = read_json(alloc, bytes)?;
+            (Sample::Json(value), after)
+        }
     };
     Ok((sample, after))
 }
@@ -199,11 +206,12 @@ fn write_attempt(out: &mut Vec<u8>, value: &Result<String, String>) -> Result<()
 }
 
 /// Appends a form of the value. `TooLong` where a text is longer than 4,294,967,295 bytes or a list or map has more items,
-/// or `OutOfMemory`; what was appended until then stays.
+/// `TooDeep` where more than 128 arrays and objects of a JSON value stand in one another, `JsonNumber` where a number of it
+/// isn't one of 64 bits with a sign, or `OutOfMemory`; what was appended until then stays.
 pub fn write_sample(out: &mut Vec<u8>, sample: &Sample) -> Result<(), Error>
     ensures ok { OnOk result (WritesSample sample.now out.old.items out.new.items) }
     ensures refused { IfErr result (HasNoForm sample.now) }
-    ensures only { IfErr result (λ e. (e ≡ Error.TooLong) ⊎ memory e) }
+    ensures only { IfErr result (λ e. ((e ≡ Error.TooLong) ⊎ memory e) ⊎ IsJsonFault sample.now e) }
 {
     match sample {
         Sample::Byte(number) => push_byte(out, *number),
@@ -221,5 +229,6 @@ pub fn write_sample(out: &mut Vec<u8>, sample: &Sample) -> Result<(), Error>
         Sample::Sorted(map) => write_sorted(out, map),
         Sample::Static(word) => write_word(out, *word),
         Sample::Tagged(tag) => write_tag(out, tag.as_str()),
+        Sample::Json(value) => write_json(out, value),
     }
 }

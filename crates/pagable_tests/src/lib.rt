@@ -1,5 +1,5 @@
 //! Tests of the crates below that are no data: cursors of readers and writers, byte arrays, second readings,
-//! references, laws, and the pager's calls.
+//! references, JSON values that are written, laws, and the pager's calls.
 #![tactic(auto)]
 
 #[cfg(test)]
@@ -10,6 +10,8 @@ mod byte_arrays;
 mod calls;
 #[cfg(test)]
 mod cursors;
+#[cfg(test)]
+mod json;
 #[cfg(test)]
 mod laws;
 #[cfg(test)]

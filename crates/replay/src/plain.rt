@@ -22,6 +22,7 @@ fn sort_of(name: &str) -> Option<Sort> {
         "BTreeMap<u8,u8>" => Some(Sort::Sorted),
         "Word" => Some(Sort::Static),
         "Tag" => Some(Sort::Tagged),
+        "Json" => Some(Sort::Json),
         _ => None,
     }
 }

@@ -1,4 +1,4 @@
-use Rattle.pagable_plain.proofs.Spelled.{written_byte, written_short, written_long, written_signed, written_flag, written_text, written_letter, written_time, written_maybe, written_attempt, written_part, refused_part}
+use Rattle.pagable_plain.proofs.Spelled.{written_byte, written_short, written_long, written_signed, written_flag, written_text, written_letter, written_time, written_maybe, written_attempt, written_part, refused_part, json_refused}
 use Rattle.pagable_plain.proofs.samples.write_sample.Goals as goal
 
 pub returns-in-Byte-clause-ok : goal.returns-in-Byte-clause-ok
@@ -57,3 +57,12 @@ returns-in-Tagged-clause-ok c = written_part _ _ _ _ _ c.in-Tagged.is (rw c.as_s
 
 pub returns-in-Tagged-clause-refused : goal.returns-in-Tagged-clause-refused
 returns-in-Tagged-clause-refused c = refused_part _ _ _ c.in-Tagged.is (rw c.as_str-in-Tagged.ensures.value at c.write_tag.ensures.refused)
+
+pub returns-in-Json-clause-ok : goal.returns-in-Json-clause-ok
+returns-in-Json-clause-ok c = written_part _ _ _ _ _ c.in-Json.is c.write_json.ensures.ok
+
+pub returns-in-Json-clause-refused : goal.returns-in-Json-clause-refused
+returns-in-Json-clause-refused c = refused_part _ _ _ c.in-Json.is c.write_json.ensures.refused
+
+pub returns-in-Json-clause-only : goal.returns-in-Json-clause-only
+returns-in-Json-clause-only c = json_refused _ _ _ c.in-Json.is c.write_json.ensures.only
