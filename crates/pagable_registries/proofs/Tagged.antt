@@ -60,7 +60,7 @@ refused_body (Ok x) M tag n written known body h = tt
 refused_body (Err e) M tag n written known body h = λ fault.
     let no = h fault in record { m = of_tagged tag no.m; is = record { body = no.m; is_body = no.is; is = refl }; no_form = no-body n written known body tag no.m no.no_form }
 
-refuses-tag : (M : Meaning ArcRef → Type 0) (has : SomeMeaning M) (tag : List ℕ) (n : Nesting) (written : List ℕ → Shape) (known : List ℕ → Bool) (body : List ℕ → Shape) (e : Error) → long_or_memory (length tag) e → Refused (MeansTagged tag M) n (tagged written known body) e
+pub refuses-tag : (M : Meaning ArcRef → Type 0) (has : SomeMeaning M) (tag : List ℕ) (n : Nesting) (written : List ℕ → Shape) (known : List ℕ → Bool) (body : List ℕ → Shape) (e : Error) → long_or_memory (length tag) e → Refused (MeansTagged tag M) n (tagged written known body) e
 refuses-tag M has tag n written known body e (inl h) = λ fault. record { m = of_tagged tag has.0; is = record { body = has.0; is_body = has.1; is = refl }; no_form = no-tag n written known body tag has.0 h.0 }
 refuses-tag M has tag n written known body e (inr h) = memory_refuses e (MeansTagged tag M) n (tagged written known body) h.1
 

@@ -6,7 +6,7 @@ use Rattle.pagable_model.specs.declared.error.Error.{Error}
 use Rattle.pagable_model.specs.declared.numbers.ArcRef.{ArcRef}
 use Rattle.pagable_model.specs.Steps.{◌>>=◌}
 use Rattle.pagable_model.specs.Basic.{longest, length_form, length_at}
-use Rattle.pagable_model.specs.Gives.{memory_or}
+use Rattle.pagable_model.specs.Gives.{never, memory_or}
 use Rattle.pagable_model.specs.Lengths.{long_or_memory}
 use Rattle.pagable_model.specs.Meaning.{Meaning, sequence}
 use Rattle.pagable_model.specs.Shape.{Shape, list}
@@ -126,7 +126,7 @@ pub refused_items : {X T : Type 0} (r : Result X Error) (M : T → Meaning ArcRe
 refused_items (Ok x) M xs n s h = tt
 refused_items (Err e) M xs n s h = λ fault. let lacks = h fault in record { m = sequence lacks.ms; is = record { ms = lacks.ms; each = lacks.is; is = refl }; no_form = no-items n s lacks.ms lacks.no_forms }
 
-refuses-count : {T : Type 0} (M : T → Meaning ArcRef → Type 0) (has : (x : T) → SomeMeaning (M x)) (xs : List T) (n : Nesting) (s : Shape) (e : Error) → long_or_memory (length xs) e → Refused (MeansList M xs) n (list s) e
+pub refuses-count : {T : Type 0} (M : T → Meaning ArcRef → Type 0) (has : (x : T) → SomeMeaning (M x)) (xs : List T) (n : Nesting) (s : Shape) (e : Error) → long_or_memory (length xs) e → Refused (MeansList M xs) n (list s) e
 refuses-count M has xs n s e (inl h) = λ fault.
     let all = items_have_meanings M has xs in
     let long : longest < length all.0 = rw (mean-length all.1) h.0 in
@@ -183,8 +183,19 @@ is_done {A} {X} get front count i rest total le so_far =
     let one : with_front front (items get (count - i) rest) ≡ Ok (front, rest) = rw k (ap (λ (ms : List X). Ok (ms, rest)) (append-nil front)) in
     sym so_far ∙ one
 
+pub list_uncounted : {A : Type 0} (own : Error → Type 0) (context : Context A ArcRef) (s : Shape) (e : Error) (rest : Rest A) → (bytes_of length_at (λ n. n) rest ≡ Err e) ⊎ never e → (read context (list s) rest ≡ Err e) ⊎ own e
+unfolding read read_with
+list_uncounted own context s e rest (inl h) = inl (rw h refl)
+list_uncounted own context s e rest (inr h) = absurd h
+
 -- a list is refused where its items are
 pub list_refused : {A B : Type 0} (own : Error → Type 0) (context : Context A B) (s : Shape) (e : Error) (rest mid : Rest A) (count : ℕ) → bytes_of length_at (λ n. n) rest ≡ Ok (count, mid) → (items (read context s) count mid ≡ Err e) ⊎ own e → (read context (list s) rest ≡ Err e) ⊎ own e
 unfolding read read_with
 list_refused own context s e rest mid count counted (inl h) = inl (rw (counted, h) refl)
 list_refused own context s e rest mid count counted (inr h) = inr h
+
+-- items that were read after their count
+pub list_gave : {T A : Type 0} (M : T → Meaning ArcRef → Type 0) (context : Context A ArcRef) (s : Shape) (now : List T) (rest mid after : Rest A) (count : ℕ) → bytes_of length_at (λ n. n) rest ≡ Ok (count, mid)
+    → Gave (MeanAll M now) after (items (read context s) count mid) → Gave (MeansList M now) after (read context (list s) rest)
+unfolding read read_with
+list_gave M context s now rest mid after count counted g = record { m = sequence g.m; is = record { ms = g.m; each = g.is; is = refl }; gave = rw (counted, g.gave) refl }

@@ -1,7 +1,7 @@
 -- Entries of maps: what they mean as pairs, and what putting in, writing and reading them gives.
 use Rattle.std.proofs.Common.{◌≡◌, ℕ, zero, suc, ◌<◌, ◌≤◌, subst, List, [], ◌∷◌, ◌++◌, length, map, arith, refl, sym, ap, ◌∙◌, append_assoc, Result, Ok, Err, inl, inr}
 use Rattle.std.proofs.lemmas.List.{length-map, append-nil}
-use Rattle.std.specs.Prelude.{IfErr, ◌⊎◌}
+use Rattle.std.specs.Prelude.{◌⊎◌}
 use Rattle.std.specs.List.{AllByRecursion}
 use Rattle.std.specs.List.Sorted.{IsStrictlySortedBy}
 use Rattle.std.specs.Map.{keys_of}
@@ -15,6 +15,7 @@ use Rattle.pagable_model.specs.declared.numbers.ArcRef.{ArcRef}
 use Rattle.pagable_model.specs.Steps.{◌>>=◌}
 use Rattle.pagable_model.specs.Basic.{longest, length_form, length_at}
 use Rattle.pagable_model.specs.Lengths.{long_or_memory}
+use Rattle.pagable_model.specs.Gives.{never}
 use Rattle.pagable_model.specs.Meaning.{Meaning, pair, sequence, entry}
 use Rattle.pagable_model.specs.Keys.{Entry, KeyOrder, ordered, put_all, put_sorted, AllAfter, Apart, Ascends}
 use Rattle.pagable_model.specs.Shape.{Shape, both, sorted_map}
@@ -170,6 +171,10 @@ pub record Written {T : Type 0} (M : T → Meaning ArcRef → Type 0) (n : Nesti
   pub is : all ≡ front ++ left
   pub wrote : WritesSomeAll (MeanAll M front) n s old new
 
+-- fewer are left after each
+pub written-fewer : {T : Type 0} (left rest : List T) (x : T) → left ≡ x ∷ rest → length rest < length left
+written-fewer left rest x e = rw e (omega arith)
+
 pub written-none : {T : Type 0} (M : T → Meaning ArcRef → Type 0) (n : Nesting) (s : Shape) (all left : List T) (old : Out) → all ≡ left → Written M n s all left old old
 written-none M n s all left old e = record { front = []; is = e; wrote = writes_no_items M n s old }
 
@@ -199,9 +204,8 @@ written-grows M n s all left a b v = grows_some_all (MeanAll M v.front) n s a b 
 pub record Splits (n : Nesting) (whole item : Shape) : Type 0 where
   pub parts : (ms : List (Meaning ArcRef)) (b : List ℕ) (k : List ArcRef) → FormAt n whole (sequence ms) b k → (length ms ≤ longest) × ((c : List ℕ) × FormsAt n item ms c k)
 
-pub refuses-items : {X T : Type 0} (r : Result X Error) (M : T → Meaning ArcRef → Type 0) (xs : List T) (n : Nesting) (whole item : Shape) → Splits n whole item → IfErr r (RefusedAll (MeanAll M xs) n item) → IfErr r (Refused (MeansList M xs) n whole)
-refuses-items (Ok x) M xs n whole item split h = tt
-refuses-items (Err e) M xs n whole item split h = λ fault.
+pub refuses-items : {T : Type 0} (M : T → Meaning ArcRef → Type 0) (xs : List T) (n : Nesting) (whole item : Shape) (e : Error) → Splits n whole item → RefusedAll (MeanAll M xs) n item e → Refused (MeansList M xs) n whole e
+refuses-items M xs n whole item e split h = λ fault.
     let lacks = h fault in
     record { m = sequence lacks.ms; is = record { ms = lacks.ms; each = lacks.is; is = refl }; no_form = λ b k f. let p = (split.parts lacks.ms b k f).1 in lacks.no_forms p.0 k p.1 }
 
@@ -224,9 +228,6 @@ sorted-map-parts n {order} {s} {t} {m} {b} {k} ms (sorted-map-form l o s' t' es 
 
 pub sorted-map-splits : (n : Nesting) (order : KeyOrder) (s t : Shape) → Splits n (sorted_map order s t) (both s t)
 sorted-map-splits n order s t = record { parts = λ ms b k f. sorted-map-parts n ms f refl }
-
-pub refused_sorted_map : {X K V : Type 0} (r : Result X Error) (M : K × V → Meaning ArcRef → Type 0) (xs : List (K × V)) (n : Nesting) (order : KeyOrder) (s t : Shape) → IfErr r (RefusedAll (MeanAll M xs) n (both s t)) → IfErr r (Refused (MeansList M xs) n (sorted_map order s t))
-refused_sorted_map r M xs n order s t h = refuses-items r M xs n (sorted_map order s t) (both s t) (sorted-map-splits n order s t) h
 
 -- the order of a key's values is that of their meanings
 pub record IsOrderOf {K : Type 0} (M : K → Meaning ArcRef → Type 0) (cmp : K → K → Ordering) (order : KeyOrder) : Type 0 where
@@ -314,10 +315,13 @@ sorted_map_collected M N cmp order is context s t now rest mid after count count
       gave = rw (counted, were.2) refl;
     }
 
+pub sorted_map_uncounted : {A : Type 0} (own : Error → Type 0) (context : Context A ArcRef) (order : KeyOrder) (s t : Shape) (e : Error) (rest : Rest A) → (bytes_of length_at (λ n. n) rest ≡ Err e) ⊎ never e → (read context (sorted_map order s t) rest ≡ Err e) ⊎ own e
+unfolding read read_with
+sorted_map_uncounted own context order s t e rest (inl h) = inl (rw h refl)
+sorted_map_uncounted own context order s t e rest (inr h) = absurd h
+
 pub sorted_map_refused : {A : Type 0} (own : Error → Type 0) (context : Context A ArcRef) (order : KeyOrder) (s t : Shape) (e : Error) (rest mid : Rest A) (count : ℕ) → bytes_of length_at (λ n. n) rest ≡ Ok (count, mid) → (items (read context (both s t)) count mid ≡ Err e) ⊎ own e
     → (read context (sorted_map order s t) rest ≡ Err e) ⊎ own e
 unfolding read read_with
 sorted_map_refused own context order s t e rest mid count counted (inl h) = inl (rw (counted, entries-refused context s t count mid e h) refl)
 sorted_map_refused own context order s t e rest mid count counted (inr h) = inr h
-
-pub ruleset sorted_maps = (refused_sorted_map)

@@ -1,6 +1,6 @@
 -- Values that hold others: what writing their parts one after another adds, and what reading them so gives.
 use Rattle.std.proofs.Common.{◌≡◌, ℕ, true, false, subst, [], ◌∷◌, ◌++◌, refl, sym, ◌∙◌, Result, Ok, Err, Some, None, inl, inr}
-use Rattle.std.specs.Prelude.{IfErr, IsTrue}
+use Rattle.std.specs.Prelude.{OnOk, IfErr, IsTrue}
 use Rattle.pagable_model.specs.declared.error.Error.{Error}
 use Rattle.pagable_model.specs.declared.numbers.ArcRef.{ArcRef}
 use Rattle.pagable_model.specs.Refusals.{is_writing_fault}
@@ -16,13 +16,20 @@ use Rattle.pagable_model.specs.Standing.{Gave, SomeMeaning}
 use Rattle.pagable_model.specs.Lifted.{MeansOption, means-none, means-some, MeansPair}
 use Rattle.pagable_codec.proofs.Writing.{then}
 
+-- ---- results
+
+-- what follows where there is a result
+pub where_ok : {X : Type 0} (r : Result X Error) (P Q : Type 0) → (P → Q) → OnOk r P → OnOk r Q
+where_ok (Ok x) P Q f h = f h
+where_ok (Err e) P Q f h = tt
+
 -- ---- causes
 
 pub only_memory_or : {X : Type 0} (r : Result X Error) (own : Error → Type 0) → IfErr r memory → IfErr r (IsRefusal (memory_or own))
 only_memory_or (Ok x) own h = tt
 only_memory_or (Err e) own h = inr (inl h)
 
-only-part : (own : Error → Type 0) (e : Error) → IsRefusal own e → IsRefusal (memory_or own) e
+pub only-part : (own : Error → Type 0) (e : Error) → IsRefusal own e → IsRefusal (memory_or own) e
 only-part own e (inl fault) = inl fault
 only-part own e (inr cause) = inr (inr cause)
 
@@ -30,7 +37,7 @@ pub only_part : {X : Type 0} (r : Result X Error) (own : Error → Type 0) → I
 only_part (Ok x) own h = tt
 only_part (Err e) own h = only-part own e h
 
-only-first : (first second : Error → Type 0) (e : Error) → IsRefusal first e → IsRefusal (either first second) e
+pub only-first : (first second : Error → Type 0) (e : Error) → IsRefusal first e → IsRefusal (either first second) e
 only-first first second e (inl fault) = inl fault
 only-first first second e (inr cause) = inr (inl cause)
 
@@ -38,7 +45,7 @@ pub only_first : {X : Type 0} (r : Result X Error) (first second : Error → Typ
 only_first (Ok x) first second h = tt
 only_first (Err e) first second h = only-first first second e h
 
-only-second : (first second : Error → Type 0) (e : Error) → IsRefusal second e → IsRefusal (either first second) e
+pub only-second : (first second : Error → Type 0) (e : Error) → IsRefusal second e → IsRefusal (either first second) e
 only-second first second e (inl fault) = inl fault
 only-second first second e (inr cause) = inr (inr cause)
 
@@ -46,7 +53,7 @@ pub only_second : {X : Type 0} (r : Result X Error) (first second : Error → Ty
 only_second (Ok x) first second h = tt
 only_second (Err e) first second h = only-second first second e h
 
-only-count : (len : ℕ) (own : Error → Type 0) (e : Error) → long_or_memory len e → IsRefusal (memory_or own) e
+pub only-count : (len : ℕ) (own : Error → Type 0) (e : Error) → long_or_memory len e → IsRefusal (memory_or own) e
 only-count len own e (inl h) = inl (let P : Error → Type 0 = λ x. IsTrue (is_writing_fault x) in subst P (sym h.1) refl)
 only-count len own e (inr h) = inr (inl h.1)
 
@@ -100,19 +107,25 @@ no-first n s t x y h b k (both-form l s' t' x' y' c d j i f g) = h c j f
 no-second : (n : Nesting) (s t : Shape) (x y : Meaning ArcRef) → NoForm n t y → NoForm n (both s t) (pair x y)
 no-second n s t x y h b k (both-form l s' t' x' y' c d j i f g) = h d i g
 
-pub refused_first : {X A B : Type 0} (r : Result X Error) (M : A → Meaning ArcRef → Type 0) (N : B → Meaning ArcRef → Type 0) (has : (y : B) → SomeMeaning (N y)) (p : A × B) (n : Nesting) (s t : Shape) → IfErr r (Refused (M p.0) n s) → IfErr r (Refused (MeansPair M N p) n (both s t))
-refused_first (Ok x) M N has p n s t h = tt
-refused_first (Err e) M N has p n s t h = λ fault.
+pub refuses_first : {A B : Type 0} (M : A → Meaning ArcRef → Type 0) (N : B → Meaning ArcRef → Type 0) (has : (y : B) → SomeMeaning (N y)) (p : A × B) (n : Nesting) (s t : Shape) (e : Error) → Refused (M p.0) n s e → Refused (MeansPair M N p) n (both s t) e
+refuses_first M N has p n s t e h = λ fault.
     let no = h fault in
     let other = has p.1 in
     record { m = pair no.m other.0; is = record { first = no.m; second = other.0; is_first = no.is; is_second = other.1; is = refl }; no_form = no-first n s t no.m other.0 no.no_form }
 
-pub refused_second : {X A B : Type 0} (r : Result X Error) (M : A → Meaning ArcRef → Type 0) (N : B → Meaning ArcRef → Type 0) (has : (x : A) → SomeMeaning (M x)) (p : A × B) (n : Nesting) (s t : Shape) → IfErr r (Refused (N p.1) n t) → IfErr r (Refused (MeansPair M N p) n (both s t))
-refused_second (Ok x) M N has p n s t h = tt
-refused_second (Err e) M N has p n s t h = λ fault.
+pub refused_first : {X A B : Type 0} (r : Result X Error) (M : A → Meaning ArcRef → Type 0) (N : B → Meaning ArcRef → Type 0) (has : (y : B) → SomeMeaning (N y)) (p : A × B) (n : Nesting) (s t : Shape) → IfErr r (Refused (M p.0) n s) → IfErr r (Refused (MeansPair M N p) n (both s t))
+refused_first (Ok x) M N has p n s t h = tt
+refused_first (Err e) M N has p n s t h = refuses_first M N has p n s t e h
+
+pub refuses_second : {A B : Type 0} (M : A → Meaning ArcRef → Type 0) (N : B → Meaning ArcRef → Type 0) (has : (x : A) → SomeMeaning (M x)) (p : A × B) (n : Nesting) (s t : Shape) (e : Error) → Refused (N p.1) n t e → Refused (MeansPair M N p) n (both s t) e
+refuses_second M N has p n s t e h = λ fault.
     let no = h fault in
     let other = has p.0 in
     record { m = pair other.0 no.m; is = record { first = other.0; second = no.m; is_first = other.1; is_second = no.is; is = refl }; no_form = no-second n s t other.0 no.m no.no_form }
+
+pub refused_second : {X A B : Type 0} (r : Result X Error) (M : A → Meaning ArcRef → Type 0) (N : B → Meaning ArcRef → Type 0) (has : (x : A) → SomeMeaning (M x)) (p : A × B) (n : Nesting) (s t : Shape) → IfErr r (Refused (N p.1) n t) → IfErr r (Refused (MeansPair M N p) n (both s t))
+refused_second (Ok x) M N has p n s t h = tt
+refused_second (Err e) M N has p n s t h = refuses_second M N has p n s t e h
 
 pub gave_pair : {A B R : Type 0} (M : A → Meaning ArcRef → Type 0) (N : B → Meaning ArcRef → Type 0) (p : A × B) (mid after : R) (read first : Result (Meaning ArcRef × R) Error) (second : R → Result (Meaning ArcRef × R) Error)
     → Gave (M p.0) mid first → Gave (N p.1) after (second mid) → read ≡ (first >>= λ x. second x.1 >>= λ y. Ok (pair x.0 y.0, y.1)) → Gave (MeansPair M N p) after read

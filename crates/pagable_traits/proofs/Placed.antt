@@ -1,7 +1,7 @@
 -- Maps in order of arrival: what putting in, writing and reading their entries gives.
-use Rattle.std.proofs.Common.{◌≡◌, ℕ, ◌≤◌, Bool, true, false, subst, List, [], ◌∷◌, ◌++◌, length, map, refl, sym, ap, ◌∙◌, Result, Ok, Err, inl, inr}
+use Rattle.std.proofs.Common.{◌≡◌, ℕ, ◌≤◌, Bool, true, false, subst, List, [], ◌∷◌, ◌++◌, length, map, refl, sym, ap, ◌∙◌, Ok, Err, inl, inr}
 use Rattle.std.proofs.lemmas.List.{length-map}
-use Rattle.std.specs.Prelude.{IfErr, ◌⊎◌, if◌then◌else◌}
+use Rattle.std.specs.Prelude.{◌⊎◌, if◌then◌else◌}
 use Rattle.std.specs.List.{AllByRecursion, IsDistinct}
 use Rattle.std.specs.Map.{keys_of}
 use Rattle.std.specs.Cmp.{IsEquivalence}
@@ -9,19 +9,20 @@ use Rattle.indexmap.specs.IndexMap.{insert_entry}
 use Rattle.pagable_model.specs.declared.error.Error.{Error}
 use Rattle.pagable_model.specs.declared.numbers.ArcRef.{ArcRef}
 use Rattle.pagable_model.specs.Basic.{longest, length_form, length_at}
+use Rattle.pagable_model.specs.Gives.{never}
 use Rattle.pagable_model.specs.Meaning.{Meaning, sequence, entry}
 use Rattle.pagable_model.specs.Keys.{Entry, same_key, put_all, put_placed, AllAfter, Apart, Differ}
 use Rattle.pagable_model.specs.Shape.{Shape, both, placed_map}
 use Rattle.pagable_model.specs.Carried.{of_entries}
 use Rattle.pagable_model.specs.Form.{placed-map-form}
 use Rattle.pagable_model.specs.Reading.{Rest, Context, items, bytes_of, read, read_with}
-use Rattle.pagable_model.specs.Writing.{Out, Nesting, FormAt, FormsAt, WritesSome, WritesSomeAll, added, Refused, RefusedAll}
+use Rattle.pagable_model.specs.Writing.{Out, Nesting, FormAt, FormsAt, WritesSome, WritesSomeAll, added}
 use Rattle.pagable_model.specs.Standing.{Gave}
 use Rattle.pagable_model.specs.Collected.{Collected}
 use Rattle.pagable_model.specs.Lifted.{MeanAll, MeansList, MeansPair}
 use Rattle.pagable_codec.proofs.Writing.{then as and_then}
 use Rattle.pagable_traits.proofs.Items.{mean-length, sequence-same}
-use Rattle.pagable_traits.proofs.Maps.{EntriesMean, entries-of-pairs, pairs-of-entries, same-entries, entries-of-forms, forms-of-entries, read-entries, entries-refused, Splits, refuses-items}
+use Rattle.pagable_traits.proofs.Maps.{EntriesMean, entries-of-pairs, pairs-of-entries, same-entries, entries-of-forms, forms-of-entries, read-entries, entries-refused, Splits}
 
 placed-map-parts : (n : Nesting) {s t : Shape} {m : Meaning ArcRef} {b : List ℕ} {k : List ArcRef} (ms : List (Meaning ArcRef)) → FormAt n (placed_map s t) m b k → m ≡ sequence ms → (length ms ≤ longest) × ((c : List ℕ) × FormsAt n (both s t) ms c k)
 placed-map-parts n {s} {t} {m} {b} {k} ms (placed-map-form l s' t' es c k' le differ f) e =
@@ -33,9 +34,6 @@ placed-map-parts n {s} {t} {m} {b} {k} ms (placed-map-form l s' t' es c k' le di
 
 pub placed-map-splits : (n : Nesting) (s t : Shape) → Splits n (placed_map s t) (both s t)
 placed-map-splits n s t = record { parts = λ ms b k f. placed-map-parts n ms f refl }
-
-pub refused_placed_map : {X K V : Type 0} (r : Result X Error) (M : K × V → Meaning ArcRef → Type 0) (xs : List (K × V)) (n : Nesting) (s t : Shape) → IfErr r (RefusedAll (MeanAll M xs) n (both s t)) → IfErr r (Refused (MeansList M xs) n (placed_map s t))
-refused_placed_map r M xs n s t h = refuses-items r M xs n (placed_map s t) (both s t) (placed-map-splits n s t) h
 
 -- the sameness of a key's values is that of their meanings
 pub record IsSameOf {K : Type 0} (M : K → Meaning ArcRef → Type 0) (eq : K → K → Bool) : Type 0 where
@@ -120,9 +118,12 @@ placed_map_collected M N eq is context s t now rest mid after count counted g =
       gave = rw (counted, were.2) refl;
     }
 
+pub placed_map_uncounted : {A : Type 0} (own : Error → Type 0) (context : Context A ArcRef) (s t : Shape) (e : Error) (rest : Rest A) → (bytes_of length_at (λ n. n) rest ≡ Err e) ⊎ never e → (read context (placed_map s t) rest ≡ Err e) ⊎ own e
+unfolding read read_with
+placed_map_uncounted own context s t e rest (inl h) = inl (rw h refl)
+placed_map_uncounted own context s t e rest (inr h) = absurd h
+
 pub placed_map_refused : {A : Type 0} (own : Error → Type 0) (context : Context A ArcRef) (s t : Shape) (e : Error) (rest mid : Rest A) (count : ℕ) → bytes_of length_at (λ n. n) rest ≡ Ok (count, mid) → (items (read context (both s t)) count mid ≡ Err e) ⊎ own e → (read context (placed_map s t) rest ≡ Err e) ⊎ own e
 unfolding read read_with
 placed_map_refused own context s t e rest mid count counted (inl h) = inl (rw (counted, entries-refused context s t count mid e h) refl)
 placed_map_refused own context s t e rest mid count counted (inr h) = inr h
-
-pub ruleset placed_maps = (refused_placed_map)

@@ -1,6 +1,6 @@
 -- Sets: what putting in, writing and reading their items gives.
-use Rattle.std.proofs.Common.{◌≡◌, ℕ, ◌≤◌, Bool, true, false, subst, List, [], ◌∷◌, ◌++◌, length, refl, sym, ap, ◌∙◌, Result, Ok, Err, inl, inr}
-use Rattle.std.specs.Prelude.{IfErr, ◌⊎◌, ◌||◌, if◌then◌else◌}
+use Rattle.std.proofs.Common.{◌≡◌, ℕ, ◌≤◌, Bool, true, false, subst, List, [], ◌∷◌, ◌++◌, length, refl, sym, ap, ◌∙◌, Ok, Err, inl, inr}
+use Rattle.std.specs.Prelude.{◌⊎◌, ◌||◌, if◌then◌else◌}
 use Rattle.std.specs.List.{AllByRecursion, IsDistinct, list_any}
 use Rattle.std.specs.List.Sorted.{IsStrictlySortedBy}
 use Rattle.std.specs.declared.cmp.Ordering.{Ordering}
@@ -11,18 +11,19 @@ use Rattle.indexmap.specs.IndexSet as placed
 use Rattle.pagable_model.specs.declared.error.Error.{Error}
 use Rattle.pagable_model.specs.declared.numbers.ArcRef.{ArcRef}
 use Rattle.pagable_model.specs.Basic.{longest, length_form, length_at}
+use Rattle.pagable_model.specs.Gives.{never}
 use Rattle.pagable_model.specs.Meaning.{Meaning, sequence}
 use Rattle.pagable_model.specs.Keys.{KeyOrder, ordered, same_key, put_all, put_sorted_item, put_placed_item, AllAfter, Apart, ItemsAscend, ItemsDiffer}
 use Rattle.pagable_model.specs.Shape.{Shape, sorted_set, placed_set}
 use Rattle.pagable_model.specs.Form.{sorted-set-form, placed-set-form}
 use Rattle.pagable_model.specs.Reading.{Rest, Context, items, bytes_of, read, read_with}
-use Rattle.pagable_model.specs.Writing.{Out, Nesting, FormAt, FormsAt, WritesSome, WritesSomeAll, added, Refused, RefusedAll}
+use Rattle.pagable_model.specs.Writing.{Out, Nesting, FormAt, FormsAt, WritesSome, WritesSomeAll, added}
 use Rattle.pagable_model.specs.Standing.{Gave}
 use Rattle.pagable_model.specs.Collected.{Collected}
 use Rattle.pagable_model.specs.Lifted.{MeanAll, mean-none, mean-more, MeansList}
 use Rattle.pagable_codec.proofs.Writing.{then as and_then}
 use Rattle.pagable_traits.proofs.Items.{mean-length, sequence-same}
-use Rattle.pagable_traits.proofs.Maps.{Splits, refuses-items, IsOrderOf}
+use Rattle.pagable_traits.proofs.Maps.{Splits, IsOrderOf}
 use Rattle.pagable_traits.proofs.Placed.{IsSameOf}
 
 -- ---- refusals
@@ -37,9 +38,6 @@ sorted-set-parts n {order} {s} {m} {b} {k} ms (sorted-set-form l o s' xs c k' le
 pub sorted-set-splits : (n : Nesting) (order : KeyOrder) (s : Shape) → Splits n (sorted_set order s) s
 sorted-set-splits n order s = record { parts = λ ms b k f. sorted-set-parts n ms f refl }
 
-pub refused_sorted_set : {X T : Type 0} (r : Result X Error) (M : T → Meaning ArcRef → Type 0) (xs : List T) (n : Nesting) (order : KeyOrder) (s : Shape) → IfErr r (RefusedAll (MeanAll M xs) n s) → IfErr r (Refused (MeansList M xs) n (sorted_set order s))
-refused_sorted_set r M xs n order s h = refuses-items r M xs n (sorted_set order s) s (sorted-set-splits n order s) h
-
 placed-set-parts : (n : Nesting) {s : Shape} {m : Meaning ArcRef} {b : List ℕ} {k : List ArcRef} (ms : List (Meaning ArcRef)) → FormAt n (placed_set s) m b k → m ≡ sequence ms → (length ms ≤ longest) × ((c : List ℕ) × FormsAt n s ms c k)
 placed-set-parts n {s} {m} {b} {k} ms (placed-set-form l s' xs c k' le differ f) e =
     let same : xs ≡ ms = sequence-same xs ms e in (
@@ -49,9 +47,6 @@ placed-set-parts n {s} {m} {b} {k} ms (placed-set-form l s' xs c k' le differ f)
 
 pub placed-set-splits : (n : Nesting) (s : Shape) → Splits n (placed_set s) s
 placed-set-splits n s = record { parts = λ ms b k f. placed-set-parts n ms f refl }
-
-pub refused_placed_set : {X T : Type 0} (r : Result X Error) (M : T → Meaning ArcRef → Type 0) (xs : List T) (n : Nesting) (s : Shape) → IfErr r (RefusedAll (MeanAll M xs) n s) → IfErr r (Refused (MeansList M xs) n (placed_set s))
-refused_placed_set r M xs n s h = refuses-items r M xs n (placed_set s) s (placed-set-splits n s) h
 
 -- ---- sorted sets
 
@@ -111,12 +106,15 @@ sorted_set_collected M cmp order is context s now rest mid after count counted g
       gave = rw (counted, g.gave) refl;
     }
 
+pub sorted_set_uncounted : {A : Type 0} (own : Error → Type 0) (context : Context A ArcRef) (order : KeyOrder) (s : Shape) (e : Error) (rest : Rest A) → (bytes_of length_at (λ n. n) rest ≡ Err e) ⊎ never e → (read context (sorted_set order s) rest ≡ Err e) ⊎ own e
+unfolding read read_with
+sorted_set_uncounted own context order s e rest (inl h) = inl (rw h refl)
+sorted_set_uncounted own context order s e rest (inr h) = absurd h
+
 pub sorted_set_refused : {A : Type 0} (own : Error → Type 0) (context : Context A ArcRef) (order : KeyOrder) (s : Shape) (e : Error) (rest mid : Rest A) (count : ℕ) → bytes_of length_at (λ n. n) rest ≡ Ok (count, mid) → (items (read context s) count mid ≡ Err e) ⊎ own e → (read context (sorted_set order s) rest ≡ Err e) ⊎ own e
 unfolding read read_with
 sorted_set_refused own context order s e rest mid count counted (inl h) = inl (rw (counted, h) refl)
 sorted_set_refused own context order s e rest mid count counted (inr h) = inr h
-
-pub ruleset sorted_sets = (refused_sorted_set)
 
 -- ---- sets in order of arrival
 
@@ -176,9 +174,12 @@ placed_set_collected M eq is context s now rest mid after count counted g =
     let each : MeanAll M now (put_all put_placed_item [] g.m) = rw g.is.is put in
     record { m = sequence (put_all put_placed_item [] g.m); is = record { ms = put_all put_placed_item [] g.m; each = each; is = refl }; gave = rw (counted, g.gave) refl }
 
+pub placed_set_uncounted : {A : Type 0} (own : Error → Type 0) (context : Context A ArcRef) (s : Shape) (e : Error) (rest : Rest A) → (bytes_of length_at (λ n. n) rest ≡ Err e) ⊎ never e → (read context (placed_set s) rest ≡ Err e) ⊎ own e
+unfolding read read_with
+placed_set_uncounted own context s e rest (inl h) = inl (rw h refl)
+placed_set_uncounted own context s e rest (inr h) = absurd h
+
 pub placed_set_refused : {A : Type 0} (own : Error → Type 0) (context : Context A ArcRef) (s : Shape) (e : Error) (rest mid : Rest A) (count : ℕ) → bytes_of length_at (λ n. n) rest ≡ Ok (count, mid) → (items (read context s) count mid ≡ Err e) ⊎ own e → (read context (placed_set s) rest ≡ Err e) ⊎ own e
 unfolding read read_with
 placed_set_refused own context s e rest mid count counted (inl h) = inl (rw (counted, h) refl)
 placed_set_refused own context s e rest mid count counted (inr h) = inr h
-
-pub ruleset placed_sets = (refused_placed_set)

@@ -37,7 +37,6 @@ impl<E: Env, T: PagableSerialize<E>> PagableSerialize<E> for Option<T> {
 
     ghost write_causes_are_own = { memory_or_is_own_writing T.write_causes T.write_causes_are_own };
 
-    #[tactic(auto, using(pagable_codec::proofs::Writing::parts, crate::proofs::Parts::options, crate::proofs::Parts::causes, pagable_codec::proofs::Adding::steps))]
     fn pagable_serialize<S: PagableSerializer<E>>(&self, serializer: &mut S) -> Result<(), Error> {
         match self {
             None => write_flag(false, serializer),
@@ -54,7 +53,6 @@ impl<'de, E: Env, T: PagableDeserialize<'de, E>> PagableDeserialize<'de, E> for 
 
     ghost read_causes_are_own = { T.read_causes_are_own };
 
-    #[tactic(auto, unfolding(pagable_model::specs::Reading::read, pagable_model::specs::Reading::read_with), using(pagable_codec::proofs::Reading::parts, crate::proofs::Parts::options))]
     fn pagable_deserialize<D: PagableDeserializer<E>>(
         alloc: Global,
         deserializer: &mut D,
@@ -143,7 +141,6 @@ impl<
 
     ghost read_causes_are_own = { either_is_own_reading A.read_causes B.read_causes A.read_causes_are_own B.read_causes_are_own };
 
-    #[tactic(auto, unfolding(pagable_model::specs::Reading::read, pagable_model::specs::Reading::read_with), using(pagable_codec::proofs::Reading::parts, crate::proofs::Parts::pairs))]
     fn pagable_deserialize<D: PagableDeserializer<E>>(
         alloc: Global,
         deserializer: &mut D,

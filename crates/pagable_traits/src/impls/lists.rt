@@ -20,7 +20,6 @@ use pagable_flavors::Error;
 use std::alloc::Global;
 
 /// Writes the items one after another, without their count. A refusal is that of the first item that is refused.
-#[tactic(auto, using(crate::proofs::Items::writing))]
 pub fn write_items<E: Env, T: PagableSerialize<E>, S: PagableSerializer<E>>(
     values: &[T],
     serializer: &mut S,
@@ -39,7 +38,6 @@ pub fn write_items<E: Env, T: PagableSerialize<E>, S: PagableSerializer<E>>(
 }
 
 /// Writes the count of the items, and then the items. TooLong above 4,294,967,295 items, before any item.
-#[tactic(auto, using(pagable_codec::proofs::Writing::parts, crate::proofs::Items::lists, crate::proofs::Parts::causes))]
 pub fn write_list<E: Env, T: PagableSerialize<E>, S: PagableSerializer<E>>(
     values: &[T],
     serializer: &mut S,
@@ -109,7 +107,6 @@ impl<'de, E: Env, T: PagableDeserialize<'de, E> + Drop> PagableDeserialize<'de, 
 
     ghost read_causes_are_own = { memory_or_is_own_reading T.read_causes T.read_causes_are_own };
 
-    #[tactic(auto, unfolding(pagable_model::specs::Reading::read, pagable_model::specs::Reading::read_with), using(pagable_codec::proofs::Reading::parts, crate::proofs::Items::lists))]
     fn pagable_deserialize<D: PagableDeserializer<E>>(
         alloc: Global,
         deserializer: &mut D,

@@ -37,7 +37,6 @@ impl<E: Env> PagableSerialize<E> for u8 {
 
     ghost write_causes_are_own = { memory_is_own_writing };
 
-    #[tactic(auto, using(pagable_codec::proofs::Writing::parts))]
     fn pagable_serialize<S: PagableSerializer<E>>(&self, serializer: &mut S) -> Result<(), Error> {
         serializer.serde().write_u8(*self)
     }
@@ -77,7 +76,6 @@ impl<E: Env> PagableSerialize<E> for u16 {
 
     ghost write_causes_are_own = { memory_is_own_writing };
 
-    #[tactic(auto, using(pagable_codec::proofs::Writing::parts))]
     fn pagable_serialize<S: PagableSerializer<E>>(&self, serializer: &mut S) -> Result<(), Error> {
         serializer.serde().write_u16(*self)
     }
@@ -117,7 +115,6 @@ impl<E: Env> PagableSerialize<E> for u32 {
 
     ghost write_causes_are_own = { memory_is_own_writing };
 
-    #[tactic(auto, using(pagable_codec::proofs::Writing::parts))]
     fn pagable_serialize<S: PagableSerializer<E>>(&self, serializer: &mut S) -> Result<(), Error> {
         serializer.serde().write_u32(*self)
     }
@@ -157,7 +154,6 @@ impl<E: Env> PagableSerialize<E> for u64 {
 
     ghost write_causes_are_own = { memory_is_own_writing };
 
-    #[tactic(auto, using(pagable_codec::proofs::Writing::parts))]
     fn pagable_serialize<S: PagableSerializer<E>>(&self, serializer: &mut S) -> Result<(), Error> {
         serializer.serde().write_u64(*self)
     }
@@ -197,7 +193,6 @@ impl<E: Env> PagableSerialize<E> for u128 {
 
     ghost write_causes_are_own = { memory_is_own_writing };
 
-    #[tactic(auto, using(pagable_codec::proofs::Writing::parts))]
     fn pagable_serialize<S: PagableSerializer<E>>(&self, serializer: &mut S) -> Result<(), Error> {
         serializer.serde().write_u128(*self)
     }
@@ -237,7 +232,6 @@ impl<E: Env> PagableSerialize<E> for usize {
 
     ghost write_causes_are_own = { memory_is_own_writing };
 
-    #[tactic(auto, using(pagable_codec::proofs::Writing::parts))]
     fn pagable_serialize<S: PagableSerializer<E>>(&self, serializer: &mut S) -> Result<(), Error> {
         serializer.serde().write_usize(*self)
     }

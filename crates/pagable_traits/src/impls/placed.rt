@@ -87,7 +87,6 @@ impl<
 
     ghost write_causes_are_own = { memory_or_is_own_writing (either K.write_causes V.write_causes) (either_is_own_writing K.write_causes V.write_causes K.write_causes_are_own V.write_causes_are_own) };
 
-    #[tactic(auto, using(pagable_codec::proofs::Writing::parts, crate::proofs::Items::lists, crate::proofs::Placed::placed_maps, crate::proofs::Parts::causes))]
     fn pagable_serialize<S: PagableSerializer<E>>(&self, serializer: &mut S) -> Result<(), Error> {
         write_count(self.len(), serializer)?;
         write_placed_entries(self, serializer)?;
@@ -105,7 +104,6 @@ impl<
 
     ghost read_causes_are_own = { memory_or_is_own_reading (either K.read_causes V.read_causes) (either_is_own_reading K.read_causes V.read_causes K.read_causes_are_own V.read_causes_are_own) };
 
-    #[tactic(auto, unfolding(pagable_model::specs::Reading::read, pagable_model::specs::Reading::read_with), using(pagable_codec::proofs::Reading::parts))]
     fn pagable_deserialize<D: PagableDeserializer<E>>(
         alloc: Global,
         deserializer: &mut D,

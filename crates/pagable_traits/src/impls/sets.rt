@@ -81,7 +81,6 @@ impl<E: Env, T: PagableOrdKey<E> + PagableSerialize<E>> PagableSerialize<E> for 
 
     ghost write_causes_are_own = { memory_or_is_own_writing T.write_causes T.write_causes_are_own };
 
-    #[tactic(auto, using(pagable_codec::proofs::Writing::parts, crate::proofs::Items::lists, crate::proofs::Sets::sorted_sets, crate::proofs::Parts::causes))]
     fn pagable_serialize<S: PagableSerializer<E>>(&self, serializer: &mut S) -> Result<(), Error> {
         write_count(self.len(), serializer)?;
         write_sorted_items(self, serializer)?;
@@ -97,7 +96,6 @@ impl<'de, E: Env, T: PagableOrdKey<E> + PagableDeserialize<'de, E> + Drop> Pagab
 
     ghost read_causes_are_own = { memory_or_is_own_reading T.read_causes T.read_causes_are_own };
 
-    #[tactic(auto, unfolding(pagable_model::specs::Reading::read, pagable_model::specs::Reading::read_with), using(pagable_codec::proofs::Reading::parts))]
     fn pagable_deserialize<D: PagableDeserializer<E>>(
         alloc: Global,
         deserializer: &mut D,
@@ -147,7 +145,6 @@ impl<E: Env, T: PagableKey<E> + Hash + PagableSerialize<E>> PagableSerialize<E> 
 
     ghost write_causes_are_own = { memory_or_is_own_writing T.write_causes T.write_causes_are_own };
 
-    #[tactic(auto, using(pagable_codec::proofs::Writing::parts, crate::proofs::Items::lists, crate::proofs::Sets::placed_sets, crate::proofs::Parts::causes))]
     fn pagable_serialize<S: PagableSerializer<E>>(&self, serializer: &mut S) -> Result<(), Error> {
         write_count(self.len(), serializer)?;
         write_items(self.as_slice(), serializer)?;
@@ -163,7 +160,6 @@ impl<'de, E: Env, T: PagableKey<E> + Hash + PagableDeserialize<'de, E> + Drop> P
 
     ghost read_causes_are_own = { memory_or_is_own_reading T.read_causes T.read_causes_are_own };
 
-    #[tactic(auto, unfolding(pagable_model::specs::Reading::read, pagable_model::specs::Reading::read_with), using(pagable_codec::proofs::Reading::parts))]
     fn pagable_deserialize<D: PagableDeserializer<E>>(
         alloc: Global,
         deserializer: &mut D,

@@ -37,7 +37,6 @@ impl<E: Env> PagableSerialize<E> for i8 {
 
     ghost write_causes_are_own = { memory_is_own_writing };
 
-    #[tactic(auto, using(pagable_codec::proofs::Writing::parts))]
     fn pagable_serialize<S: PagableSerializer<E>>(&self, serializer: &mut S) -> Result<(), Error> {
         serializer.serde().write_i8(*self)
     }
@@ -77,7 +76,6 @@ impl<E: Env> PagableSerialize<E> for i16 {
 
     ghost write_causes_are_own = { memory_is_own_writing };
 
-    #[tactic(auto, using(pagable_codec::proofs::Writing::parts))]
     fn pagable_serialize<S: PagableSerializer<E>>(&self, serializer: &mut S) -> Result<(), Error> {
         serializer.serde().write_i16(*self)
     }
@@ -117,7 +115,6 @@ impl<E: Env> PagableSerialize<E> for i32 {
 
     ghost write_causes_are_own = { memory_is_own_writing };
 
-    #[tactic(auto, using(pagable_codec::proofs::Writing::parts))]
     fn pagable_serialize<S: PagableSerializer<E>>(&self, serializer: &mut S) -> Result<(), Error> {
         serializer.serde().write_i32(*self)
     }
@@ -157,7 +154,6 @@ impl<E: Env> PagableSerialize<E> for i64 {
 
     ghost write_causes_are_own = { memory_is_own_writing };
 
-    #[tactic(auto, using(pagable_codec::proofs::Writing::parts))]
     fn pagable_serialize<S: PagableSerializer<E>>(&self, serializer: &mut S) -> Result<(), Error> {
         serializer.serde().write_i64(*self)
     }
@@ -197,7 +193,6 @@ impl<E: Env> PagableSerialize<E> for i128 {
 
     ghost write_causes_are_own = { memory_is_own_writing };
 
-    #[tactic(auto, using(pagable_codec::proofs::Writing::parts))]
     fn pagable_serialize<S: PagableSerializer<E>>(&self, serializer: &mut S) -> Result<(), Error> {
         serializer.serde().write_i128(*self)
     }

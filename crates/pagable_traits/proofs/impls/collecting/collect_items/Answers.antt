@@ -1,6 +1,6 @@
-use Rattle.std.proofs.Common.{◌++◌, ◌∷◌, []}
+use Rattle.std.proofs.Common.{inl, inr, ◌∙◌, ◌++◌, ◌∷◌, []}
 use Rattle.std.proofs.lemmas.Result.{err_from_is_err_and}
-use Rattle.pagable_model.specs.Reading.{read}
+use Rattle.pagable_model.specs.Reading.{items, read}
 use Rattle.pagable_model.specs.Standing.{handles_at}
 use Rattle.pagable_traits.proofs.Items.{starts, goes_on, ends, is_done}
 use Rattle.pagable_traits.proofs.Collecting.{collected_none, collected_more}
@@ -14,8 +14,8 @@ loop-index-init g c =
     record {
       gives = ([], collected_none g.T.Carried.means g.C.Collects.put _ c.in_ok-collected.ensures.empty, rw c.places_for-places.ensures.same_rest (starts get c.args.count (g.D.PagableDeserializer.rest c.args.deserializer.now)));
       moves = c.places_for-places.ensures.moves;
-      same_env = cc;
-      same_levels = cc;
+      same_env = c.places_for-places.ensures.same_env;
+      same_levels = c.places_for-places.ensures.same_levels;
     }
 
 pub loop-index-preserved : goal.loop-index-preserved
@@ -28,11 +28,11 @@ loop-index-preserved g c =
       gives = (
         i.gives.0 ++ gave.m ∷ [],
         collected_more g.T.Carried.means g.C.Collects.put _ _ i.gives.0 c.in_ok-value.value gave.m i.gives.1 gave.is c.in_ok-put_in.ensures.ok,
-        goes_on get i.gives.0 c.args.count c.loop-index.index (g.D.PagableDeserializer.rest c.loop-index.deserializer) gave.m _ _ c.loop-index-test.true gave.gave i.gives.2,
+        goes_on get i.gives.0 c.args.count c.loop-index.index (g.D.PagableDeserializer.rest c.loop-index.deserializer) gave.m _ (items get c.args.count (g.D.PagableDeserializer.rest c.args.deserializer.now)) c.loop-index-test.true gave.gave i.gives.2,
       );
       moves = moves_trans _ _ _ i.moves c.in_ok-value.ensures.moves;
-      same_env = cc;
-      same_levels = cc;
+      same_env = c.in_ok-value.ensures.same_env ∙ i.same_env;
+      same_levels = c.in_ok-value.ensures.same_levels ∙ i.same_levels;
     }
 
 pub returns-in_err-value-clause-gives : goal.returns-in_err-value-clause-gives
@@ -41,7 +41,7 @@ returns-in_err-value-clause-gives g c =
     let env = g.D.PagableDeserializer.environment c.args.deserializer.now in
     let get = read (handles_at (g.D.PagableDeserializer.levels c.args.deserializer.now) (g.E.Env.parts env)) (g.T.Carried.shape env) in
     let i = c.loop-index.invariant in
-    rw (p.1, p.2) (ends g.T.PagableDeserialize.read_causes get _ i.gives.0 c.args.count c.loop-index.index (g.D.PagableDeserializer.rest c.loop-index.deserializer) _ c.loop-index-test.true
+    rw (p.1, p.2) (ends g.T.PagableDeserialize.read_causes get _ i.gives.0 c.args.count c.loop-index.index (g.D.PagableDeserializer.rest c.loop-index.deserializer) (items get c.args.count (g.D.PagableDeserializer.rest c.args.deserializer.now)) c.loop-index-test.true
     (rw (i.same_levels, i.same_env) at c.in_err-value.ensures.gives) i.gives.2)
 
 pub returns-clause-gives : goal.returns-clause-gives
@@ -49,4 +49,50 @@ returns-clause-gives g c =
     let env = g.D.PagableDeserializer.environment c.args.deserializer.now in
     let get = read (handles_at (g.D.PagableDeserializer.levels c.args.deserializer.now) (g.E.Env.parts env)) (g.T.Carried.shape env) in
     let i = c.loop-index.invariant in
-    record { m = i.gives.0; is = i.gives.1; gave = is_done get i.gives.0 c.args.count c.loop-index.index (g.D.PagableDeserializer.rest c.loop-index.deserializer) _ c.loop-index-test.false i.gives.2 }
+    record { m = i.gives.0; is = i.gives.1; gave = is_done get i.gives.0 c.args.count c.loop-index.index (g.D.PagableDeserializer.rest c.loop-index.deserializer) (items get c.args.count (g.D.PagableDeserializer.rest c.args.deserializer.now)) c.loop-index-test.false i.gives.2 }
+
+pub returns-in_err-collected-clause-gives : goal.returns-in_err-collected-clause-gives
+returns-in_err-collected-clause-gives g c =
+    let p = err_from_is_err_and c.from_residual.result c.from_residual.ensures.1 in
+    rw (p.1, p.2) (inr (inl c.in_err-collected.ensures.only))
+
+pub returns-in_err-collected-clause-moves : goal.returns-in_err-collected-clause-moves
+returns-in_err-collected-clause-moves g c = c.places_for-places.ensures.moves
+
+pub returns-in_err-collected-clause-same_env : goal.returns-in_err-collected-clause-same_env
+returns-in_err-collected-clause-same_env g c = c.places_for-places.ensures.same_env
+
+pub returns-in_err-collected-clause-same_levels : goal.returns-in_err-collected-clause-same_levels
+returns-in_err-collected-clause-same_levels g c = c.places_for-places.ensures.same_levels
+
+pub returns-in_err-value-clause-moves : goal.returns-in_err-value-clause-moves
+returns-in_err-value-clause-moves g c = moves_trans _ _ _ c.loop-index.invariant.moves c.in_err-value.ensures.moves
+
+pub returns-in_err-value-clause-same_env : goal.returns-in_err-value-clause-same_env
+returns-in_err-value-clause-same_env g c = c.in_err-value.ensures.same_env ∙ c.loop-index.invariant.same_env
+
+pub returns-in_err-value-clause-same_levels : goal.returns-in_err-value-clause-same_levels
+returns-in_err-value-clause-same_levels g c = c.in_err-value.ensures.same_levels ∙ c.loop-index.invariant.same_levels
+
+pub returns-in_err-put_in-clause-gives : goal.returns-in_err-put_in-clause-gives
+returns-in_err-put_in-clause-gives g c =
+    let p = err_from_is_err_and c.from_residual-in_err-put_in.result c.from_residual-in_err-put_in.ensures.1 in
+    rw (p.1, p.2) (inr (inl c.in_err-put_in.ensures.only))
+
+pub returns-in_err-put_in-clause-moves : goal.returns-in_err-put_in-clause-moves
+returns-in_err-put_in-clause-moves g c = moves_trans _ _ _ c.loop-index.invariant.moves c.in_ok-value.ensures.moves
+
+pub returns-in_err-put_in-clause-same_env : goal.returns-in_err-put_in-clause-same_env
+returns-in_err-put_in-clause-same_env g c = c.in_ok-value.ensures.same_env ∙ c.loop-index.invariant.same_env
+
+pub returns-in_err-put_in-clause-same_levels : goal.returns-in_err-put_in-clause-same_levels
+returns-in_err-put_in-clause-same_levels g c = c.in_ok-value.ensures.same_levels ∙ c.loop-index.invariant.same_levels
+
+pub returns-clause-moves : goal.returns-clause-moves
+returns-clause-moves g c = c.loop-index.invariant.moves
+
+pub returns-clause-same_env : goal.returns-clause-same_env
+returns-clause-same_env g c = c.loop-index.invariant.same_env
+
+pub returns-clause-same_levels : goal.returns-clause-same_levels
+returns-clause-same_levels g c = c.loop-index.invariant.same_levels

@@ -1,4 +1,4 @@
-use Rattle.std.proofs.Common.{◌++◌, ◌∷◌, [], arith}
+use Rattle.std.proofs.Common.{inl, inr, ◌∙◌, ◌++◌, ◌∷◌, [], arith}
 use Rattle.std.proofs.lemmas.Result.{err_from_is_err_and}
 use Rattle.pagable_model.specs.Reading.{items, read}
 use Rattle.pagable_model.specs.Standing.{handles_at}
@@ -15,8 +15,8 @@ loop-index-init g c =
       count = c.in_ok-values.ensures.len;
       gives = ([], rw c.in_ok-values.ensures.items mean-none, rw c.places_for-places.ensures.same_rest (starts get c.args.count (g.D.PagableDeserializer.rest c.args.deserializer.now)));
       moves = c.places_for-places.ensures.moves;
-      same_env = cc;
-      same_levels = cc;
+      same_env = c.places_for-places.ensures.same_env;
+      same_levels = c.places_for-places.ensures.same_levels;
     }
 
 pub loop-index-preserved : goal.loop-index-preserved
@@ -33,8 +33,8 @@ loop-index-preserved g c =
         goes_on get i.gives.0 c.args.count c.loop-index.index (g.D.PagableDeserializer.rest c.loop-index.deserializer) gave.m _ (items get c.args.count (g.D.PagableDeserializer.rest c.args.deserializer.now)) c.loop-index-test.true gave.gave i.gives.2,
       );
       moves = moves_trans _ _ _ i.moves c.in_ok-value.ensures.moves;
-      same_env = cc;
-      same_levels = cc;
+      same_env = c.in_ok-value.ensures.same_env ∙ i.same_env;
+      same_levels = c.in_ok-value.ensures.same_levels ∙ i.same_levels;
     }
 
 pub returns-in_err-value-clause-gives : goal.returns-in_err-value-clause-gives
@@ -52,3 +52,61 @@ returns-clause-gives g c =
     let get = read (handles_at (g.D.PagableDeserializer.levels c.args.deserializer.now) (g.E.Env.parts env)) (g.T.Carried.shape env) in
     let i = c.loop-index.invariant in
     record { m = i.gives.0; is = i.gives.1; gave = is_done get i.gives.0 c.args.count c.loop-index.index (g.D.PagableDeserializer.rest c.loop-index.deserializer) (items get c.args.count (g.D.PagableDeserializer.rest c.args.deserializer.now)) c.loop-index-test.false i.gives.2 }
+
+pub returns-in_err-values-clause-gives : goal.returns-in_err-values-clause-gives
+returns-in_err-values-clause-gives g c =
+    let p = err_from_is_err_and c.from_residual.result c.from_residual.ensures.1 in
+    rw p.1 (inr (inl p.2))
+
+pub returns-in_err-values-clause-count : goal.returns-in_err-values-clause-count
+returns-in_err-values-clause-count g c = rw (err_from_is_err_and c.from_residual.result c.from_residual.ensures.1).1 tt
+
+pub returns-in_err-values-clause-moves : goal.returns-in_err-values-clause-moves
+returns-in_err-values-clause-moves g c = c.places_for-places.ensures.moves
+
+pub returns-in_err-values-clause-same_env : goal.returns-in_err-values-clause-same_env
+returns-in_err-values-clause-same_env g c = c.places_for-places.ensures.same_env
+
+pub returns-in_err-values-clause-same_levels : goal.returns-in_err-values-clause-same_levels
+returns-in_err-values-clause-same_levels g c = c.places_for-places.ensures.same_levels
+
+pub returns-in_err-value-clause-count : goal.returns-in_err-value-clause-count
+returns-in_err-value-clause-count g c = rw (err_from_is_err_and c.from_residual-in_err-value.result c.from_residual-in_err-value.ensures.1).1 tt
+
+pub returns-in_err-value-clause-moves : goal.returns-in_err-value-clause-moves
+returns-in_err-value-clause-moves g c = moves_trans _ _ _ c.loop-index.invariant.moves c.in_err-value.ensures.moves
+
+pub returns-in_err-value-clause-same_env : goal.returns-in_err-value-clause-same_env
+returns-in_err-value-clause-same_env g c = c.in_err-value.ensures.same_env ∙ c.loop-index.invariant.same_env
+
+pub returns-in_err-value-clause-same_levels : goal.returns-in_err-value-clause-same_levels
+returns-in_err-value-clause-same_levels g c = c.in_err-value.ensures.same_levels ∙ c.loop-index.invariant.same_levels
+
+pub returns-in_err-push-clause-gives : goal.returns-in_err-push-clause-gives
+returns-in_err-push-clause-gives g c =
+    let p = err_from_is_err_and c.from_residual-in_err-push.result c.from_residual-in_err-push.ensures.1 in
+    rw p.1 (inr (inl p.2))
+
+pub returns-in_err-push-clause-count : goal.returns-in_err-push-clause-count
+returns-in_err-push-clause-count g c = rw (err_from_is_err_and c.from_residual-in_err-push.result c.from_residual-in_err-push.ensures.1).1 tt
+
+pub returns-in_err-push-clause-moves : goal.returns-in_err-push-clause-moves
+returns-in_err-push-clause-moves g c = moves_trans _ _ _ c.loop-index.invariant.moves c.in_ok-value.ensures.moves
+
+pub returns-in_err-push-clause-same_env : goal.returns-in_err-push-clause-same_env
+returns-in_err-push-clause-same_env g c = c.in_ok-value.ensures.same_env ∙ c.loop-index.invariant.same_env
+
+pub returns-in_err-push-clause-same_levels : goal.returns-in_err-push-clause-same_levels
+returns-in_err-push-clause-same_levels g c = c.in_ok-value.ensures.same_levels ∙ c.loop-index.invariant.same_levels
+
+pub returns-clause-count : goal.returns-clause-count
+returns-clause-count g c = omega (arith, c.loop-index.invariant.count)
+
+pub returns-clause-moves : goal.returns-clause-moves
+returns-clause-moves g c = c.loop-index.invariant.moves
+
+pub returns-clause-same_env : goal.returns-clause-same_env
+returns-clause-same_env g c = c.loop-index.invariant.same_env
+
+pub returns-clause-same_levels : goal.returns-clause-same_levels
+returns-clause-same_levels g c = c.loop-index.invariant.same_levels

@@ -1,16 +1,19 @@
-use Rattle.std.proofs.Common.{sym, ◌∙◌}
+use Rattle.std.proofs.Common.{refl, sym, ◌∙◌}
 use Rattle.std.proofs.lemmas.Result.{err_from_is_err_and}
 use Rattle.pagable_model.specs.Writing.{nesting}
 use Rattle.pagable_codec.proofs.Writing.{grows_trans}
-use Rattle.pagable_traits.proofs.Maps.{written-none, written-more, written-all, written-refused, written-grows}
+use Rattle.pagable_traits.proofs.Maps.{written-fewer, written-none, written-more, written-all, written-refused, written-grows}
 use Rattle.pagable_traits.proofs.impls.sets.write_sorted_items.Goals as goal
 
 pub loop-key-init : goal.loop-key-init
 loop-key-init g c = record {
   ok = written-none _ _ _ _ _ _ (sym c.iter-key-items.ensures.rest ∙ sym c.into_iter-key-iterator.ensures.into_iter_gives);
-  same_env = cc;
-  same_levels = cc;
+  same_env = refl;
+  same_levels = refl;
 }
+
+pub loop-key-smaller : goal.loop-key-smaller
+loop-key-smaller g c = written-fewer _ _ _ c.in-Some.ensures.steps
 
 pub loop-key-preserved : goal.loop-key-preserved
 loop-key-preserved g c =
@@ -19,8 +22,8 @@ loop-key-preserved g c =
     let i = c.loop-key.invariant in
     record {
       ok = written-more g.T.Carried.means n (g.T.Carried.shape env) _ _ _ _ _ _ _ i.ok c.in-Some.ensures.steps (rw (i.same_levels, i.same_env) at c.in_ok-pagable_serialize.ensures.ok);
-      same_env = cc;
-      same_levels = cc;
+      same_env = c.in_ok-pagable_serialize.ensures.same_env ∙ i.same_env;
+      same_levels = c.in_ok-pagable_serialize.ensures.same_levels ∙ i.same_levels;
     }
 
 pub returns-in_err-pagable_serialize-clause-refused : goal.returns-in_err-pagable_serialize-clause-refused
@@ -39,3 +42,29 @@ returns-clause-ok g c = written-all _ _ _ _ _ _ _ c.loop-key.invariant.ok c.in-N
 
 pub returns-clause-err : goal.returns-clause-err
 returns-clause-err g c = written-grows _ _ _ _ _ _ _ c.loop-key.invariant.ok
+
+pub returns-in_err-pagable_serialize-clause-ok : goal.returns-in_err-pagable_serialize-clause-ok
+returns-in_err-pagable_serialize-clause-ok g c = rw (err_from_is_err_and c.from_residual.result c.from_residual.ensures.1).1 tt
+
+pub returns-in_err-pagable_serialize-clause-only : goal.returns-in_err-pagable_serialize-clause-only
+returns-in_err-pagable_serialize-clause-only g c =
+    let p = err_from_is_err_and c.from_residual.result c.from_residual.ensures.1 in
+    rw (p.1, p.2) c.in_err-pagable_serialize.ensures.only
+
+pub returns-in_err-pagable_serialize-clause-same_env : goal.returns-in_err-pagable_serialize-clause-same_env
+returns-in_err-pagable_serialize-clause-same_env g c = c.in_err-pagable_serialize.ensures.same_env ∙ c.loop-key.invariant.same_env
+
+pub returns-in_err-pagable_serialize-clause-same_levels : goal.returns-in_err-pagable_serialize-clause-same_levels
+returns-in_err-pagable_serialize-clause-same_levels g c = c.in_err-pagable_serialize.ensures.same_levels ∙ c.loop-key.invariant.same_levels
+
+pub returns-clause-refused : goal.returns-clause-refused
+returns-clause-refused g c = tt
+
+pub returns-clause-only : goal.returns-clause-only
+returns-clause-only g c = tt
+
+pub returns-clause-same_env : goal.returns-clause-same_env
+returns-clause-same_env g c = c.loop-key.invariant.same_env
+
+pub returns-clause-same_levels : goal.returns-clause-same_levels
+returns-clause-same_levels g c = c.loop-key.invariant.same_levels
