@@ -17,6 +17,7 @@ mod Natural
 mod Deep
 mod AnyOrder
 mod JsonNumbers
+mod JsonKept
 mod JsonMembers
 mod JsonReading
 mod JsonWriting

@@ -1,4 +1,5 @@
-//! JSON values. Items and members are kept in cells, each with its value and the cells after it.
+//! JSON values. Items and members are kept in cells, each with its value and the cells after it. What goes along the cells
+//! calls itself for each, so the stack bounds how many there may be.
 
 ghost use Rattle.std.specs.Prelude.{◌≡◌, ◌⊎◌, ◌≤◌, ◌<◌, ◌^◌, ◌-◌, ◌++◌, ◌∷◌, [], min, length, OnOk, IfOk, IfErr};
 ghost use Rattle.std.specs.Int.{w64};
@@ -6,7 +7,7 @@ ghost use Rattle.std.specs.String.{string_bytes};
 ghost use Rattle.pagable_model.specs.Basic.{longest, bool_form, length_form, text_form};
 ghost use Rattle.pagable_model.specs.Gives.{Gives, never, memory};
 ghost use Rattle.pagable_model.specs.Keys.{put_sorted, text_order};
-ghost use Rattle.pagable_model.specs.Meaning.{integer, variant, text as text_meaning};
+ghost use Rattle.pagable_model.specs.Meaning.{text as text_meaning};
 ghost use Rattle.pagable_model.specs.Numbers.{IsSigned, signed_form};
 ghost use Rattle.pagable_model.specs.Reading.{items as items_at, deepest, flag_case, number_case, text_case, array_case, object_case};
 ghost use Rattle.pagable_model.specs.Shape.{json, text as text_shape};
@@ -356,10 +357,10 @@ fn write_members(out: &mut Vec<u8>, members: &Members, left: u32) -> Result<(), 
 }
 
 // A form of the value, where every level is left.
-pub(crate) fn write_json(out: &mut Vec<u8>, json_value: &OrderedJson) -> Result<(), Error>
-    ensures ok { OnOk result (Appends deepest json (of_json json_value.now.value) out.old.items out.new.items) }
-    ensures refused { IfErr result (NoneWhere deepest json (of_json json_value.now.value)) }
+pub(crate) fn write_json(out: &mut Vec<u8>, whole: &OrderedJson) -> Result<(), Error>
+    ensures ok { OnOk result (Appends deepest json (of_json whole.now.value) out.old.items out.new.items) }
+    ensures refused { IfErr result (NoneWhere deepest json (of_json whole.now.value)) }
     ensures only { IfErr result IsJsonRefusal }
 {
-    write_value(out, &json_value.value, 128)
+    write_value(out, &whole.value, 128)
 }

@@ -1,7 +1,7 @@
 //! The laws of the definitions of values: each is the contract of a function that does nothing.
 
 ghost use Rattle.pagable_plain.specs.Laws.{IsReadAgain, IsPrefixFree, CanonicalHasOneForm, HasOnePreimage, IsLocal, IsUsed, IsLasting, IsNatural, IsReadOver, IsRenamed, IsReadThrough, KeepsForms};
-ghost use Rattle.pagable_plain.specs.JsonLaws.{FloatHasNoForm, WholeIsBounded};
+ghost use Rattle.pagable_plain.specs.JsonLaws.{FloatHasNoForm, WholeIsBounded, MeansWhatIsKept};
 ghost use Rattle.pagable_plain.specs.KeyLaws.{IsOneMeaning, IsOneKeyMeaning, IsAnyOrder};
 ghost use Rattle.pagable_plain.specs.TreeLaws.{IsOneTree, IsOneKey, IsOneItemKey, IsStoredKey, IsTreeReadable, IsKeyOfOneTree, IsDeepTree, IsReadDeep, IsReadWithin, IsLongestPath, StaysInside, IsCanonicalInside};
 
@@ -138,6 +138,11 @@ pub fn float_has_no_form<A>()
 /// A whole JSON number that has a form is one of 64 bits with a sign.
 pub fn whole_is_bounded<A>()
     ensures { WholeIsBounded A }
+{}
+
+/// A JSON value of the plain program means what the definitions say of the value that is kept in its cells.
+pub fn means_what_is_kept()
+    ensures { MeansWhatIsKept }
 {}
 
 /// A tree of a closed set of types that has a key reaches types of the set alone.
