@@ -12,13 +12,13 @@ use Rattle.pagable_model.specs.declared.error.Error.TheVariants as errors
 use Rattle.pagable_model.specs.Steps.{◌>>=◌}
 use Rattle.pagable_model.specs.Basic.{longest, text_form, text_at}
 use Rattle.pagable_model.specs.Canonical.{HasNoCase, IsReadable}
-use Rattle.pagable_model.specs.Gives.{memory, memory_or}
+use Rattle.pagable_model.specs.Gives.{Gives, memory, memory_or}
 use Rattle.pagable_model.specs.Reading.{Rest, Context, read, read_with, bytes_of}
 use Rattle.pagable_model.specs.Carried.{of_tagged, is_registered, body_of, tagged_by}
 use Rattle.pagable_model.specs.Meaning.{Meaning}
 use Rattle.pagable_model.specs.Shape.{Shape, tagged}
 use Rattle.pagable_model.specs.Form.{tagged-form}
-use Rattle.pagable_model.specs.Standing.{SomeMeaning, Gave, GivesSome}
+use Rattle.pagable_model.specs.Standing.{Answer, SomeMeaning, Gave, GivesSome}
 use Rattle.pagable_model.specs.Writing.{Out, Nesting, FormAt, WritesSome, NoForm, Refused, added}
 use Rattle.pagable_model.specs.Lengths.{long_or_memory}
 use Rattle.pagable_model.specs.Tagged.{MeansTagged, IsLastFor, NoneFor, grammars, HasDistinctTags, ReadsWhatIsWritten}
@@ -155,6 +155,13 @@ read-known context written rs tag s rest mid e known body = rw (e, known, body) 
 read-unknown : {A B : Type 0} (context : Context A B) (written : List ℕ → Shape) (rs : List (List ℕ × Shape)) (tag : List ℕ) (rest mid : Rest A) → bytes_of text_at (λ t. t) rest ≡ Ok (tag, mid) → is_registered rs tag ≡ false → read context (tagged_by written rs) rest ≡ Err errors.UnknownTag
 unfolding read read_with
 read-unknown context written rs tag rest mid e known = rw (e, known) refl
+
+-- a tag as bytes give it
+pub text_is_read : {X : Type 0} (bytes_in : X → List ℕ) (r : Result X Error) (rest last : Rest Answer) (bytes after : List ℕ) → rest.bytes ≡ bytes → last ≡ record rest { bytes = after } → Gives memory (λ t. (bytes_in t, after)) r (text_at bytes)
+    → Gives memory (λ t. (bytes_in t, last)) r (bytes_of text_at (λ t. t) rest)
+text_is_read bytes_in (Ok x) rest last bytes after e f h = rw (f, e, h) refl
+text_is_read bytes_in (Err x) rest last bytes after e f (inl h) = inl (rw (e, h) refl)
+text_is_read bytes_in (Err x) rest last bytes after e f (inr h) = inr h
 
 -- the tag is refused
 pub no_tag_read : {A B : Type 0} (own : Error → Type 0) (context : Context A B) (written : List ℕ → Shape) (rs : List (List ℕ × Shape)) (e : Error) (rest : Rest A) → (bytes_of text_at (λ t. t) rest ≡ Err e) ⊎ memory e → (read context (tagged_by written rs) rest ≡ Err e) ⊎ memory_or own e
