@@ -60,13 +60,21 @@ refused_body (Ok x) M tag n written known body h = tt
 refused_body (Err e) M tag n written known body h = λ fault.
     let no = h fault in record { m = of_tagged tag no.m; is = record { body = no.m; is_body = no.is; is = refl }; no_form = no-body n written known body tag no.m no.no_form }
 
-pub refuses-tag : (M : Meaning ArcRef → Type 0) (has : SomeMeaning M) (tag : List ℕ) (n : Nesting) (written : List ℕ → Shape) (known : List ℕ → Bool) (body : List ℕ → Shape) (e : Error) → long_or_memory (length tag) e → Refused (MeansTagged tag M) n (tagged written known body) e
+refuses-tag : (M : Meaning ArcRef → Type 0) (has : SomeMeaning M) (tag : List ℕ) (n : Nesting) (written : List ℕ → Shape) (known : List ℕ → Bool) (body : List ℕ → Shape) (e : Error) → long_or_memory (length tag) e → Refused (MeansTagged tag M) n (tagged written known body) e
 refuses-tag M has tag n written known body e (inl h) = λ fault. record { m = of_tagged tag has.0; is = record { body = has.0; is_body = has.1; is = refl }; no_form = no-tag n written known body tag has.0 h.0 }
 refuses-tag M has tag n written known body e (inr h) = memory_refuses e (MeansTagged tag M) n (tagged written known body) h.1
 
 pub refused_tag : {X : Type 0} (r : Result X Error) (M : Meaning ArcRef → Type 0) (has : SomeMeaning M) (tag : List ℕ) (n : Nesting) (written : List ℕ → Shape) (known : List ℕ → Bool) (body : List ℕ → Shape) → IfErr r (long_or_memory (length tag)) → IfErr r (Refused (MeansTagged tag M) n (tagged written known body))
 refused_tag (Ok x) M has tag n written known body h = tt
 refused_tag (Err e) M has tag n written known body h = refuses-tag M has tag n written known body e h
+
+-- the tag as it was told
+pub writes_told : (M : Meaning ArcRef → Type 0) (tag : List ℕ) (n : Nesting) (written : List ℕ → Shape) (known : List ℕ → Bool) (body : List ℕ → Shape) (old mid new : Out) (told : List ℕ) → IsUtf8 told → length told ≤ longest → mid ≡ added old (text_form told) [] → told ≡ tag → WritesSome M n (written tag) mid new
+    → WritesSome (MeansTagged tag M) n (tagged written known body) old new
+writes_told M tag n written known body old mid new told u le e same w = writes_tagged M tag n written known body old mid new (rw same at u) (rw same at le) (rw same at e) w
+
+pub refuses_told : (M : Meaning ArcRef → Type 0) (has : SomeMeaning M) (tag : List ℕ) (n : Nesting) (written : List ℕ → Shape) (known : List ℕ → Bool) (body : List ℕ → Shape) (e : Error) (told : List ℕ) → long_or_memory (length told) e → told ≡ tag → Refused (MeansTagged tag M) n (tagged written known body) e
+refuses_told M has tag n written known body e told h same = refuses-tag M has tag n written known body e (rw same at h)
 
 pub ruleset writing = (writes_tagged, refused_body, refused_tag)
 
