@@ -20,7 +20,7 @@ use Rattle.pagable_model.specs.Form.{static-form}
 use Rattle.pagable_model.specs.Standing.{Is, Gave}
 use Rattle.pagable_model.specs.Writing.{Out, Nesting, WritesSome}
 use Rattle.pagable_model.specs.Statics.{HasEqual, NoEqualBelow, meanings_of}
-use Rattle.pagable_codec.proofs.Writing.{writes_is, writes_bytes}
+use Rattle.pagable_codec.proofs.Writing.{writes_bytes}
 
 -- ---- the values of entries
 

@@ -1,6 +1,6 @@
 -- Tagged values: what writing a tag and a body adds, and what reading by the registered reader gives.
 use Rattle.std.proofs.Common.{◌≡◌, ℕ, zero, suc, ◌+◌, ◌<◌, ◌≤◌, Bool, true, false, List, [], ◌∷◌, ◌++◌, length, get_or, map, Result, Some, None, Ok, Err, refl, sym, ap, subst, ◌∙◌, arith, inl, inr}
-use Rattle.std.specs.Prelude.{IfErr, IfOk, ◌⊎◌, ◌-◌, option_map}
+use Rattle.std.specs.Prelude.{IfErr, ◌⊎◌}
 use Rattle.std.specs.Str.{IsUtf8, bytes_eq}
 use Rattle.pagable_model.specs.declared.error.Error.{Error}
 use Rattle.pagable_model.specs.declared.numbers.ArcRef.{ArcRef}
@@ -11,14 +11,14 @@ use Rattle.std.proofs.lemmas.Slice.Eq.{bytes_eq-Decides}
 use Rattle.pagable_model.specs.declared.error.Error.TheVariants as errors
 use Rattle.pagable_model.specs.Steps.{◌>>=◌}
 use Rattle.pagable_model.specs.Basic.{longest, text_form, text_at}
-use Rattle.pagable_model.specs.Canonical.{HasNoCase, IsReadable}
+use Rattle.pagable_model.specs.Canonical.{IsReadable}
 use Rattle.pagable_model.specs.Gives.{Gives, memory, memory_or}
 use Rattle.pagable_model.specs.Reading.{Rest, Context, read, read_with, bytes_of}
 use Rattle.pagable_model.specs.Carried.{of_tagged, is_registered, body_of, tagged_by}
 use Rattle.pagable_model.specs.Meaning.{Meaning}
 use Rattle.pagable_model.specs.Shape.{Shape, tagged}
 use Rattle.pagable_model.specs.Form.{tagged-form}
-use Rattle.pagable_model.specs.Standing.{Answer, SomeMeaning, Gave, GivesSome}
+use Rattle.pagable_model.specs.Standing.{Answer, SomeMeaning, Gave}
 use Rattle.pagable_model.specs.Writing.{Out, Nesting, FormAt, WritesSome, NoForm, Refused, added}
 use Rattle.pagable_model.specs.Lengths.{long_or_memory}
 use Rattle.pagable_model.specs.Tagged.{MeansTagged, IsLastFor, NoneFor, grammars, HasDistinctTags, ReadsWhatIsWritten}
