@@ -7,18 +7,20 @@ use Rattle.std.specs.Borrow.{Bor}
 use Rattle.std.specs.List.{slice_get, AllByRecursion}
 use Rattle.std.proofs.lemmas.Bool.{cases_lt}
 use Rattle.std.proofs.lemmas.Option.{slice_get_read, get_or_from_slice_get}
+use Rattle.pagable_model.specs.declared.error.Error.{Error}
 use Rattle.pagable_model.specs.declared.error.Error.TheVariants as errors
+use Rattle.pagable_model.specs.Gives.{never}
 use Rattle.pagable_model.specs.declared.numbers.ArcRef.{ArcRef}
 use Rattle.pagable_model.specs.Canonical.{HasNoReference, IsReadable}
-use Rattle.pagable_model.specs.Numbers.{bound, unsigned_form}
+use Rattle.pagable_model.specs.Numbers.{bound, unsigned_form, unsigned_at}
 use Rattle.pagable_model.specs.Meaning.{Meaning, lifted}
 use Rattle.pagable_model.specs.Shape.{static_value}
-use Rattle.pagable_model.specs.Reading.{registered}
+use Rattle.pagable_model.specs.Reading.{Rest, Context, registered, read, read_with}
 use Rattle.pagable_model.specs.Form.{static-form}
-use Rattle.pagable_model.specs.Standing.{Is}
+use Rattle.pagable_model.specs.Standing.{Is, Gave}
 use Rattle.pagable_model.specs.Writing.{Out, Nesting, WritesSome}
 use Rattle.pagable_model.specs.Statics.{HasEqual, NoEqualBelow, meanings_of}
-use Rattle.pagable_codec.proofs.Writing.{writes_is, writes_bytes}
+use Rattle.pagable_codec.proofs.Writing.{writes_bytes}
 
 -- ---- the values of entries
 
@@ -75,6 +77,23 @@ writes_static meaning x registry i m n old w is e lt grown =
     record { m = meaning x; is = refl; wrote = rw is (writes_bytes n (static_value registry) (lifted m) old w (unsigned_form w32 i) grown (static-form _ registry i m lt e)) }
 
 pub ruleset writing = (writes_static)
+
+-- ---- reading
+
+pub static_unread : {A B : Type 0} (context : Context A B) (registry : List (Meaning ⊥)) (e : Error) (rest : Rest A) (bytes : List ℕ) → rest.bytes ≡ bytes → (unsigned_at w32 bytes ≡ Err e) ⊎ never e → (read context (static_value registry) rest ≡ Err e) ⊎ never e
+unfolding read read_with
+static_unread context registry e rest bytes f (inl h) = inl (rw (f, h) refl)
+static_unread context registry e rest bytes f (inr h) = absurd h
+
+pub static_refused : {A B : Type 0} (context : Context A B) (registry : List (Meaning ⊥)) (e : Error) (rest : Rest A) (bytes after : List ℕ) (i : ℕ) → rest.bytes ≡ bytes → unsigned_at w32 bytes ≡ Ok (i, after) → (registered registry i ≡ Err e) ⊎ never e → (read context (static_value registry) rest ≡ Err e) ⊎ never e
+unfolding read read_with
+static_refused context registry e rest bytes after i f h (inl g) = inl (rw (f, h, g) refl)
+static_refused context registry e rest bytes after i f h (inr g) = absurd g
+
+pub static_read : {X A : Type 0} (meaning : X → Meaning ArcRef) (context : Context A ArcRef) (registry : List (Meaning ⊥)) (x : X) (m : Meaning ⊥) (rest last : Rest A) (bytes after : List ℕ) (i : ℕ) → rest.bytes ≡ bytes → last ≡ record rest { bytes = after } → unsigned_at w32 bytes ≡ Ok (i, after)
+    → registered registry i ≡ Ok m → meaning x ≡ lifted m → Gave (Is meaning x) last (read context (static_value registry) rest)
+unfolding read read_with
+static_read meaning context registry x m rest last bytes after i f l h g is = record { m = meaning x; is = refl; gave = rw (l, is, f, h, g) refl }
 
 -- ---- reading again
 

@@ -1,6 +1,6 @@
 -- Tagged values: what writing a tag and a body adds, and what reading by the registered reader gives.
 use Rattle.std.proofs.Common.{◌≡◌, ℕ, zero, suc, ◌+◌, ◌<◌, ◌≤◌, Bool, true, false, List, [], ◌∷◌, ◌++◌, length, get_or, map, Result, Some, None, Ok, Err, refl, sym, ap, subst, ◌∙◌, arith, inl, inr}
-use Rattle.std.specs.Prelude.{IfErr, IfOk, ◌⊎◌, ◌-◌, option_map}
+use Rattle.std.specs.Prelude.{IfErr, ◌⊎◌}
 use Rattle.std.specs.Str.{IsUtf8, bytes_eq}
 use Rattle.pagable_model.specs.declared.error.Error.{Error}
 use Rattle.pagable_model.specs.declared.numbers.ArcRef.{ArcRef}
@@ -11,14 +11,14 @@ use Rattle.std.proofs.lemmas.Slice.Eq.{bytes_eq-Decides}
 use Rattle.pagable_model.specs.declared.error.Error.TheVariants as errors
 use Rattle.pagable_model.specs.Steps.{◌>>=◌}
 use Rattle.pagable_model.specs.Basic.{longest, text_form, text_at}
-use Rattle.pagable_model.specs.Canonical.{HasNoCase, IsReadable}
-use Rattle.pagable_model.specs.Gives.{memory, memory_or}
+use Rattle.pagable_model.specs.Canonical.{IsReadable}
+use Rattle.pagable_model.specs.Gives.{Gives, memory, memory_or}
 use Rattle.pagable_model.specs.Reading.{Rest, Context, read, read_with, bytes_of}
 use Rattle.pagable_model.specs.Carried.{of_tagged, is_registered, body_of, tagged_by}
 use Rattle.pagable_model.specs.Meaning.{Meaning}
 use Rattle.pagable_model.specs.Shape.{Shape, tagged}
 use Rattle.pagable_model.specs.Form.{tagged-form}
-use Rattle.pagable_model.specs.Standing.{SomeMeaning, Gave, GivesSome}
+use Rattle.pagable_model.specs.Standing.{Answer, SomeMeaning, Gave}
 use Rattle.pagable_model.specs.Writing.{Out, Nesting, FormAt, WritesSome, NoForm, Refused, added}
 use Rattle.pagable_model.specs.Lengths.{long_or_memory}
 use Rattle.pagable_model.specs.Tagged.{MeansTagged, IsLastFor, NoneFor, grammars, HasDistinctTags, ReadsWhatIsWritten}
@@ -60,13 +60,21 @@ refused_body (Ok x) M tag n written known body h = tt
 refused_body (Err e) M tag n written known body h = λ fault.
     let no = h fault in record { m = of_tagged tag no.m; is = record { body = no.m; is_body = no.is; is = refl }; no_form = no-body n written known body tag no.m no.no_form }
 
-pub refuses-tag : (M : Meaning ArcRef → Type 0) (has : SomeMeaning M) (tag : List ℕ) (n : Nesting) (written : List ℕ → Shape) (known : List ℕ → Bool) (body : List ℕ → Shape) (e : Error) → long_or_memory (length tag) e → Refused (MeansTagged tag M) n (tagged written known body) e
+refuses-tag : (M : Meaning ArcRef → Type 0) (has : SomeMeaning M) (tag : List ℕ) (n : Nesting) (written : List ℕ → Shape) (known : List ℕ → Bool) (body : List ℕ → Shape) (e : Error) → long_or_memory (length tag) e → Refused (MeansTagged tag M) n (tagged written known body) e
 refuses-tag M has tag n written known body e (inl h) = λ fault. record { m = of_tagged tag has.0; is = record { body = has.0; is_body = has.1; is = refl }; no_form = no-tag n written known body tag has.0 h.0 }
 refuses-tag M has tag n written known body e (inr h) = memory_refuses e (MeansTagged tag M) n (tagged written known body) h.1
 
 pub refused_tag : {X : Type 0} (r : Result X Error) (M : Meaning ArcRef → Type 0) (has : SomeMeaning M) (tag : List ℕ) (n : Nesting) (written : List ℕ → Shape) (known : List ℕ → Bool) (body : List ℕ → Shape) → IfErr r (long_or_memory (length tag)) → IfErr r (Refused (MeansTagged tag M) n (tagged written known body))
 refused_tag (Ok x) M has tag n written known body h = tt
 refused_tag (Err e) M has tag n written known body h = refuses-tag M has tag n written known body e h
+
+-- the tag as it was told
+pub writes_told : (M : Meaning ArcRef → Type 0) (tag : List ℕ) (n : Nesting) (written : List ℕ → Shape) (known : List ℕ → Bool) (body : List ℕ → Shape) (old mid new : Out) (told : List ℕ) → IsUtf8 told → length told ≤ longest → mid ≡ added old (text_form told) [] → told ≡ tag → WritesSome M n (written tag) mid new
+    → WritesSome (MeansTagged tag M) n (tagged written known body) old new
+writes_told M tag n written known body old mid new told u le e same w = writes_tagged M tag n written known body old mid new (rw same at u) (rw same at le) (rw same at e) w
+
+pub refuses_told : (M : Meaning ArcRef → Type 0) (has : SomeMeaning M) (tag : List ℕ) (n : Nesting) (written : List ℕ → Shape) (known : List ℕ → Bool) (body : List ℕ → Shape) (e : Error) (told : List ℕ) → long_or_memory (length told) e → told ≡ tag → Refused (MeansTagged tag M) n (tagged written known body) e
+refuses_told M has tag n written known body e told h same = refuses-tag M has tag n written known body e (rw same at h)
 
 pub ruleset writing = (writes_tagged, refused_body, refused_tag)
 
@@ -155,6 +163,13 @@ read-known context written rs tag s rest mid e known body = rw (e, known, body) 
 read-unknown : {A B : Type 0} (context : Context A B) (written : List ℕ → Shape) (rs : List (List ℕ × Shape)) (tag : List ℕ) (rest mid : Rest A) → bytes_of text_at (λ t. t) rest ≡ Ok (tag, mid) → is_registered rs tag ≡ false → read context (tagged_by written rs) rest ≡ Err errors.UnknownTag
 unfolding read read_with
 read-unknown context written rs tag rest mid e known = rw (e, known) refl
+
+-- a tag as bytes give it
+pub text_is_read : {X : Type 0} (bytes_in : X → List ℕ) (r : Result X Error) (rest last : Rest Answer) (bytes after : List ℕ) → rest.bytes ≡ bytes → last ≡ record rest { bytes = after } → Gives memory (λ t. (bytes_in t, after)) r (text_at bytes)
+    → Gives memory (λ t. (bytes_in t, last)) r (bytes_of text_at (λ t. t) rest)
+text_is_read bytes_in (Ok x) rest last bytes after e f h = rw (f, e, h) refl
+text_is_read bytes_in (Err x) rest last bytes after e f (inl h) = inl (rw (e, h) refl)
+text_is_read bytes_in (Err x) rest last bytes after e f (inr h) = inr h
 
 -- the tag is refused
 pub no_tag_read : {A B : Type 0} (own : Error → Type 0) (context : Context A B) (written : List ℕ → Shape) (rs : List (List ℕ × Shape)) (e : Error) (rest : Rest A) → (bytes_of text_at (λ t. t) rest ≡ Err e) ⊎ memory e → (read context (tagged_by written rs) rest ≡ Err e) ⊎ memory_or own e

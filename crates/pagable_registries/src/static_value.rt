@@ -364,7 +364,6 @@ impl<'de, 'a, E: Env, T: HasStaticValueRegistry<'a, E>> PagableDeserialize<'de, 
 
     ghost read_causes_are_own = { never_is_own_reading };
 
-    #[tactic(auto, unfolding(pagable_model::specs::Reading::read, pagable_model::specs::Reading::read_with), using(pagable_codec::proofs::Reading::parts))]
     fn pagable_deserialize<D: PagableDeserializer<E>>(
         _alloc: Global,
         deserializer: &mut D,

@@ -239,7 +239,6 @@ fn last_reader<'r, T, F: ForTag>(
 }
 
 /// Reads a tag.
-#[tactic(auto, using(pagable_codec::proofs::Reading::parts))]
 fn read_tag<E: Env, D: PagableDeserializer<E>>(
     alloc: Global,
     deserializer: &mut D,

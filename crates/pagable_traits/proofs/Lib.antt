@@ -7,4 +7,3 @@ pub mod Maps
 pub mod Placed
 pub mod Sets
 pub mod Held
-mod Back

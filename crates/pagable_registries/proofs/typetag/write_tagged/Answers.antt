@@ -3,7 +3,7 @@ use Rattle.std.proofs.lemmas.Result.{err_from_is_err_and}
 use Rattle.pagable_model.specs.Writing.{nesting}
 use Rattle.pagable_codec.proofs.Writing.{grows_trans}
 use Rattle.pagable_traits.proofs.Parts.{where_ok, only-count, only_part}
-use Rattle.pagable_registries.proofs.Tagged.{writes_tagged, refused_body, refuses-tag}
+use Rattle.pagable_registries.proofs.Tagged.{writes_told, refused_body, refuses_told}
 use Rattle.pagable_registries.proofs.typetag.write_tagged.Goals as goal
 
 pub returns-in_err-write_tag-clause-ok : goal.returns-in_err-write_tag-clause-ok
@@ -14,7 +14,7 @@ returns-in_err-write_tag-clause-refused g c = λ known read.
     let p = err_from_is_err_and c.from_residual.result c.from_residual.ensures.1 in
     let env = g.S.PagableSerializer.environment c.args.serializer.now in
     let n = nesting (g.S.PagableSerializer.levels c.args.serializer.now) (g.E.Env.parts env) in
-    rw (p.1, p.2) (refuses-tag (g.T.PagableTagged.body_means c.args.value.now) (g.met.T.PagableTagged.body_has_meaning c.args.value.now) (g.T.PagableTagged.tag c.args.value.now) n (g.T.PagableTagged.bodies env) known read _ (rw c.pagable_type_tag.ensures at c.in_err-write_tag.ensures.only))
+    rw (p.1, p.2) (refuses_told (g.T.PagableTagged.body_means c.args.value.now) (g.met.T.PagableTagged.body_has_meaning c.args.value.now) (g.T.PagableTagged.tag c.args.value.now) n (g.T.PagableTagged.bodies env) known read _ _ c.in_err-write_tag.ensures.only (cc))
 
 pub returns-in_err-write_tag-clause-only : goal.returns-in_err-write_tag-clause-only
 returns-in_err-write_tag-clause-only g c =
@@ -36,7 +36,7 @@ returns-clause-ok g c = λ known read.
     let n = nesting (g.S.PagableSerializer.levels c.args.serializer.now) (g.E.Env.parts env) in
     let told = c.in_ok-write_tag.ensures in
     where_ok c.pagable_serialize_body.result _ _
-    (writes_tagged (g.T.PagableTagged.body_means c.args.value.now) (g.T.PagableTagged.tag c.args.value.now) n (g.T.PagableTagged.bodies env) known read _ _ _ (rw c.pagable_type_tag.ensures at told.text) (rw c.pagable_type_tag.ensures at told.within) (rw c.pagable_type_tag.ensures at told.ok))
+    (writes_told (g.T.PagableTagged.body_means c.args.value.now) (g.T.PagableTagged.tag c.args.value.now) n (g.T.PagableTagged.bodies env) known read _ _ _ _ told.text told.within told.ok (cc))
     (rw (told.same_levels, told.same_env) at c.pagable_serialize_body.ensures.ok)
 
 pub returns-clause-refused : goal.returns-clause-refused
