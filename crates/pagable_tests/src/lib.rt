@@ -11,6 +11,8 @@ mod calls;
 #[cfg(test)]
 mod cursors;
 #[cfg(test)]
+mod equal;
+#[cfg(test)]
 mod laws;
 #[cfg(test)]
 mod levels;
