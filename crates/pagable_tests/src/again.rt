@@ -1,5 +1,6 @@
 //! A value is read twice from one place.
 
+use crate::equal::equal;
 use pagable::{
     Error, NoReferences, PagableDeserializer, PagableDeserializerImpl, WeighHash, read_twice,
 };
@@ -22,20 +23,16 @@ fn after_a_byte(alloc: Global, input: &[u8]) -> (Result<u16, Error>, Result<u16,
 fn a_number_is_read_twice(rt: HostRuntime) {
     // 172 - 128 + 2 · 128 is 300.
     let read = after_a_byte(rt.alloc(), &[9, 172, 2, 7]);
-    assert_eq!(rt; read, (Ok(300), Ok(300), 3));
+    equal(&rt, read, (Ok(300), Ok(300), 3), "300");
 }
 
 #[test]
 fn a_fault_is_met_twice(rt: HostRuntime) {
     // A last byte of 4 would stand for 65,536.
     let read = after_a_byte(rt.alloc(), &[9, 255, 255, 4, 7]);
-    assert_eq!(rt;
-        (read.0, read.1),
-        (Err(Error::BadVarint), Err(Error::BadVarint))
-    );
+    let twice = (Err(Error::BadVarint), Err(Error::BadVarint));
+    equal(&rt, (read.0, read.1), twice, "too large");
     let read = after_a_byte(rt.alloc(), &[9, 172]);
-    assert_eq!(rt;
-        (read.0, read.1),
-        (Err(Error::UnexpectedEnd), Err(Error::UnexpectedEnd))
-    );
+    let twice = (Err(Error::UnexpectedEnd), Err(Error::UnexpectedEnd));
+    equal(&rt, (read.0, read.1), twice, "cut short");
 }

@@ -1,5 +1,6 @@
 //! Byte arrays: a length, and so many bytes.
 
+use crate::equal::equal;
 use pagable::{Error, PagableSlice, PagableVecFlavor};
 use std::test::Fail;
 
@@ -16,9 +17,10 @@ fn byte_arrays_are_written_and_read(rt: HostRuntime) -> Result<(), Fail> {
         writer.try_push(7)?;
         let written = writer.finalize();
         let mut reader = PagableSlice::new(written.as_slice());
-        assert_eq!(rt; reader.read_bytes(), Ok(array));
-        assert_eq!(rt; reader.finalize(), [7].as_slice());
-        assert_eq!(rt; written.as_slice().strip_suffix(&[7]), Some(form));
+        equal(&rt, reader.read_bytes(), Ok(array), "array");
+        equal(&rt, reader.finalize(), [7].as_slice(), "rest");
+        let front = written.as_slice().strip_suffix(&[7]);
+        equal(&rt, front, Some(form), "form");
     }
     Ok(())
 }
@@ -37,6 +39,6 @@ fn byte_arrays_are_refused(rt: HostRuntime) {
     ];
     for (input, refusal) in &rows {
         let read = PagableSlice::new(input).read_bytes();
-        assert_eq!(rt; read.err().as_ref(), Some(refusal));
+        equal(&rt, read.err().as_ref(), Some(refusal), "refusal");
     }
 }

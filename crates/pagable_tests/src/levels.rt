@@ -1,5 +1,6 @@
 //! Levels on writing. What is read with levels, and refused, stands in the data of `replay`.
 
+use crate::equal::equal;
 use pagable::{Error, PagableSerialize, PagableSerializerImpl};
 use pagable_samples::{Nested, NestedEnv};
 use std::alloc::{AllocError, Global};
@@ -27,8 +28,8 @@ fn no_more_than_128_levels_are_written(rt: HostRuntime) -> Result<(), Fail> {
     for _ in 1..128 {
         list = around(alloc, list)?;
     }
-    assert_eq!(rt; length(alloc, &list), Ok(255));
+    equal(&rt, length(alloc, &list), Ok(255), "128 levels");
     list = around(alloc, list)?;
-    assert_eq!(rt; length(alloc, &list), Err(Error::TooDeep));
+    equal(&rt, length(alloc, &list), Err(Error::TooDeep), "129 levels");
     Ok(())
 }

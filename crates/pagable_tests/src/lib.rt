@@ -12,6 +12,7 @@ mod calls;
 mod cursors;
 #[cfg(test)]
 mod json;
+mod equal;
 #[cfg(test)]
 mod laws;
 #[cfg(test)]

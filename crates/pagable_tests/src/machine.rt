@@ -20,25 +20,26 @@ const PIN: HandleNumber = HandleNumber(5);
 /// What a run answered of counts and lengths, in their order.
 fn numbers(
     alloc: Global,
-    replies: Vec<Reply<TextNode, Arc<PagableData>>>,
+    replies: &[Reply<TextNode, Arc<PagableData>>],
 ) -> Result<Vec<u64>, AllocError> {
     let mut numbers = Vec::new(alloc);
     for reply in replies {
         match reply {
-            Reply::Count(Ok(count)) => numbers.push(count)?,
-            Reply::Length(length) => numbers.push(length)?,
+            Reply::Count(Ok(count)) => numbers.push(*count)?,
+            Reply::Length(length) => numbers.push(*length)?,
             _ => {}
         }
     }
     Ok(numbers)
 }
 
-#[test]
-fn clones_and_pins_are_counted(rt: HostRuntime) -> Result<(), Fail> {
-    let alloc = rt.alloc();
-    let mut machine = Machine::new(empty(alloc, u64::MAX));
+/// The calls of the run.
+fn calls(
+    alloc: Global,
+    node: TextNode,
+) -> Result<Vec<MachineCall<TextNode, PagableData>>, AllocError> {
     let calls = vec![in alloc;
-        MachineCall::NewPinned(TextNode::new(alloc, "x")?),
+        MachineCall::NewPinned(node),
         MachineCall::Clone(FIRST),
         MachineCall::IntoPagable(LOOSE),
         MachineCall::Count(LOOSE),
@@ -57,11 +58,19 @@ fn clones_and_pins_are_counted(rt: HostRuntime) -> Result<(), Fail> {
         MachineCall::Count(LOOSE),
         MachineCall::Pending,
     ]?;
+    Ok(calls)
+}
+
+#[test]
+fn clones_and_pins_are_counted(rt: HostRuntime) -> Result<(), Fail> {
+    let alloc = rt.alloc();
+    let mut machine = Machine::new(empty(alloc, u64::MAX));
+    let calls = calls(alloc, TextNode::new(alloc, "x")?)?;
     let made = calls.len();
     match machine.run(alloc, calls) {
         Ok(replies) => {
             assert!(rt; replies.len() == made, "a reply for each call");
-            let numbers = numbers(alloc, replies)?;
+            let numbers = numbers(alloc, replies.as_slice())?;
             assert!(rt;
                 numbers.as_slice() == [2, 1, 0, 1, 0, 2, 1, 0, 2].as_slice(),
                 "counts"

@@ -7,6 +7,7 @@ ghost use Rattle.pagable_model.specs.Shape.{reference, nothing};
 ghost use Rattle.pagable_model.specs.Standing.{Is};
 ghost use Rattle.pagable_model.specs.Causes.{memory_is_own_writing, never_is_own_reading};
 
+use crate::equal::equal;
 use pagable::{
     ArcRef, Carried, DataKey, Env, Error, HandleNumber, Kind, NodeNumber, PagableDeserialize,
     PagableDeserializer, PagableDeserializerImpl, PagableSerialize, PagableSerializer,
@@ -114,13 +115,12 @@ fn a_reference_takes_one_key(rt: HostRuntime) -> Result<(), Fail> {
     let first = Held::pagable_deserialize(alloc, &mut source)
         .ok()
         .ok_or("refused")?;
-    assert_eq!(rt; first.arc.handle, HandleNumber(9));
-    assert_eq!(rt;
-        Held::pagable_deserialize(alloc, &mut source),
-        Err(Error::NoMoreKeys)
-    );
+    equal(&rt, first.arc.handle, HandleNumber(9), "handle");
+    let second = Held::pagable_deserialize(alloc, &mut source);
+    equal(&rt, second, Err(Error::NoMoreKeys), "second reference");
     PagableDeserializer::<TestEnv>::seek(&mut source, front);
-    assert_eq!(rt; Held::pagable_deserialize(alloc, &mut source), Ok(first));
+    let again = Held::pagable_deserialize(alloc, &mut source);
+    equal(&rt, again, Ok(first), "first reference again");
     Ok(())
 }
 
@@ -136,9 +136,9 @@ fn a_reference_is_written_as_no_byte(rt: HostRuntime) -> Result<(), Fail> {
             handle: HandleNumber(9),
         },
     };
-    assert_eq!(rt; held.pagable_serialize(&mut out), Ok(()));
+    equal(&rt, held.pagable_serialize(&mut out), Ok(()), "written");
     let data = out.finish().ok().ok_or("refused")?;
-    assert_eq!(rt; data.bytes.len(), 0);
-    assert_eq!(rt; data.arcs.as_slice(), [held.arc].as_slice());
+    equal(&rt, data.bytes.len(), 0, "bytes");
+    equal(&rt, data.arcs.as_slice(), [held.arc].as_slice(), "arcs");
     Ok(())
 }

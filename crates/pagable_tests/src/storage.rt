@@ -1,5 +1,6 @@
 //! Blobs in memory, and the storages over another one.
 
+use crate::equal::equal;
 use pagable::{DataKey, Error, InMemoryBlobs, PagableData, PagableStorage, WeighHash};
 use pagable_samples::{CountingStorage, FailingStorage, TextEnv};
 use std::alloc::{AllocError, Global};
@@ -39,16 +40,19 @@ fn blobs_in_memory(rt: HostRuntime) -> Result<(), Fail> {
     let mut storage: InMemoryBlobs<AnyEnv> = InMemoryBlobs::new(alloc);
     // Ten places on, 9 stands: 9 · 10. And again it is the same blob; 10 at the ninth place has the same key.
     let key = DataKey::new(90).ok_or("0 is no key")?;
-    assert_eq!(rt; store(alloc, &mut storage, &[0, 9]), Ok(90));
-    assert_eq!(rt; store(alloc, &mut storage, &[0, 9]), Ok(90));
-    assert_eq!(rt; store(alloc, &mut storage, &[10, 0]), Err(Error::KeyTaken));
-    assert_eq!(rt; storage.len(), 1);
-    assert_eq!(rt; fetch(alloc, &mut storage, key), Ok(2));
-    assert_eq!(rt; storage.flush(), Ok(()));
-    assert_eq!(rt; storage.failures(), 0);
+    equal(&rt, store(alloc, &mut storage, &[0, 9]), Ok(90), "first");
+    equal(&rt, store(alloc, &mut storage, &[0, 9]), Ok(90), "again");
+    let taken = store(alloc, &mut storage, &[10, 0]);
+    equal(&rt, taken, Err(Error::KeyTaken), "another under the key");
+    equal(&rt, storage.len(), 1, "blobs");
+    equal(&rt, fetch(alloc, &mut storage, key), Ok(2), "fetched");
+    equal(&rt, storage.flush(), Ok(()), "flush");
+    equal(&rt, storage.failures(), 0, "failures");
     storage.close();
-    assert_eq!(rt; fetch(alloc, &mut storage, key), Err(Error::NoData(key)));
-    assert_eq!(rt; store(alloc, &mut storage, &[]), Err(Error::Closed));
+    let gone = fetch(alloc, &mut storage, key);
+    equal(&rt, gone, Err(Error::NoData(key)), "fetched after close");
+    let closed = store(alloc, &mut storage, &[]);
+    equal(&rt, closed, Err(Error::Closed), "stored after close");
     Ok(())
 }
 
@@ -58,10 +62,12 @@ fn storages_over_another(rt: HostRuntime) -> Result<(), Fail> {
     let key = DataKey::new(90).ok_or("0 is no key")?;
     let blobs: InMemoryBlobs<AnyEnv> = InMemoryBlobs::new(alloc);
     let mut storage = CountingStorage::new(FailingStorage::new(blobs, 1));
-    assert_eq!(rt; store(alloc, &mut storage, &[0, 9]), Ok(90));
-    assert_eq!(rt; fetch(alloc, &mut storage, key), Err(Error::Storage(7)));
-    assert_eq!(rt; PagableStorage::<AnyEnv>::failures(&storage), 1);
-    assert_eq!(rt; fetch(alloc, &mut storage, key), Ok(2));
-    assert_eq!(rt; (storage.stores(), storage.fetches()), (1, 2));
+    equal(&rt, store(alloc, &mut storage, &[0, 9]), Ok(90), "stored");
+    let failed = fetch(alloc, &mut storage, key);
+    equal(&rt, failed, Err(Error::Storage(7)), "the call that fails");
+    let failures = PagableStorage::<AnyEnv>::failures(&storage);
+    equal(&rt, failures, 1, "failures");
+    equal(&rt, fetch(alloc, &mut storage, key), Ok(2), "fetched");
+    equal(&rt, (storage.stores(), storage.fetches()), (1, 2), "counts");
     Ok(())
 }

@@ -175,19 +175,25 @@ impl Answer {
     }
 }
 
+/// What a call answers that gives a handle.
+pub fn given(handle: Result<HandleNumber, Error>) -> Result<Answer, Error> {
+    let handle = handle?;
+    Ok(Answer::Handle(handle))
+}
+
 /// What a pin answers.
-pub fn pinning(pinned: Pinning) -> Answer {
-    match pinned {
-        Pinning::Pinned(handle) => Answer::Handle(handle),
-        Pinning::NeedsLoad(key) => Answer::NeedsLoad(key),
+pub fn pinning(pinned: Result<Pinning, Error>) -> Result<Answer, Error> {
+    match pinned? {
+        Pinning::Pinned(handle) => Ok(Answer::Handle(handle)),
+        Pinning::NeedsLoad(key) => Ok(Answer::NeedsLoad(key)),
     }
 }
 
 /// What the begin of a load answers.
-pub fn beginning(begun: Beginning) -> Answer {
-    match begun {
-        Beginning::InMemory => Answer::InMemory,
-        Beginning::Load(load, key) => Answer::Load(load, key),
+pub fn beginning(begun: Result<Beginning, Error>) -> Result<Answer, Error> {
+    match begun? {
+        Beginning::InMemory => Ok(Answer::InMemory),
+        Beginning::Load(load, key) => Ok(Answer::Load(load, key)),
     }
 }
 

@@ -34,9 +34,16 @@ impl Counts {
 
     /// Prints a line for each, in the order of the names.
     pub fn print(&self, rt: &impl Print) -> anyhow::Result<()> {
-        for ((call, outcome), count) in self.by_name.iter() {
-            println!(rt; "{call}: {outcome} {count}")?;
+        for (name, count) in self.by_name.iter() {
+            print_line(rt, *name, *count)?;
         }
         Ok(())
     }
+}
+
+/// Prints how often something happened.
+fn print_line(rt: &impl Print, name: Name, count: u64) -> anyhow::Result<()> {
+    let (call, outcome) = name;
+    println!(rt; "{call}: {outcome} {count}")?;
+    Ok(())
 }

@@ -34,18 +34,32 @@ fn run(
 ) -> Result<Option<(u64, Difference)>, Error> {
     let mut run = Run::new(alloc, seed, key);
     let length = run.length();
+    let found = steps(alloc, &mut run, length, counts)?;
+    if found.is_some() {
+        return Ok(found);
+    }
+    empty(alloc, &mut run, length, counts)
+}
+
+/// Makes so many calls.
+fn steps(
+    alloc: Global,
+    run: &mut Run,
+    length: u64,
+    counts: &mut Counts,
+) -> Result<Option<(u64, Difference)>, Error> {
     for number in 0..length {
         if let Some(difference) = run.step(alloc, counts)? {
             return Ok(Some((number, difference)));
         }
     }
-    empty(alloc, run, length, counts)
+    Ok(None)
 }
 
 /// Takes all that is left in the list, so that its order is compared too.
 fn empty(
     alloc: Global,
-    mut run: Run,
+    run: &mut Run,
     length: u64,
     counts: &mut Counts,
 ) -> Result<Option<(u64, Difference)>, Error> {
@@ -63,12 +77,22 @@ fn main(rt: HostRuntime) -> anyhow::Result<()> {
     let mut counts = Counts::new(alloc);
     for seed in 0..RUNS {
         if let Some((number, difference)) = run(alloc, seed, key, &mut counts)? {
-            println!(rt; "seed {seed}, call {number}: {difference:?}")?;
-            bail!("the pagers differ");
+            return differ(&rt, seed, number, &difference);
         }
     }
     counts.print(&rt)?;
-    if let Some((call, outcome)) = first_missing(&counts) {
+    are_enough(&counts)
+}
+
+/// Prints where the two pagers differ, and fails.
+fn differ(rt: &impl Print, seed: u64, number: u64, difference: &Difference) -> anyhow::Result<()> {
+    println!(rt; "seed {seed}, call {number}: {difference:?}")?;
+    bail!("the pagers differ");
+}
+
+/// Refuses counts where too little happened.
+fn are_enough(counts: &Counts) -> anyhow::Result<()> {
+    if let Some((call, outcome)) = first_missing(counts) {
         bail!("too few: {call}: {outcome}");
     }
     Ok(())

@@ -1,6 +1,6 @@
 //! The same calls on the plain pager.
 
-use crate::calls::{Answer, Call, Value, beginning, done, pinning, taken};
+use crate::calls::{Answer, Call, Value, beginning, done, given, pinning, taken};
 use pagable::{DataKey, Error, HandleNumber, LoadNumber, Mode};
 use pagable_plain::{Sample, Sort, read_sample, weighed_key, write_sample};
 use pagable_plain_world::{PlainBlob, PlainPager, PlainValue};
@@ -96,16 +96,16 @@ fn make(alloc: Global, pager: &mut PlainPager, call: Call) -> Result<Answer, Err
         Call::NewLoose(value) => new_cell(alloc, pager, value, Mode::LoosePinned),
         Call::NewPinned(value) => new_cell(alloc, pager, value, Mode::Pinned),
         Call::NewPagedOut(value, key) => new_paged_out(alloc, pager, value, key),
-        Call::Clone(handle) => Ok(Answer::Handle(pager.clone(handle)?)),
-        Call::IntoPagable(handle) => Ok(Answer::Handle(pager.into_pagable(handle)?)),
-        Call::Pin(handle) => Ok(pinning(pager.pin(handle)?)),
+        Call::Clone(handle) => given(pager.clone(handle)),
+        Call::IntoPagable(handle) => given(pager.into_pagable(handle)),
+        Call::Pin(handle) => pinning(pager.pin(handle)),
         Call::Unpin(handle) => done(pager.unpin(handle)),
         Call::Release(handle) => done(pager.release(handle)),
         Call::SetDataKey(handle, key) => done(pager.set_data_key(handle, key)),
         Call::TakePending(place) => Ok(taken(pager.take_pending(place))),
         Call::Store(handle) => store(alloc, pager, handle),
         Call::Fetch(key) => text(alloc, pager.fetch(key)?),
-        Call::LoadBegin(handle) => Ok(beginning(pager.load_begin(handle)?)),
+        Call::LoadBegin(handle) => beginning(pager.load_begin(handle)),
         Call::LoadFetch(load) => load_fetch(alloc, pager, load),
         Call::LoadEnd(load, value) => load_end(alloc, pager, load, value),
         Call::LoadDrop(load) => done(pager.load_drop(load)),

@@ -1,6 +1,6 @@
 //! Calls on the real pager.
 
-use crate::calls::{Answer, Call, Value, beginning, done, pinning, taken};
+use crate::calls::{Answer, Call, Value, beginning, done, given, pinning, taken};
 use crate::nodes::{NAMES, RunEnv, RunNode};
 use either::Either;
 use pagable::{
@@ -67,6 +67,11 @@ fn text(alloc: Global, pager: &RunPager, blob: &PagableData) -> Result<Answer, E
     Ok(Answer::Text(String::from_str(alloc, node.as_str())?))
 }
 
+fn fetch(alloc: Global, pager: &mut RunPager, key: DataKey) -> Result<Answer, Error> {
+    let blob = pager.fetch(alloc, key)?;
+    text(alloc, pager, blob.as_ref())
+}
+
 fn load_fetch(alloc: Global, pager: &mut RunPager, load: LoadNumber) -> Result<Answer, Error> {
     match pager.load_fetch(alloc, load, Want::Root)? {
         Either::Left(_) => Ok(Answer::Nothing),
@@ -94,19 +99,16 @@ fn make(alloc: Global, pager: &mut RunPager, call: Call) -> Result<Answer, Error
         Call::NewLoose(value) => new_loose(alloc, pager, value),
         Call::NewPinned(value) => new_pinned(alloc, pager, value),
         Call::NewPagedOut(value, key) => new_paged_out(pager, value, key),
-        Call::Clone(handle) => Ok(Answer::Handle(pager.clone(handle)?)),
-        Call::IntoPagable(handle) => Ok(Answer::Handle(pager.into_pagable(handle)?)),
-        Call::Pin(handle) => Ok(pinning(pager.pin(handle)?)),
+        Call::Clone(handle) => given(pager.clone(handle)),
+        Call::IntoPagable(handle) => given(pager.into_pagable(handle)),
+        Call::Pin(handle) => pinning(pager.pin(handle)),
         Call::Unpin(handle) => done(pager.unpin(handle)),
         Call::Release(handle) => done(pager.release(handle)),
         Call::SetDataKey(handle, key) => done(pager.set_data_key(handle, key)),
         Call::TakePending(place) => Ok(taken(pager.take_pending(place))),
         Call::Store(handle) => store(alloc, pager, handle),
-        Call::Fetch(key) => {
-            let blob = pager.fetch(alloc, key)?;
-            text(alloc, pager, blob.as_ref())
-        }
-        Call::LoadBegin(handle) => Ok(beginning(pager.load_begin(handle)?)),
+        Call::Fetch(key) => fetch(alloc, pager, key),
+        Call::LoadBegin(handle) => beginning(pager.load_begin(handle)),
         Call::LoadFetch(load) => load_fetch(alloc, pager, load),
         Call::LoadEnd(load, value) => load_end(alloc, pager, load, value),
         Call::LoadDrop(load) => done(pager.load_drop(load)),

@@ -20,29 +20,33 @@ impl Answer {
     /// or `refused ?` for any refusal.
     pub fn is_wanted(&self, alloc: Global, wanted: &str) -> Result<bool, AllocError> {
         match self {
-            Answer::Refused(refusal) => {
-                let text = format!(in alloc; "refused {refusal:?}")?;
-                Ok(wanted == "refused ?" || wanted == text.as_str())
-            }
+            Answer::Refused(refusal) => is_refusal_wanted(alloc, refusal, wanted),
             Answer::Value {
                 shown,
                 used,
                 written,
             } => {
-                let (bytes, value) = match wanted.split_once(" = ") {
-                    Some((bytes, value)) => (bytes, Some(value)),
-                    None => (wanted, None),
+                let (bytes, is_value) = match wanted.split_once(" = ") {
+                    Some((bytes, value)) => (bytes, value == shown.as_str()),
+                    None => (wanted, true),
                 };
-                let hex = hex_text(alloc, written)?;
-                let text = format!(in alloc; "ok {used} {hex}")?;
-                let is_value = match value {
-                    Some(value) => value == shown.as_str(),
-                    None => true,
-                };
+                let text = taken_text(alloc, *used, written)?;
                 Ok(is_value && bytes == text.as_str())
             }
         }
     }
+}
+
+/// Whether a line wants this refusal, or any.
+fn is_refusal_wanted(alloc: Global, refusal: &Error, wanted: &str) -> Result<bool, AllocError> {
+    let text = format!(in alloc; "refused {refusal:?}")?;
+    Ok(wanted == "refused ?" || wanted == text.as_str())
+}
+
+/// `ok USED BYTES`, of how many bytes a value took and what it is written as.
+fn taken_text(alloc: Global, used: usize, written: &[u8]) -> Result<String, AllocError> {
+    let hex = hex_text(alloc, written)?;
+    format!(in alloc; "ok {used} {hex}")
 }
 
 /// Bytes in hex, and `-` for none.

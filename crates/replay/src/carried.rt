@@ -19,7 +19,11 @@ type AnyEnv = TextEnv<WeighHash>;
 
 /// What comes of an input of the type `T` of an environment. A refused input is read once more from its front, and must be
 /// refused alike, which also shows that its levels were given back.
-fn replay_in<'de, E: Env, T>(alloc: Global, env: &E, input: &'de [u8]) -> anyhow::Result<Answer>
+fn replay_in<'de, E: Env, T>(
+    alloc: Global,
+    env: &E,
+    input: &'de [u8],
+) -> anyhow::Result<Option<Answer>>
 where
     T: PagableSerialize<E> + PagableDeserialize<'de, E> + Debug + Drop,
 {
@@ -34,10 +38,23 @@ where
                 again.as_ref() == Some(&refusal),
                 "and {again:?} when read again"
             );
-            return Ok(Answer::Refused(refusal));
+            return Ok(Some(Answer::Refused(refusal)));
         }
     };
     let used = PagableDeserializer::<E>::position(&source).byte_pos;
+    Ok(Some(written_again(alloc, env, &value, used)?))
+}
+
+/// The answer of a value that took so many bytes.
+fn written_again<E: Env, T>(
+    alloc: Global,
+    env: &E,
+    value: &T,
+    used: usize,
+) -> anyhow::Result<Answer>
+where
+    T: PagableSerialize<E> + Debug,
+{
     let mut out = PagableSerializerImpl::testing_new(alloc, env);
     value.pagable_serialize(&mut out)?;
     Ok(Answer::Value {
@@ -48,116 +65,137 @@ where
 }
 
 /// What comes of an input of the type `T`, which no environment bears on.
-fn replay_as<'de, T>(alloc: Global, input: &'de [u8]) -> anyhow::Result<Answer>
+fn replay_as<'de, T>(alloc: Global, input: &'de [u8]) -> anyhow::Result<Option<Answer>>
 where
     T: PagableSerialize<AnyEnv> + PagableDeserialize<'de, AnyEnv> + Debug + Drop,
 {
     replay_in::<AnyEnv, T>(alloc, &AnyEnv::new(), input)
 }
 
-/// What comes of an input of a basic type; None for another type.
-fn basic(alloc: Global, name: &str, input: &[u8]) -> anyhow::Result<Option<Answer>> {
-    let answer = match name {
-        "()" => replay_as::<()>(alloc, input),
-        "bool" => replay_as::<bool>(alloc, input),
-        "char" => replay_as::<char>(alloc, input),
-        "u8" => replay_as::<u8>(alloc, input),
-        "u16" => replay_as::<u16>(alloc, input),
-        "u32" => replay_as::<u32>(alloc, input),
-        "u64" => replay_as::<u64>(alloc, input),
-        "u128" => replay_as::<u128>(alloc, input),
-        "usize" => replay_as::<usize>(alloc, input),
-        "i8" => replay_as::<i8>(alloc, input),
-        "i16" => replay_as::<i16>(alloc, input),
-        "i32" => replay_as::<i32>(alloc, input),
-        "i64" => replay_as::<i64>(alloc, input),
-        "i128" => replay_as::<i128>(alloc, input),
-        "String" => replay_as::<String>(alloc, input),
-        _ => return Ok(None),
-    };
-    Ok(Some(answer?))
+/// Maps to types that hold others; None for another type.
+fn map_of_held(alloc: Global, name: &str, input: &[u8]) -> anyhow::Result<Option<Answer>> {
+    match name {
+        "BTreeMap<String,Vec<u16>>" => replay_as::<BTreeMap<String, Vec<u16>>>(alloc, input),
+        "IndexMap<String,Vec<u16>>" => replay_as::<IndexMap<String, Vec<u16>>>(alloc, input),
+        "BTreeMap<u16,BTreeMap<String,IndexSet<u8>>>" => replay_as::<
+            BTreeMap<u16, BTreeMap<String, IndexSet<u8>>>,
+        >(alloc, input),
+        _ => Ok(None),
+    }
 }
 
-/// What comes of an input of a type that holds one or two values of others; None for another type.
-fn holder(alloc: Global, name: &str, input: &[u8]) -> anyhow::Result<Option<Answer>> {
-    let answer = match name {
-        "Box<u16>" => replay_as::<Box<u16>>(alloc, input),
-        "Option<()>" => replay_as::<Option<()>>(alloc, input),
-        "Option<bool>" => replay_as::<Option<bool>>(alloc, input),
-        "Option<u8>" => replay_as::<Option<u8>>(alloc, input),
-        "Option<String>" => replay_as::<Option<String>>(alloc, input),
-        "Option<Option<i32>>" => replay_as::<Option<Option<i32>>>(alloc, input),
-        "(u8,u8)" => replay_as::<(u8, u8)>(alloc, input),
-        "(bool,String)" => replay_as::<(bool, String)>(alloc, input),
-        "Nested" => replay_in::<NestedEnv, Nested>(alloc, &NestedEnv, input),
-        _ => return Ok(None),
-    };
-    Ok(Some(answer?))
+/// Maps to numbers, and what comes after them.
+fn map(alloc: Global, name: &str, input: &[u8]) -> anyhow::Result<Option<Answer>> {
+    match name {
+        "BTreeMap<u8,u8>" => replay_as::<BTreeMap<u8, u8>>(alloc, input),
+        "IndexMap<u8,u8>" => replay_as::<IndexMap<u8, u8>>(alloc, input),
+        "IndexMap<String,u8>" => replay_as::<IndexMap<String, u8>>(alloc, input),
+        _ => map_of_held(alloc, name, input),
+    }
 }
 
-/// What comes of an input of a vector; None for another type.
-fn vector(alloc: Global, name: &str, input: &[u8]) -> anyhow::Result<Option<Answer>> {
-    let answer = match name {
-        "Vec<()>" => replay_as::<Vec<()>>(alloc, input),
-        "Vec<bool>" => replay_as::<Vec<bool>>(alloc, input),
-        "Vec<u8>" => replay_as::<Vec<u8>>(alloc, input),
-        "Vec<i32>" => replay_as::<Vec<i32>>(alloc, input),
-        "Vec<u64>" => replay_as::<Vec<u64>>(alloc, input),
-        "Vec<String>" => replay_as::<Vec<String>>(alloc, input),
-        "Vec<Option<u8>>" => replay_as::<Vec<Option<u8>>>(alloc, input),
-        "Vec<Vec<u16>>" => replay_as::<Vec<Vec<u16>>>(alloc, input),
-        "Vec<(String,i64)>" => replay_as::<Vec<(String, i64)>>(alloc, input),
-        _ => return Ok(None),
-    };
-    Ok(Some(answer?))
+/// Sets, and what comes after them.
+fn set(alloc: Global, name: &str, input: &[u8]) -> anyhow::Result<Option<Answer>> {
+    match name {
+        "BTreeSet<u8>" => replay_as::<BTreeSet<u8>>(alloc, input),
+        "BTreeSet<String>" => replay_as::<BTreeSet<String>>(alloc, input),
+        "IndexSet<u8>" => replay_as::<IndexSet<u8>>(alloc, input),
+        _ => map(alloc, name, input),
+    }
 }
 
-/// What comes of an input of a list that isn't a vector; None for another type.
+/// Lists that aren't vectors, and what comes after them.
 fn list(alloc: Global, name: &str, input: &[u8]) -> anyhow::Result<Option<Answer>> {
-    let answer = match name {
+    match name {
         "Box<[u32]>" => replay_as::<BoxedSlice<u32>>(alloc, input),
         "Box<[String]>" => replay_as::<BoxedSlice<String>>(alloc, input),
         "BoxedSlice<u8>" => replay_as::<BoxedSlice<u8>>(alloc, input),
         "SmallVec<u8,2>" => replay_as::<SmallVec<u8, 2>>(alloc, input),
         "SmallVec<[u8;4]>" => replay_as::<SmallVec<u8, 4>>(alloc, input),
         "SmallVec<[String;4]>" => replay_as::<SmallVec<String, 4>>(alloc, input),
-        _ => return Ok(None),
-    };
-    Ok(Some(answer?))
+        _ => set(alloc, name, input),
+    }
 }
 
-/// What comes of an input of a map or a set; None for another type.
-fn collection(alloc: Global, name: &str, input: &[u8]) -> anyhow::Result<Option<Answer>> {
-    let answer = match name {
-        "BTreeMap<u8,u8>" => replay_as::<BTreeMap<u8, u8>>(alloc, input),
-        "IndexMap<u8,u8>" => replay_as::<IndexMap<u8, u8>>(alloc, input),
-        "IndexMap<String,u8>" => replay_as::<IndexMap<String, u8>>(alloc, input),
-        "BTreeMap<String,Vec<u16>>" => replay_as::<BTreeMap<String, Vec<u16>>>(alloc, input),
-        "IndexMap<String,Vec<u16>>" => replay_as::<IndexMap<String, Vec<u16>>>(alloc, input),
-        "BTreeMap<u16,BTreeMap<String,IndexSet<u8>>>" => {
-            replay_as::<BTreeMap<u16, BTreeMap<String, IndexSet<u8>>>>(alloc, input)
-        }
-        "BTreeSet<u8>" => replay_as::<BTreeSet<u8>>(alloc, input),
-        "BTreeSet<String>" => replay_as::<BTreeSet<String>>(alloc, input),
-        "IndexSet<u8>" => replay_as::<IndexSet<u8>>(alloc, input),
-        _ => return Ok(None),
-    };
-    Ok(Some(answer?))
+/// Vectors of types that hold others, and what comes after them.
+fn vector_of_held(alloc: Global, name: &str, input: &[u8]) -> anyhow::Result<Option<Answer>> {
+    match name {
+        "Vec<Option<u8>>" => replay_as::<Vec<Option<u8>>>(alloc, input),
+        "Vec<Vec<u16>>" => replay_as::<Vec<Vec<u16>>>(alloc, input),
+        "Vec<(String,i64)>" => replay_as::<Vec<(String, i64)>>(alloc, input),
+        _ => list(alloc, name, input),
+    }
 }
 
-/// What comes of an input of a carried type; None for another type.
+/// Vectors of basic types, and what comes after them.
+fn vector(alloc: Global, name: &str, input: &[u8]) -> anyhow::Result<Option<Answer>> {
+    match name {
+        "Vec<()>" => replay_as::<Vec<()>>(alloc, input),
+        "Vec<bool>" => replay_as::<Vec<bool>>(alloc, input),
+        "Vec<u8>" => replay_as::<Vec<u8>>(alloc, input),
+        "Vec<i32>" => replay_as::<Vec<i32>>(alloc, input),
+        "Vec<u64>" => replay_as::<Vec<u64>>(alloc, input),
+        "Vec<String>" => replay_as::<Vec<String>>(alloc, input),
+        _ => vector_of_held(alloc, name, input),
+    }
+}
+
+/// Other types that hold one or two values, and what comes after them.
+fn holder(alloc: Global, name: &str, input: &[u8]) -> anyhow::Result<Option<Answer>> {
+    match name {
+        "Box<u16>" => replay_as::<Box<u16>>(alloc, input),
+        "(u8,u8)" => replay_as::<(u8, u8)>(alloc, input),
+        "(bool,String)" => replay_as::<(bool, String)>(alloc, input),
+        "Nested" => replay_in::<NestedEnv, Nested>(alloc, &NestedEnv, input),
+        _ => vector(alloc, name, input),
+    }
+}
+
+/// Options, and what comes after them.
+fn option(alloc: Global, name: &str, input: &[u8]) -> anyhow::Result<Option<Answer>> {
+    match name {
+        "Option<()>" => replay_as::<Option<()>>(alloc, input),
+        "Option<bool>" => replay_as::<Option<bool>>(alloc, input),
+        "Option<u8>" => replay_as::<Option<u8>>(alloc, input),
+        "Option<String>" => replay_as::<Option<String>>(alloc, input),
+        "Option<Option<i32>>" => replay_as::<Option<Option<i32>>>(alloc, input),
+        _ => holder(alloc, name, input),
+    }
+}
+
+/// The numbers with a sign, and what comes after them.
+fn signed(alloc: Global, name: &str, input: &[u8]) -> anyhow::Result<Option<Answer>> {
+    match name {
+        "i8" => replay_as::<i8>(alloc, input),
+        "i16" => replay_as::<i16>(alloc, input),
+        "i32" => replay_as::<i32>(alloc, input),
+        "i64" => replay_as::<i64>(alloc, input),
+        "i128" => replay_as::<i128>(alloc, input),
+        _ => option(alloc, name, input),
+    }
+}
+
+/// The numbers without a sign, and what comes after them.
+fn unsigned(alloc: Global, name: &str, input: &[u8]) -> anyhow::Result<Option<Answer>> {
+    match name {
+        "u8" => replay_as::<u8>(alloc, input),
+        "u16" => replay_as::<u16>(alloc, input),
+        "u32" => replay_as::<u32>(alloc, input),
+        "u64" => replay_as::<u64>(alloc, input),
+        "u128" => replay_as::<u128>(alloc, input),
+        "usize" => replay_as::<usize>(alloc, input),
+        _ => signed(alloc, name, input),
+    }
+}
+
+/// What comes of an input of a carried type; None for another type. It knows the basic types but numbers, and hands the others on:
+/// each of these functions has few types, since the check of one costs by the square of them.
 pub fn answer(alloc: Global, name: &str, input: &[u8]) -> anyhow::Result<Option<Answer>> {
-    if let Some(answer) = basic(alloc, name, input)? {
-        return Ok(Some(answer));
+    match name {
+        "()" => replay_as::<()>(alloc, input),
+        "bool" => replay_as::<bool>(alloc, input),
+        "char" => replay_as::<char>(alloc, input),
+        "String" => replay_as::<String>(alloc, input),
+        _ => unsigned(alloc, name, input),
     }
-    if let Some(answer) = holder(alloc, name, input)? {
-        return Ok(Some(answer));
-    }
-    if let Some(answer) = vector(alloc, name, input)? {
-        return Ok(Some(answer));
-    }
-    if let Some(answer) = list(alloc, name, input)? {
-        return Ok(Some(answer));
-    }
-    collection(alloc, name, input)
 }

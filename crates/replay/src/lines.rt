@@ -39,26 +39,20 @@ pub fn bytes_of(alloc: Global, hex: &str) -> anyhow::Result<Vec<u8>> {
 fn check_value(alloc: Global, row: Row<'_>) -> anyhow::Result<()> {
     let bytes = bytes_of(alloc, row.input)?;
     let input = bytes.as_slice();
-    let answers = [
-        carried::answer(alloc, row.name, input)?,
-        lengths::answer(alloc, row.name, input)?,
-        plain::answer(alloc, row.name, input)?,
-    ];
-    let mut known = false;
-    for answer in answers {
-        if let Some(answer) = answer {
-            check_answer(alloc, &answer, row.wanted)?;
-            known = true;
-        }
-    }
-    ensure!(known, "no such type");
+    let carried = is_known(alloc, carried::answer(alloc, row.name, input)?, row.wanted)?;
+    let length = is_known(alloc, lengths::answer(alloc, row.name, input)?, row.wanted)?;
+    let plain = is_known(alloc, plain::answer(alloc, row.name, input)?, row.wanted)?;
+    ensure!(carried || length || plain, "no such type");
     Ok(())
 }
 
-/// Refuses an answer that isn't the one that is wanted.
-fn check_answer(alloc: Global, answer: &Answer, wanted: &str) -> anyhow::Result<()> {
+/// Whether there is an answer. Refuses one that isn't the one that is wanted.
+fn is_known(alloc: Global, answer: Option<Answer>, wanted: &str) -> anyhow::Result<bool> {
+    let Some(answer) = answer else {
+        return Ok(false);
+    };
     ensure!(answer.is_wanted(alloc, wanted)?, "found {answer:?}");
-    Ok(())
+    Ok(true)
 }
 
 /// Checks a line, and counts it. An empty line and one that begins with # are skipped.

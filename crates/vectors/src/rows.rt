@@ -2,11 +2,15 @@
 //! rules of the wire format and of keys.
 
 use pagable::{
-    DataKey, Error, InMemoryBlobs, OptionalDataKey, PagableData, PagableSlice, PagableStorage,
-    Pager, WeighHash,
+    DataKey, Error, HandleNumber, InMemoryBlobs, OptionalDataKey, PagableData, PagableSlice,
+    PagableStorage, Pager, WeighHash,
 };
 use pagable_samples::{TextEnv, TextNode, paging};
 use std::alloc::{AllocError, Global};
+
+type Blobs = InMemoryBlobs<TextEnv<WeighHash>>;
+
+type TextPager = Pager<TextEnv<WeighHash>, Blobs>;
 
 /// One worked row.
 #[derive(Clone, Copy, Debug, PartialEq)]
@@ -47,12 +51,17 @@ pub fn run_row(alloc: Global, row: Row) -> bool {
     }
 }
 
+/// Whether these bytes, read as a `u16`, give this.
+fn gives(input: &[u8], wanted: Result<u16, Error>) -> bool {
+    PagableSlice::new(input).read_u16() == wanted
+}
+
 fn read_u16() -> bool {
-    PagableSlice::new(&[0x80, 0x80, 0x00]).read_u16() == Ok(0)
-        && PagableSlice::new(&[0xff, 0xff, 0x03]).read_u16() == Ok(65_535)
-        && PagableSlice::new(&[0xff, 0xff, 0x04]).read_u16() == Err(Error::BadVarint)
-        && PagableSlice::new(&[0x80, 0x80, 0x80]).read_u16() == Err(Error::BadVarint)
-        && PagableSlice::new(&[0x80]).read_u16() == Err(Error::UnexpectedEnd)
+    gives(&[0x80, 0x80, 0x00], Ok(0))
+        && gives(&[0xff, 0xff, 0x03], Ok(65_535))
+        && gives(&[0xff, 0xff, 0x04], Err(Error::BadVarint))
+        && gives(&[0x80, 0x80, 0x80], Err(Error::BadVarint))
+        && gives(&[0x80], Err(Error::UnexpectedEnd))
 }
 
 /// A blob of these bytes with these child keys.
@@ -82,23 +91,42 @@ fn key_of_nothing(alloc: Global) -> bool {
 }
 
 fn text_out_and_back(alloc: Global) -> Result<bool, Error> {
-    let storage: InMemoryBlobs<TextEnv<WeighHash>> = InMemoryBlobs::new(alloc);
-    let mut pager = Pager::new(alloc, storage, TextEnv::new());
+    let mut pager = Pager::new(alloc, InMemoryBlobs::new(alloc), TextEnv::new());
     let Ok(cell) = pager.new_loose(alloc, TextNode::new(alloc, "hello world")?) else {
         return Ok(false);
     };
+    goes_out_and_back(alloc, &mut pager, cell)
+}
+
+fn goes_out_and_back(
+    alloc: Global,
+    pager: &mut TextPager,
+    cell: HandleNumber,
+) -> Result<bool, Error> {
     pager.unpin(cell)?;
-    let listed = pager.pending() == 1 && pager.key(cell)?.is_none() && !pager.is_paged_out(cell)?;
-    paging::page_out_pending(alloc, &mut pager)?;
-    let stored = pager.pending() == 0
-        && key_number(pager.key(cell)?) == 16_879
-        && pager.is_paged_out(cell)?;
-    let pinned = paging::pin(alloc, &mut pager, cell)?;
-    let text = match pager.value(pinned)? {
+    let listed = is_listed(pager, cell)?;
+    paging::page_out_pending(alloc, pager)?;
+    let stored = is_stored(pager, cell)?;
+    let pinned = paging::pin(alloc, pager, cell)?;
+    Ok(listed && stored && is_back(pager, pinned)? && pager.count(cell)? == 2)
+}
+
+/// Whether the cell alone waits for page-out, in memory and without a key.
+fn is_listed(pager: &TextPager, cell: HandleNumber) -> Result<bool, Error> {
+    Ok(pager.pending() == 1 && pager.key(cell)?.is_none() && !pager.is_paged_out(cell)?)
+}
+
+/// Whether no cell waits, and this one is away under its key.
+fn is_stored(pager: &TextPager, cell: HandleNumber) -> Result<bool, Error> {
+    Ok(pager.pending() == 0 && key_number(pager.key(cell)?) == 16_879 && pager.is_paged_out(cell)?)
+}
+
+/// Whether the pin lends the text.
+fn is_back(pager: &TextPager, pinned: HandleNumber) -> Result<bool, Error> {
+    Ok(match pager.value(pinned)? {
         Some(node) => node.as_str() == "hello world",
         None => false,
-    };
-    Ok(listed && stored && text && pager.count(cell)? == 2)
+    })
 }
 
 /// The key's number, or 0 for none.
@@ -109,10 +137,15 @@ fn key_number(key: OptionalDataKey) -> u128 {
     }
 }
 
+/// Stores a blob of these bytes, without child keys.
+fn store(alloc: Global, storage: &mut Blobs, bytes: &[u8]) -> Result<DataKey, Error> {
+    storage.store_data(alloc, blob(alloc, bytes, &[])?)
+}
+
 fn key_taken(alloc: Global) -> Result<bool, Error> {
-    let mut storage: InMemoryBlobs<TextEnv<WeighHash>> = InMemoryBlobs::new(alloc);
-    let key = storage.store_data(alloc, blob(alloc, &[0x00, 0x09], &[])?)?;
-    let second = storage.store_data(alloc, blob(alloc, &[0x0a, 0x00], &[])?);
+    let mut storage = InMemoryBlobs::new(alloc);
+    let key = store(alloc, &mut storage, &[0x00, 0x09])?;
+    let second = store(alloc, &mut storage, &[0x0a, 0x00]);
     let first = storage.fetch_data_blocking(alloc, key)?;
     Ok(
         key.get() == 90
