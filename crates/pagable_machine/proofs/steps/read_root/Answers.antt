@@ -1,0 +1,6 @@
+use Rattle.pagable_model.specs.Blob.{key_of}
+use Rattle.pagable_machine.proofs.Sights.{values-by, machine-by, events-by}
+use Rattle.pagable_machine.proofs.steps.read_root.Goals as goal
+
+pub returns-clause-tree : goal.returns-clause-tree
+returns-clause-tree g c = rw (← c.as_ref.ensures) c.read_value-read.ensures.tree
