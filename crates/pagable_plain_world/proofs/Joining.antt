@@ -65,5 +65,5 @@ new-is-whole m =
     record {
       new = is-new;
       whole = new-whole m;
-      stands = λ stored u same. record { same = same; stands = λ n some. absurd (omega arith); typed = λ n some. absurd (omega arith) };
+      stands = λ stored u same. record { same = same; stands = λ n some. absurd (omega arith); typed = λ n some. absurd (omega arith); loads = λ load among. absurd (cc) };
     }

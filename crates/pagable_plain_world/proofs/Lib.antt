@@ -4,6 +4,7 @@ mod TodayRows
 mod TodayStanding
 mod TodayWhole
 mod TodayOne
+mod TodayLoad
 mod Existing
 mod Alone
 mod Two

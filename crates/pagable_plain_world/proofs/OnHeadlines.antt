@@ -1,6 +1,6 @@
 -- Of all that has happened, by two moments, an example and a near miss.
-use Rattle.std.proofs.Common.{◌≡◌, ℕ, zero, suc, ◌<◌, ◌≤◌, ◌==◌, List, [], ◌∷◌, refl, ap, sym, ◌∙◌, subst, inl, inr, arith}
-use Rattle.std.specs.Prelude.{if◌then◌else◌, Option, Ok}
+use Rattle.std.proofs.Common.{◌≡◌, ℕ, zero, suc, ◌==◌, List, [], ◌∷◌, refl, ap, sym, ◌∙◌, subst, arith}
+use Rattle.std.specs.Prelude.{if◌then◌else◌, Option}
 use Rattle.pagable_model.specs.declared.data_key.OptionalDataKey.TheVariants as optional
 use Rattle.pagable_model.specs.Blob.{Blob}
 use Rattle.pagable_model.specs.Meaning.{none}
@@ -8,7 +8,7 @@ use Rattle.pagable_model.specs.Trees.{tree}
 use Rattle.pagable_world.specs.declared.rows.Mode.TheVariants as modes
 use Rattle.pagable_world.specs.declared.rows.Owner.TheVariants as owners
 use Rattle.pagable_world.specs.Words.{Among}
-use Rattle.pagable_world.specs.Whole.{Whole, OpenLoad, WorkerRow, SlotRow, Written, HasType, of_item}
+use Rattle.pagable_world.specs.Whole.{OpenLoad, WorkerRow, SlotRow, Written, HasType, of_item}
 use Rattle.pagable_world.specs.Handles.{row_of}
 use Rattle.pagable_world.specs.Pages.{HasValue}
 use Rattle.pagable_world.specs.Stands.{NodeStands, TreeWorld, Represents, none-stands, ValueStands}
@@ -16,15 +16,15 @@ use Rattle.pagable_world.specs.Runs.{Moment, AreSteps, Along, TreeStep, ArePremi
 use Rattle.pagable_world.specs.Bounds.{WorkersAreBounded, LoadsAreBounded}
 use Rattle.pagable_world.specs.Interleaved.{IsInterleaved}
 use Rattle.pagable_world.specs.Headline.{Headline}
-use Rattle.pagable_world.specs.Alone.{StandTogether, DeepIsRefused, IsAlone, HeadlineAlone}
+use Rattle.pagable_world.specs.Alone.{StandTogether, DeepIsRefused}
 use Rattle.pagable_plain_world.specs.Samples.{empty, new_pages, lone, first_node}
 use Rattle.pagable_plain_world.specs.SampleSeen.{sample, nothing_written, working}
 use Rattle.pagable_plain_world.specs.SampleRuns.{lone_pages, birth}
-use Rattle.pagable_plain_world.specs.SampleTurns.{pages_of, trees_of, wait_event, fail_reply}
+use Rattle.pagable_plain_world.specs.SampleTurns.{pages_of, trees_of}
 use Rattle.pagable_plain_world.specs.HeadlineExamples.{count_moment, two_moments, deep_moment, HeadlineExamples}
 use Rattle.pagable_plain_world.proofs.Joining.{new-is-whole}
 use Rattle.pagable_plain_world.proofs.OnAnswers.{reads-types}
-use Rattle.pagable_plain_world.proofs.OnRuns.{well, lone-stands, at-one, new-at, not-two, lawful}
+use Rattle.pagable_plain_world.proofs.OnRuns.{well, lone-stands, at-one, not-two, lawful}
 use Rattle.pagable_plain_world.proofs.OnTurns.{not-deep}
 
 -- the world after the birth: all nodes but none keep their trees
@@ -37,6 +37,7 @@ after-stands stored u =
       same = refl;
       stands = λ n some. subst (λ k. NodeStands sample (lone_pages stored) (record { 0 = k }) ((after stored u).tree k)) (sym (at-one stored n some)) (lone-stands stored);
       typed = λ n some. subst (λ k. HasType (lone stored) (record { 0 = k }) ((after stored u).tree k).type) (sym (at-one stored n some)) (record { number = 1; node_type = 0; key = optional.None }, ((0, refl), refl), refl);
+      loads = λ load among. absurd (cc);
     }
 
 none-before : (stored : ℕ → Option Blob) (u : TreeWorld) → u.plain ≡ empty stored → u.plain.last.node ≡ 0
@@ -114,7 +115,7 @@ premised : (stored : ℕ → Option Blob) → ArePremised sample (pages_of (work
 premised stored = (record { settled = λ x is a b one other. other ∙ sym one; stays_open = tt; well = tt }, tt)
 
 working-stands : (stored : ℕ → Option Blob) → Represents sample (pages_of (working stored (of_item nothing_written))) (trees_of (working stored (of_item nothing_written)))
-working-stands stored = record { same = refl; stands = λ n some. absurd (omega arith); typed = λ n some. absurd (omega arith) }
+working-stands stored = record { same = refl; stands = λ n some. absurd (omega arith); typed = λ n some. absurd (omega arith); loads = λ load among. absurd (cc) }
 
 pub headlines : HeadlineExamples
 headlines =

@@ -114,6 +114,7 @@ lone-represents stored =
       same = refl;
       stands = λ n some. subst (λ k. NodeStands sample (lone_pages stored) (record { 0 = k }) (tree 0 none)) (sym (at-one stored n some)) (lone-stands stored);
       typed = λ n some. subst (λ k. HasType (lone stored) (record { 0 = k }) 0) (sym (at-one stored n some)) (record { number = 1; node_type = 0; key = optional.None }, ((0, refl), refl), refl);
+      loads = λ load among. absurd (cc);
     }
 
 not-represented : (stored : ℕ → Option Blob) → ¬ Represents sample (lone_pages stored) (lone_trees stored 1)

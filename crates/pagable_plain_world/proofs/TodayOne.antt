@@ -13,7 +13,7 @@ use Rattle.pagable_world.specs.declared.rows.HandleRow.{HandleRow}
 use Rattle.pagable_world.specs.State.{WellFormed, one, has_key, is_shared}
 use Rattle.pagable_world.specs.Cells.{Cell, cells_of}
 use Rattle.pagable_world.specs.InStep.{InStep}
-use Rattle.pagable_world.specs.TodayTrees.{MeansTree, CellFits, RepresentsToday}
+use Rattle.pagable_world.specs.TodayTrees.{MeansTree, CellFits, KeyReads, RepresentsToday}
 use Rattle.pagable_world.specs.Words.{Among}
 use Rattle.pagable_world.specs.Seen.{Seen}
 use Rattle.pagable_world.specs.Pages.{Pages}
@@ -81,6 +81,7 @@ one-stands a stored =
       same = refl;
       values = all-of (λ x. MeansTree (sight_of a) x.1 (tree 0 a)) (one_shown stored).values (λ x among. record { typed = refl; means = refl });
       cells = all-of (λ cell. CellFits (sight_of a) (one_shown stored) cell (tree 0 a)) (cells_of one_cell.nodes) (λ cell among. record { typed = ap (λ (c : Cell). c.node_type) (the-one _ cell among); key = λ key is. absurd (no-key cell key among is) });
+      loads = all-of (λ load. KeyReads (sight_of a) (one_shown stored) load.key (tree 0 a)) one_cell.loads (λ load among. absurd (cc));
     }
 
 bare : (stored : ℕ → Option Blob) → TreesHaveNone (one_shown stored) (λ n. tree 0 none)

@@ -20,11 +20,12 @@ use Rattle.pagable_world.specs.Shown.{Shown}
 use Rattle.pagable_world.specs.InStep.{InStep, is_value}
 use Rattle.pagable_world.specs.TodayTrees.{Sight, MeansTree, CellFits, KeyReads, RepresentsToday}
 use Rattle.pagable_world.specs.Words.{Among}
-use Rattle.pagable_world.specs.Whole.{Written, HasType, is_cell}
+use Rattle.pagable_world.specs.declared.rows.LoadRow.{LoadRow}
+use Rattle.pagable_world.specs.Whole.{Written, OpenLoad, of_cell, HasType, is_cell}
 use Rattle.pagable_world.specs.Seen.{Seen}
 use Rattle.pagable_world.specs.Pages.{Pages}
-use Rattle.pagable_world.specs.Stands.{NodeStands, here, away, MeaningStands, number-stands, integer-stands, text-stands, pattern-stands, none-stands, pair-stands, variant-stands, reference-stands, KeyFits, ValueStands, Represents}
-use Rattle.pagable_plain_world.specs.TodayLaws.{Beside, whole_of, pages_of, seen_of, TreesHaveNone, HoldNoReferences, TodayStands, MeaningsHaveNone, HoldersHaveNone}
+use Rattle.pagable_world.specs.Stands.{NodeStands, here, away, MeaningStands, number-stands, integer-stands, text-stands, pattern-stands, none-stands, pair-stands, variant-stands, reference-stands, KeyFits, LoadFits, ValueStands, Represents}
+use Rattle.pagable_plain_world.specs.TodayLaws.{Beside, type_at, whole_load, whole_of, pages_of, seen_of, TreesHaveNone, HoldNoReferences, TodayStands, MeaningsHaveNone, HoldersHaveNone}
 use Rattle.pagable_plain_world.proofs.Sums.{at-most-sum, counted}
 use Rattle.pagable_plain_world.proofs.Places.{unique}
 use Rattle.pagable_plain_world.proofs.TodayRows.{row-of, live-row, cell-once, value-row, value-once}
@@ -142,6 +143,20 @@ module _ {N S E : Type 0} (g : Sight N S E) (b : Beside) (v : Shown N S E) (tree
         let key = keyed row.0.key has in
         away (record { 0 = n }) key.0 (tree n) gone (cell_of row.0, (among, its_number), key.1) (key-fits n)
 
+    -- what a load of a cell reads is its node's tree
+    load-key : (load : OpenLoad) → Among (whole_of b v.book).loads load → LoadFits seen page tree load
+    load-key load among n t h own is =
+        let row = map-at (whole_load v.book.nodes) v.book.loads among.0 load among.1 in
+        let x = row.0 in
+        let same_key : x.key ≡ load.key = ap (λ (l : OpenLoad). l.key) row.2 in
+        let root : of_cell x.node (type_at x.node.0 v.book.nodes) x.handle x.own ≡ of_cell n t h own = ap (λ (l : OpenLoad). l.root) row.2 ∙ is in
+        let node : x.node ≡ n = cc in
+        let reads = all-at (λ l. KeyReads g v l.key (tree l.node.0)) v.book.loads x rep.loads (among.0, row.1) in
+        let P : ℕ → Type 0 = λ k. KeyReads g v k (tree n.0) in
+        let Q : NodeNumber → Type 0 = λ m. KeyReads g v x.key (tree m.0) in
+        let T : Types = record { nodes = g.shape_of v.env; parts = g.parts v.env } in
+        subst (λ s. ReadsTree s T load.key (tree n.0)) (sym store) (subst P same_key (subst Q node reads))
+
     pub represents-whole : All (λ x. HasNoReference (tree x.0).meaning) v.values → Represents seen page (record { plain = whole_of b v.book; tree = tree })
     represents-whole plain_trees =
         record {
@@ -152,6 +167,7 @@ module _ {N S E : Type 0} (g : Sight N S E) (b : Beside) (v : Shown N S E) (tree
                 | inr in_memory ↦ stands-here plain_trees n in_memory
               ];
           typed = has-type;
+          loads = load-key;
         }
 
   module _ (rep : Represents seen page (record { plain = whole_of b v.book; tree = tree })) where
@@ -209,12 +225,20 @@ module _ {N S E : Type 0} (g : Sight N S E) (b : Beside) (v : Shown N S E) (tree
                 subst (λ s. ReadsTree s T key (tree cell.number)) store reads;
           }
 
+      -- what a load reads is its node's tree
+      its-load : (load : LoadRow) → Among v.book.loads load → KeyReads g v load.key (tree load.node.0)
+      its-load load among =
+          let T : Types = record { nodes = g.shape_of v.env; parts = g.parts v.env } in
+          let reads = rep.loads (whole_load v.book.nodes load) (among-map (whole_load v.book.nodes) v.book.loads load among) load.node (type_at load.node.0 v.book.nodes) load.handle load.own refl in
+          subst (λ s. ReadsTree s T load.key (tree load.node.0)) store reads
+
       pub represents-today : RepresentsToday g v (record { plain = plain v.book; tree = tree })
       represents-today =
           record {
             same = refl;
             values = all-of (λ x. MeansTree g x.1 (tree x.0)) v.values its-value;
             cells = all-of (λ cell. CellFits g v cell (tree cell.number)) (cells_of v.book.nodes) its-cell;
+            loads = all-of (λ load. KeyReads g v load.key (tree load.node.0)) v.book.loads its-load;
           }
 
 pub today-stands : {N S E : Type 0} (g : Sight N S E) → TodayStands g

@@ -6,6 +6,7 @@ pub mod NearMisses
 pub mod Bridges
 pub mod TodayLaws
 pub mod TodayExamples
+pub mod TodayLoadExamples
 pub mod KeepLaws
 pub mod HandleExamples
 pub mod StoreExamples

@@ -7,6 +7,7 @@ ghost use Rattle.pagable_plain_world.specs.RunLaws.{RunsJoin, NewIsWhole, KeysTe
 ghost use Rattle.pagable_plain_world.specs.Bridges.{ReleasesToday, ReleaseIsToday, UnpinsToday};
 ghost use Rattle.pagable_plain_world.specs.TodayLaws.{IsOfToday, LoadsFitTheirCells, WholeToday, TodayStands, MeaningsHaveNone, HoldersHaveNone};
 ghost use Rattle.pagable_plain_world.specs.TodayExamples.{OneCellToday};
+ghost use Rattle.pagable_plain_world.specs.TodayLoadExamples.{OneLoadToday};
 ghost use Rattle.pagable_world.specs.TodayTrees.{Sight};
 ghost use Rattle.pagable_plain_world.specs.KeepLaws.{BirthKeeps, AwayBirthKeeps, CloneKeeps, PinKeeps, UnpinKeeps, ReleaseKeeps, SetKeyKeeps, LoosenKeeps, ScheduleKeeps, TakeKeeps, RecallKeeps, FetchKeeps, StoreKeeps, FlushKeeps, LookChangesNothing};
 ghost use Rattle.pagable_plain_world.specs.NearMisses.{NewNodeHasItsValue, NoLoadInMemory, OnlyLooseIsUnfit, ItemIsAtOne, FirstIsTheRoot, NoWaitForFree};
@@ -82,6 +83,11 @@ pub fn today_stands<N: SightOf<S, E>, S, E>()
 /// With one cell today's pager is as these laws ask; and a tree that is followed already it stands for today alone.
 pub fn one_cell_today()
     ensures { OneCellToday }
+{}
+
+/// With an open load today's pager stands for the cell's tree where the load's key reads as it, and not where it reads as another.
+pub fn one_load_today()
+    ensures { OneLoadToday }
 {}
 
 /// Today's pager is whole as one of the whole product.

@@ -37,6 +37,7 @@ pub enum Call {
     Fetch(u128),
     LoadBegin(HandleNumber),
     LoadFetch(LoadNumber),
+    LoadType(LoadNumber),
     LoadEnd(LoadNumber, &'static str),
     LoadDrop(LoadNumber),
 }
@@ -140,6 +141,7 @@ fn read(alloc: Global, pager: &mut TextPager, call: Call) -> Result<Option<Answe
             Either::Left(_) => return Ok(None),
             Either::Right(found) => blob(found.as_ref()),
         },
+        Call::LoadType(load) => Answer::NodeType(Some(pager.load_type(load)?)),
         Call::LoadEnd(load, text) => load_end(alloc, pager, load, text)?,
         Call::LoadDrop(load) => done(pager.load_drop(load)),
         _ => return Ok(None),

@@ -143,6 +143,28 @@ fn a_key_that_is_set_by_hand(rt: HostRuntime) -> Result<(), Fail> {
 }
 
 #[test]
+fn the_type_of_a_load(rt: HostRuntime) -> Result<(), Fail> {
+    let rows = vec![in rt.alloc();
+        (Call::NewPagedOut(7, 5), Answer::Handle(CELL)),
+        (Call::NewPagedOut(3, 6), Answer::Handle(SECOND)),
+        (Call::LoadType(LOAD), Answer::Refused(Error::NoSuchHandle)),
+        (Call::LoadBegin(CELL), Answer::Load(LOAD, 5)),
+        (Call::LoadBegin(SECOND), Answer::Load(NEXT_LOAD, 6)),
+        (Call::LoadType(LOAD), Answer::NodeType(Some(7))),
+        (Call::LoadType(NEXT_LOAD), Answer::NodeType(Some(3))),
+        // The load's own handle keeps the node.
+        (Call::Release(CELL), Answer::Done),
+        (Call::LoadType(LOAD), Answer::NodeType(Some(7))),
+        (Call::LoadDrop(LOAD), Answer::Done),
+        (Call::NodeLive(NODE), Answer::NodeType(None)),
+        (Call::LoadType(LOAD), Answer::Refused(Error::NoSuchHandle)),
+        (Call::LoadType(NEXT_LOAD), Answer::NodeType(Some(3))),
+    ]?;
+    run(&rt, rt.alloc(), rows);
+    Ok(())
+}
+
+#[test]
 fn a_load_whose_handle_is_gone(rt: HostRuntime) -> Result<(), Fail> {
     let rows = vec![in rt.alloc();
         (Call::NewLoose("x"), Answer::Handle(CELL)),

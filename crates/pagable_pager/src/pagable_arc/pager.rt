@@ -9,7 +9,7 @@ ghost use Rattle.pagable_world.specs.State.{WellFormed, is_node};
 ghost use Rattle.pagable_world.specs.Cells.{Cell};
 ghost use Rattle.pagable_world.specs.World.{plain, born, HasCell};
 ghost use Rattle.pagable_world.specs.Refusals.{IsOwn, IsUnknown};
-ghost use Rattle.pagable_world.specs.Calls.{BornAway, Cloned, Loosened, PinnedBy, Unpinned, Released, Counts, KeyIs, AwayIs, NodeIs, Took, KeySet, Begun, Ended, Dropped};
+ghost use Rattle.pagable_world.specs.Calls.{BornAway, Cloned, Loosened, PinnedBy, Unpinned, Released, Counts, KeyIs, AwayIs, NodeIs, Took, KeySet, Begun, LoadTypeIs, Ended, Dropped};
 ghost use Rattle.pagable_world.specs.Values.{value_of_node};
 ghost use Rattle.pagable_world.specs.Shown.{OnlyBook, SameStore, OnlyStore, Unchanged};
 ghost use Rattle.pagable_world.specs.InStep.{InStep, kept};
@@ -355,6 +355,13 @@ where
                 Ok(Either::Right(blob))
             }
         }
+    }
+
+    /// The type of the value that an open load reads. Refused with NoSuchHandle where no such load is open.
+    pub fn load_type(&self, load: LoadNumber) -> Result<u32, Error>
+        ensures { LoadTypeIs (plain self.now.book) load result }
+    {
+        self.book.load_type(load)
     }
 
     /// Ends a load with the value that was read: installs it where the cell has none, pins the handle by which the load
