@@ -50,6 +50,10 @@ nothing-kept rows l none = All-map (λ (f : FetchedRoot). f.load.0 ≢ l.0) fetc
 pub kept-at : (rows : List FetchedBlob) (l : LoadNumber) (place : ℕ) (row : FetchedBlob) → place < length rows → row ≡ get_or rows place row → row.load.0 ≡ l.0 → HasFetched (map fetched_of rows) l (fetched_of row)
 kept-at rows l place row lt is number = (place, slice_get-map fetched_of rows place ∙ ap (λ (o : Option FetchedBlob). option_map fetched_of o) (slice_get-get_or rows place row lt ∙ ap (λ (x : FetchedBlob). Some x) (sym is)), number)
 
+-- whatever the place is read with, its load is this one
+pub row-number : (rows : List FetchedBlob) (l : LoadNumber) (place : ℕ) (row : FetchedBlob) → place < length rows → row ≡ get_or rows place row → ((d : FetchedBlob) → (slice_index_or rows place d).load.0 ≡ l.0) → row.load.0 ≡ l.0
+row-number rows l place row lt is number = ap (λ (x : FetchedBlob). x.load.0) is ∙ number row
+
 -- what fits of each is so of this one
 pub fits-here : {N S E B C : Type 0} (m : EventSight N S E B C) (v : Shown N S E) (fetched : List FetchedRoot) (l : LoadNumber) (f : FetchedRoot) → All (FetchedFits m v) fetched → HasFetched fetched l f → FetchedFits m v f
 fits-here m v fetched l f all (i, at, number) = subst (FetchedFits m v) (get_or_from_slice_get fetched i f f at) (all i f (slice_get_within fetched i f at))
@@ -82,18 +86,18 @@ ends-by m env w w' p row t blob (Ok x) (ends.Refused e) read ended = (inr (x, re
 ends-by m env w w' p row t blob (Ok x) (ends.Read y) read ended = absurd ended
 ends-by m env w w' p row t blob (Err e) (ends.Pinned k) why ended = absurd (let is = ended.0 in let no : ⊥ = cc in no)
 ends-by m env w w' p row t blob (Err e) (ends.Read y) why ended = absurd (let is = ended.0 in let no : ⊥ = cc in no)
-ends-by {N} m env w w' p row t blob (Err e) (ends.Refused d) why ended =
-    let is : ends.Refused {N = N} d ≡ ends.Refused e = ended.0 in
-    let same : e ≡ d = cc in
+ends-by m env w w' p row t blob (Err e) (ends.Refused d) why ended =
+    let same : e ≡ d = let is = ended.0 in cc in
     (inl (subst (RefusesRoot m env t blob) same why), ended.1.0, ended.1.1)
 
 pub second-does : {N S E B C : Type 0} (m : EventSight N S E B C) (old new : Shown N S E) (before after : List FetchedRoot) (l : LoadNumber) (t : ℕ) (f : FetchedRoot) (r : Result N Error) (answer : LoadAnswer N) (steps : ℕ) → LoadTypeIs (plain old.book) l (Ok t) → HasFetched before l f → steps ≡ one_more f.steps
-    → IfOk r (λ x. m.machine.sight.type_of x ≡ t) → ReadsAlone m.read_causes m.machine.sight.means (record { nodes = m.machine.sight.shape_of old.env; parts = m.machine.sight.parts old.env }) t f.blob r
+    → IfOk r (λ x. m.machine.sight.type_of x ≡ t) → (env : E) → env ≡ old.env → ReadsAlone m.read_causes m.machine.sight.means (record { nodes = m.machine.sight.shape_of env; parts = m.machine.sight.parts env }) t f.blob r
     → EachLoad (plain old.book) l (λ p row. EndsRead (world_of m.machine old) p row r answer (world_of m.machine new)) → after ≡ without_load l before
     → LoadStepped m old.env (record { pager = world_of m.machine old; fetched = before }) l (Ok (record { ended = Some answer; steps = steps })) (record { pager = world_of m.machine new; fetched = after })
-second-does {N} m old new before after l t f r answer steps (p, row, has, (cell, at, is)) here counted typed reads does forgot =
+second-does {E = E} m old new before after l t f r answer steps (p, row, has, (cell, at, is)) here counted typed env same reads does forgot =
+    let Reads : E → Type 0 = λ v. ReadsAlone m.read_causes m.machine.sight.means (record { nodes = m.machine.sight.shape_of v; parts = m.machine.sight.parts v }) t f.blob r in
     let Step : ℕ → Type 0 = λ u. StepEnds m old.env (world_of m.machine old) p row u f.blob (Some answer) (world_of m.machine new) in
-    let it = ends-by m old.env (world_of m.machine old) (world_of m.machine new) p row t f.blob r answer (reads-blob m old.env t f.blob r typed reads) (does p row has) in
+    let it = ends-by m old.env (world_of m.machine old) (world_of m.machine new) p row t f.blob r answer (reads-blob m old.env t f.blob r typed (subst Reads same reads)) (does p row has) in
     (p, row, cell, has, at, inr (f, here, counted, subst Step is it, forgot))
 
 pub first-does : {N S E B C : Type 0} (m : EventSight N S E B C) (old new : Shown N S E) (before after : List FetchedRoot) (l : LoadNumber) (t : ℕ) (ended : Option (LoadAnswer N)) → LoadTypeIs (plain old.book) l (Ok t) → HasFetchedNothing before l
@@ -123,10 +127,12 @@ means-tree m old w l t f x whole rep (q, load, has', (cell, at, is)) fits number
     record { typed = typed ∙ of_type; means = tree (g.stored old.storage) row.key (w.tree row.node.0) found of_type reads }
 
 pub read-means : {N S E B C : Type 0} (m : EventSight N S E B C) (old : Shown N S E) (l : LoadNumber) (t : ℕ) (f : FetchedRoot) (r : Result N Error) → WellFormed old.book → LoadTypeIs (plain old.book) l (Ok t) → FetchedFits m old f → f.load ≡ l → IfOk r (λ x. m.machine.sight.type_of x ≡ t)
-    → IfOk r (λ x. MeansItsTree (m.machine.sight.means x) (record { nodes = m.machine.sight.shape_of old.env; parts = m.machine.sight.parts old.env }) t f.blob)
+    → (env : E) → env ≡ old.env → IfOk r (λ x. MeansItsTree (m.machine.sight.means x) (record { nodes = m.machine.sight.shape_of env; parts = m.machine.sight.parts env }) t f.blob)
     → (w : TodayWorld) → RepresentsToday m.machine.sight old w → IfOk r (λ x. ReadFits m.machine.sight l x w)
-read-means m old l t f (Ok x) whole of_load fits number typed tree w rep = means-tree m old w l t f x whole rep of_load fits number typed tree
-read-means m old l t f (Err e) whole of_load fits number typed tree w rep = tt
+read-means {E = E} m old l t f (Ok x) whole of_load fits number typed env same tree w rep =
+    let Means : E → Type 0 = λ v. MeansItsTree (m.machine.sight.means x) (record { nodes = m.machine.sight.shape_of v; parts = m.machine.sight.parts v }) t f.blob in
+    means-tree m old w l t f x whole rep of_load fits number typed (subst Means same tree)
+read-means m old l t f (Err e) whole of_load fits number typed env same tree w rep = tt
 
 -- numbers of loads are what is in them
 pub same-load : (a b : LoadNumber) → a.0 ≡ b.0 → a ≡ b

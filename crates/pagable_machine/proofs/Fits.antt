@@ -247,7 +247,7 @@ call-left m w w' before (calls.Store b) (replies.Stored r) s = all-left w w' bef
 call-left m w w' before (calls.LoadBegin h) (replies.Begun r) s = all-left w w' before (begin-keeps w w' h r s.0 s.1)
 call-left m w w' before (calls.LoadFetch l) (replies.LoadFound r) s = all-left w w' before (load-finds-keeps m w w' l r s)
 call-left m w w' before (calls.LoadEnd l x) (replies.LoadEnded r) s = end-left m w w' before l x r s
-call-left m w w' before (calls.LoadDrop l) (replies.Done r) s = drop-left _ _ _ w w' before l r s.0 s.1
+call-left {N = N} {B = B} {C = C} m w w' before (calls.LoadDrop l) (replies.Done r) s = drop-left N B C w w' before l r s.0 s.1
 call-left m w w' before call reply s = absurd s
 
 -- ---- what fits

@@ -7,3 +7,4 @@ pub mod Ending
 pub mod Fits
 pub mod Moving
 pub mod Running
+pub mod Pins

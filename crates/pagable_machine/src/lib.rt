@@ -3,6 +3,7 @@
 
 mod events;
 mod fetched;
+pub mod laws;
 mod list;
 pub mod machine;
 mod reading;

@@ -38,6 +38,9 @@ where
     ghost use Rattle.std.specs.Arc.{arc_value};
     ghost use Rattle.pagable_model.specs.Blob.{key_of};
     ghost use Rattle.pagable_core.specs.Data.{blob_of};
+    ghost use Rattle.std.specs.Global.{Global};
+    ghost use Rattle.std.specs.declared.sync.Arc.{Arc};
+    ghost use Rattle.pagable_core.specs.declared.storage.data.PagableData.{PagableData};
     ghost use Rattle.pagable_world.specs.LoadMoves.{Driven};
     ghost use Rattle.pagable_world.specs.MachineRuns.{FetchedFits};
     ghost use Rattle.pagable_machine.specs.Rows.{fetched_of};

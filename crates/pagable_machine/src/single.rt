@@ -283,6 +283,21 @@ fn has_ended<N: Drop>(outcome: &Result<HandleNumber, (Error, Option<N>)>) -> boo
     }
 }
 
+// The end of a load.
+fn end_load<E: Env, S: PagableStorage<E>>(
+    pager: &mut Pager<E, S>,
+    alloc: Global,
+    load: LoadNumber,
+    node: E::Node,
+) -> Result<HandleNumber, (Error, Option<E::Node>)>
+where
+    E::Node: NodeSet<E>,
+    ensures does { CallDoes (record { sight = record { type_of = E.Node.type_of; means = E.Node.means; shape_of = E.Node.shape_of; parts = E.parts; stored = S.stored }; references = E.Node.refs_of; digest = key_of E.Hash.digest; blob_of = blob_of; found = λ (b : Arc PagableData Global). blob_of (arc_value b); is_closed = S.is_closed; failed = S.failed }) (world_of (record { sight = record { type_of = E.Node.type_of; means = E.Node.means; shape_of = E.Node.shape_of; parts = E.parts; stored = S.stored }; references = E.Node.refs_of; digest = key_of E.Hash.digest; blob_of = blob_of; found = λ (b : Arc PagableData Global). blob_of (arc_value b); is_closed = S.is_closed; failed = S.failed }) pager.old) (MachineCall.LoadEnd load node) (Reply.LoadEnded result) (world_of (record { sight = record { type_of = E.Node.type_of; means = E.Node.means; shape_of = E.Node.shape_of; parts = E.parts; stored = S.stored }; references = E.Node.refs_of; digest = key_of E.Hash.digest; blob_of = blob_of; found = λ (b : Arc PagableData Global). blob_of (arc_value b); is_closed = S.is_closed; failed = S.failed }) pager.new) }
+    ensures leads { LeadsOn (record { sight = record { type_of = E.Node.type_of; means = E.Node.means; shape_of = E.Node.shape_of; parts = E.parts; stored = S.stored }; references = E.Node.refs_of; digest = key_of E.Hash.digest; blob_of = blob_of; found = λ (b : Arc PagableData Global). blob_of (arc_value b); is_closed = S.is_closed; failed = S.failed }) pager.old (MachineCall.LoadEnd load node) (Reply.LoadEnded result) pager.new }
+{
+    pager.load_end(alloc, load, node)
+}
+
 // A load ends, and is forgotten where that has closed it.
 fn load_end<E: Env, S: PagableStorage<E>>(
     pager: &mut Pager<E, S>,
@@ -297,7 +312,7 @@ where
     ensures leads { LeadsOn (record { sight = record { type_of = E.Node.type_of; means = E.Node.means; shape_of = E.Node.shape_of; parts = E.parts; stored = S.stored }; references = E.Node.refs_of; digest = key_of E.Hash.digest; blob_of = blob_of; found = λ (b : Arc PagableData Global). blob_of (arc_value b); is_closed = S.is_closed; failed = S.failed }) pager.old (MachineCall.LoadEnd load node) result pager.new }
     ensures forgets { map fetched_of fetched.new.items ≡ fetched_after {B = PagableData} (MachineCall.LoadEnd load node) result (map fetched_of fetched.old.items) }
 {
-    let outcome = pager.load_end(alloc, load, node);
+    let outcome = end_load(pager, alloc, load, node);
     let is_closed = has_ended(&outcome);
     fetched::forget_if(fetched, load, is_closed);
     Reply::LoadEnded(outcome)

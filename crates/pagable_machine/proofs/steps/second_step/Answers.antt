@@ -16,7 +16,7 @@ returns-clause-does g c =
     let row = c.index-row.result.now in
     let number = row-number c.args.fetched.now.items c.args.load c.args.place row c.requires.within c.index-row.ensures c.requires.there in
     let here = kept-at c.args.fetched.now.items c.args.load c.args.place row c.requires.within c.index-row.ensures number in
-    second-does em c.args.pager.now c.end_read-ended.new.pager (map fetched_of c.args.fetched.now.items) (map fetched_of c.forget.new.fetched.items) c.args.load c.args.node_type (fetched_of row) c.read_root-read.result c.end_read-ended.result c.saturating_add-steps.result c.requires.typed here ? c.read_root-read.ensures.typed c.read_root-read.ensures.reads c.end_read-ended.ensures.does c.forget.ensures
+    second-does em c.args.pager.now c.end_read-ended.new.pager (map fetched_of c.args.fetched.now.items) (map fetched_of c.forget.new.fetched.items) c.args.load c.args.node_type (fetched_of row) c.read_root-read.result c.end_read-ended.result c.saturating_add-steps.result c.requires.typed here c.saturating_add-steps.ensures c.read_root-read.ensures.typed c.env.result.now c.env.ensures c.read_root-read.ensures.reads c.end_read-ended.ensures.does c.forget.ensures
 
 pub returns-clause-trees : goal.returns-clause-trees
 returns-clause-trees g c =
@@ -27,4 +27,4 @@ returns-clause-trees g c =
     let number = row-number c.args.fetched.now.items c.args.load c.args.place row c.requires.within c.index-row.ensures c.requires.there in
     let here = kept-at c.args.fetched.now.items c.args.load c.args.place row c.requires.within c.index-row.ensures number in
     let fits = fits-here em c.args.pager.now (map fetched_of c.args.fetched.now.items) c.args.load (fetched_of row) c.requires.fits here in
-    leads-anyway g-sight c.args.pager.now c.end_read-ended.new.pager (λ w. IfOk c.read_root-read.result (λ x. ReadFits g-sight c.args.load x w)) (read-means em c.args.pager.now c.args.load c.args.node_type (fetched_of row) c.read_root-read.result c.is_whole.ensures.whole c.requires.typed fits (same-load row.load c.args.load number) c.read_root-read.ensures.typed c.read_root-read.ensures.tree) c.end_read-ended.ensures.trees
+    leads-anyway g-sight c.args.pager.now c.end_read-ended.new.pager (λ w. IfOk c.read_root-read.result (λ x. ReadFits g-sight c.args.load x w)) (read-means em c.args.pager.now c.args.load c.args.node_type (fetched_of row) c.read_root-read.result c.is_whole.ensures.whole c.requires.typed fits (same-load row.load c.args.load number) c.read_root-read.ensures.typed c.env.result.now c.env.ensures c.read_root-read.ensures.tree) c.end_read-ended.ensures.trees
