@@ -43,11 +43,11 @@ use Rattle.pagable_machine.proofs.Loads.{same-there}
 -- the load isn't the one that is gone
 abbrev pub Stays : Option LoadNumber → LoadNumber → Type 0
 Stays None l = Unit {0}
-Stays (Some gone) l = l.0 ≢ gone.0
+Stays (Some lost) l = l.0 ≢ lost.0
 
 -- open loads but the one that is gone stay open, and what is stored stays
-pub record Keeps (gone : Option LoadNumber) (w w' : MachineWorld) : Type 0 where
-  loads : (l : LoadNumber) (p : ℕ) (row : LoadRow) → Stays gone l → HasLoad w.tables l p row → (q : ℕ) × HasLoad w'.tables l q row
+pub record Keeps (lost : Option LoadNumber) (w w' : MachineWorld) : Type 0 where
+  loads : (l : LoadNumber) (p : ℕ) (row : LoadRow) → Stays lost l → HasLoad w.tables l p row → (q : ℕ) × HasLoad w'.tables l q row
   stored : (key : ℕ) (b : Blob) → w.stored key ≡ Some b → w'.stored key ≡ Some b
 
 -- ---- what keeps loads
@@ -55,18 +55,18 @@ pub record Keeps (gone : Option LoadNumber) (w w' : MachineWorld) : Type 0 where
 same-stored : (w w' : MachineWorld) → w'.stored ≡ w.stored → (key : ℕ) (b : Blob) → w.stored key ≡ Some b → w'.stored key ≡ Some b
 same-stored w w' same key b at = ap (λ (f : ℕ → Option Blob). f key) same ∙ at
 
-stay : (gone : Option LoadNumber) (w w' : MachineWorld) → w'.tables.loads ≡ w.tables.loads → w'.stored ≡ w.stored → Keeps gone w w'
-stay gone w w' loads stored = record { loads = λ l p row stays has. (p, (ap (λ (xs : List LoadRow). slice_get xs p) loads ∙ has.0, has.1)); stored = same-stored w w' stored }
+stay : (lost : Option LoadNumber) (w w' : MachineWorld) → w'.tables.loads ≡ w.tables.loads → w'.stored ≡ w.stored → Keeps lost w w'
+stay lost w w' loads stored = record { loads = λ l p row stays has. (p, (ap (λ (xs : List LoadRow). slice_get xs p) loads ∙ has.0, has.1)); stored = same-stored w w' stored }
 
-same : (gone : Option LoadNumber) (w w' : MachineWorld) → w' ≡ w → Keeps gone w w'
-same gone w w' is = stay gone w w' (ap (λ (x : MachineWorld). x.tables.loads) is) (ap (λ (x : MachineWorld). x.stored) is)
+same : (lost : Option LoadNumber) (w w' : MachineWorld) → w' ≡ w → Keeps lost w w'
+same lost w w' is = stay lost w w' (ap (λ (x : MachineWorld). x.tables.loads) is) (ap (λ (x : MachineWorld). x.stored) is)
 
 -- the tables' loads stay, and the storage does
-on-tables : (gone : Option LoadNumber) (w w' : MachineWorld) → w'.tables.loads ≡ w.tables.loads → OnlyTables w w' → Keeps gone w w'
-on-tables gone w w' loads only = stay gone w w' loads (ap (λ (x : MachineWorld). x.stored) only)
+on-tables : (lost : Option LoadNumber) (w w' : MachineWorld) → w'.tables.loads ≡ w.tables.loads → OnlyTables w w' → Keeps lost w w'
+on-tables lost w w' loads only = stay lost w w' loads (ap (λ (x : MachineWorld). x.stored) only)
 
-on-failures : (gone : Option LoadNumber) (w w' : MachineWorld) → OnlyFailures w w' → Keeps gone w w'
-on-failures gone w w' only = stay gone w w' (ap (λ (x : MachineWorld). x.tables.loads) only.rest) (ap (λ (x : MachineWorld). x.stored) only.rest)
+on-failures : (lost : Option LoadNumber) (w w' : MachineWorld) → OnlyFailures w w' → Keeps lost w w'
+on-failures lost w w' only = stay lost w w' (ap (λ (x : MachineWorld). x.tables.loads) only.rest) (ap (λ (x : MachineWorld). x.stored) only.rest)
 
 -- what stands elsewhere stays where one leaves
 beside : {X : Type 0} (xs : List X) (p q : ℕ) (b : X) → slice_get xs q ≡ Some b → p ≢ q → (r : ℕ) × (slice_get (remove xs p) r ≡ Some b)
@@ -205,15 +205,15 @@ left None fetched = fetched
 left (Some l) fetched = without_load l fetched
 
 record Left (w w' : MachineWorld) (before after : List FetchedRoot) : Type 0 where
-  gone : Option LoadNumber
-  keeps : Keeps gone w w'
-  is : after ≡ left gone before
+  lost : Option LoadNumber
+  keeps : Keeps lost w w'
+  is : after ≡ left lost before
 
 all-left : (w w' : MachineWorld) (before : List FetchedRoot) → Keeps None w w' → Left w w' before before
-all-left w w' before keeps = record { gone = None; keeps = keeps; is = refl }
+all-left w w' before keeps = record { lost = None; keeps = keeps; is = refl }
 
 one-gone : (w w' : MachineWorld) (before : List FetchedRoot) (l : LoadNumber) → Keeps (Some l) w w' → Left w w' before (without_load l before)
-one-gone w w' before l keeps = record { gone = Some l; keeps = keeps; is = refl }
+one-gone w w' before l keeps = record { lost = Some l; keeps = keeps; is = refl }
 
 end-left : {N S E B C : Type 0} (m : MachineSight N S E B C) (w w' : MachineWorld) (before : List FetchedRoot) (l : LoadNumber) (x : N) (r : Result HandleNumber (Error × Option N)) → EndsLoad m w l x r w' → Left w w' before (fetched_after {N = N} {B = B} {C = C} (calls.LoadEnd l x) (replies.LoadEnded r) before)
 end-left m w w' before l x (Ok k) s = one-gone w w' before l (ended-keeps w w' l k s.2 s.3)
@@ -252,18 +252,18 @@ call-left m w w' before call reply s = absurd s
 
 -- ---- what fits
 
-fits-on : {N S E B C : Type 0} (m : EventSight N S E B C) (v v' : Shown N S E) (gone : Option LoadNumber) (f : FetchedRoot) → Keeps gone (world_of m.machine v) (world_of m.machine v') → Stays gone f.load → FetchedFits m v f → FetchedFits m v' f
-fits-on m v v' gone f keeps stays fits =
+fits-on : {N S E B C : Type 0} (m : EventSight N S E B C) (v v' : Shown N S E) (lost : Option LoadNumber) (f : FetchedRoot) → Keeps lost (world_of m.machine v) (world_of m.machine v') → Stays lost f.load → FetchedFits m v f → FetchedFits m v' f
+fits-on m v v' lost f keeps stays fits =
     let it = keeps.loads f.load fits.p fits.load stays fits.there in
     record { once = fits.once; p = it.0; load = fits.load; there = it.1; stored = keeps.stored fits.load.key f.blob fits.stored }
 
-all-on : {N S E B C : Type 0} (m : EventSight N S E B C) (v v' : Shown N S E) (gone : Option LoadNumber) (fs : List FetchedRoot) → Keeps gone (world_of m.machine v) (world_of m.machine v') → All (λ f. Stays gone f.load) fs → All (FetchedFits m v) fs → All (FetchedFits m v') fs
-all-on m v v' gone fs keeps stays fits k d lt = fits-on m v v' gone (get_or fs k d) keeps (stays k d lt) (fits k d lt)
+all-on : {N S E B C : Type 0} (m : EventSight N S E B C) (v v' : Shown N S E) (lost : Option LoadNumber) (fs : List FetchedRoot) → Keeps lost (world_of m.machine v) (world_of m.machine v') → All (λ f. Stays lost f.load) fs → All (FetchedFits m v) fs → All (FetchedFits m v') fs
+all-on m v v' lost fs keeps stays fits k d lt = fits-on m v v' lost (get_or fs k d) keeps (stays k d lt) (fits k d lt)
 
 other-load : (a b : ℕ) → not (a == b) ≡ true → a ≢ b
 other-load a b is = λ e. absurd (grind (arith, nat_tests))
 
-left-fits : {N S E B C : Type 0} (m : EventSight N S E B C) (v v' : Shown N S E) (gone : Option LoadNumber) (before : List FetchedRoot) → Keeps gone (world_of m.machine v) (world_of m.machine v') → All (FetchedFits m v) before → All (FetchedFits m v') (left gone before)
+left-fits : {N S E B C : Type 0} (m : EventSight N S E B C) (v v' : Shown N S E) (lost : Option LoadNumber) (before : List FetchedRoot) → Keeps lost (world_of m.machine v) (world_of m.machine v') → All (FetchedFits m v) before → All (FetchedFits m v') (left lost before)
 left-fits m v v' None before keeps fits = all-on m v v' None before keeps (λ k d lt. tt) fits
 left-fits m v v' (Some l) before keeps fits =
     let test : FetchedRoot → Bool = λ f. not (f.load.0 == l.0) in
@@ -302,7 +302,7 @@ second-keeps m env w w' l p load t blob None has bad = absurd bad
 pub fits-after : {N S E B C : Type 0} (m : EventSight N S E B C) (v v' : Driven N S E) (event : MachineEvent N B) (reply : EventReply N C (Unit {0})) → EventDoes m v.pager.env (event_world_of m v) event reply (event_world_of m v') → All (FetchedFits m v.pager) v.fetched → All (FetchedFits m v'.pager) v'.fetched
 fits-after m v v' (events.Call call) (answers.CallReply r) (does, forgets) fits =
     let it = call-left m.machine (world_of m.machine v.pager) (world_of m.machine v'.pager) v.fetched call r does in
-    All-same (FetchedFits m v'.pager) v'.fetched (left it.gone v.fetched) (forgets ∙ it.is) (left-fits m v.pager v'.pager it.gone v.fetched it.keeps fits)
+    All-same (FetchedFits m v'.pager) v'.fetched (left it.lost v.fetched) (forgets ∙ it.is) (left-fits m v.pager v'.pager it.lost v.fetched it.keeps fits)
 fits-after m v v' (events.LoadStart h) (answers.Started r) (does, only, stays) fits =
     let keeps = begin-keeps (world_of m.machine v.pager) (world_of m.machine v'.pager) h r does only in
     All-same (FetchedFits m v'.pager) v'.fetched v.fetched stays (all-on m v.pager v'.pager None v.fetched keeps (λ k d lt. tt) fits)
