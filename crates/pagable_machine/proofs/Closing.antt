@@ -1,6 +1,5 @@
 -- What the parts of a load's step do.
-use Rattle.std.proofs.Common.{◌≡◌, ℕ, ◌+◌, ◌<◌, ◌≤◌, List, [], ◌∷◌, ◌++◌, map, Option, Some, None, Result, Ok, Err, OnOk, OnErr, IfOk, refl, ap, sym, ◌∙◌, subst, arith, inl, inr}
-use Rattle.std.specs.Prelude.{◌⊎◌, ◌≢◌}
+use Rattle.std.proofs.Common.{◌≡◌, ℕ, ◌≤◌, List, [], ◌∷◌, ◌++◌, map, Some, None, Result, Ok, Err, refl, ap, sym, ◌∙◌, subst, arith, inl, inr}
 use Rattle.pagable_model.specs.declared.error.Error.{Error}
 use Rattle.pagable_model.specs.declared.error.Error.TheVariants as errors
 use Rattle.pagable_model.specs.declared.numbers.ArcRef.{ArcRef}
@@ -10,10 +9,10 @@ use Rattle.pagable_model.specs.Stored.{RefusesFetch}
 use Rattle.pagable_world.specs.declared.rows.LoadRow.{LoadRow}
 use Rattle.pagable_world.specs.declared.events.LoadAnswer.TheVariants as ends
 use Rattle.pagable_world.specs.Cells.{Cell}
-use Rattle.pagable_world.specs.State.{State, WellFormed}
+use Rattle.pagable_world.specs.State.{WellFormed}
 use Rattle.pagable_world.specs.World.{World, plain, HasCell, Closes}
-use Rattle.pagable_world.specs.Calls.{HasLoad, IsNoLoad, LoadTypeIs, Ended, Dropped}
-use Rattle.pagable_world.specs.Shown.{Shown, OnlyStore, SameStore, Unchanged}
+use Rattle.pagable_world.specs.Calls.{HasLoad, LoadTypeIs, Ended, Dropped}
+use Rattle.pagable_world.specs.Shown.{Shown, SameStore, Unchanged}
 use Rattle.pagable_world.specs.LoadEnds.{ClosedBy, StaysOpen}
 use Rattle.pagable_world.specs.TodayTrees.{Sight, TodayWorld, RepresentsToday, EachWorld, Always}
 use Rattle.pagable_world.specs.MachineSteps.{MachineSight, MachineWorld, world_of, OnlyTables, OnlyFailures}

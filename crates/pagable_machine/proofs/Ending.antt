@@ -1,6 +1,6 @@
 -- A load's second step, and the step of a load that is open.
-use Rattle.std.proofs.Common.{◌≡◌, ℕ, ◌+◌, ◌<◌, ◌≤◌, List, [], ◌∷◌, length, get_or, map, sum_by, All, Option, Some, None, Result, Ok, Err, IfOk, refl, ap, sym, ◌∙◌, subst, arith, inl, inr, slice_get, slice_index_or}
-use Rattle.std.specs.Prelude.{◌⊎◌, ◌≢◌, ◌==◌}
+use Rattle.std.proofs.Common.{◌≡◌, ℕ, ◌+◌, ◌<◌, ◌≤◌, List, [], ◌∷◌, length, get_or, map, sum_by, All, Option, Some, Result, Ok, Err, IfOk, refl, ap, sym, ◌∙◌, subst, arith, inl, inr, slice_index_or}
+use Rattle.std.specs.Prelude.{◌≢◌, ◌==◌}
 use Rattle.std.proofs.lemmas.Bool.Decides.{nat_tests}
 use Rattle.std.specs.Option.{option_map}
 use Rattle.std.proofs.lemmas.List.Elements.{All-map}
@@ -8,33 +8,28 @@ use Rattle.std.proofs.lemmas.List.Sums.{get_or-le-sum_by}
 use Rattle.std.proofs.lemmas.Option.{get_or_from_slice_get, slice_get_within, slice_get-get_or, slice_get-map}
 use Rattle.pagable_model.specs.declared.error.Error.{Error}
 use Rattle.pagable_model.specs.declared.error.Error.TheVariants as errors
-use Rattle.pagable_model.specs.declared.numbers.ArcRef.{ArcRef}
 use Rattle.pagable_model.specs.declared.numbers.LoadNumber.{LoadNumber}
-use Rattle.pagable_model.specs.declared.numbers.NodeNumber.{NodeNumber}
 use Rattle.pagable_model.specs.Blob.{Blob}
-use Rattle.pagable_model.specs.Meaning.{Meaning, lifted}
 use Rattle.pagable_model.specs.Reading.{Rest, read_typed}
-use Rattle.pagable_model.specs.Standing.{Answer, Gave, handles_at}
-use Rattle.pagable_model.specs.Trees.{Tree, Types}
+use Rattle.pagable_model.specs.Standing.{Answer, handles_at}
 use Rattle.pagable_core.specs.Context.{answers_from}
 use Rattle.pagable_world.specs.declared.rows.LoadRow.{LoadRow}
 use Rattle.pagable_world.specs.declared.events.LoadAnswer.{LoadAnswer}
 use Rattle.pagable_world.specs.declared.events.LoadAnswer.TheVariants as ends
-use Rattle.pagable_world.specs.declared.events.LoadReply.{LoadReply}
 use Rattle.pagable_world.specs.Cells.{Cell}
-use Rattle.pagable_world.specs.State.{State, WellFormed, one}
-use Rattle.pagable_world.specs.World.{World, plain, HasCell}
+use Rattle.pagable_world.specs.State.{WellFormed, one}
+use Rattle.pagable_world.specs.World.{World, plain}
 use Rattle.pagable_world.specs.Calls.{HasLoad, LoadTypeIs}
 use Rattle.pagable_world.specs.Shown.{Shown}
 use Rattle.pagable_world.specs.LoadSteps.{one_more}
-use Rattle.pagable_world.specs.TodayTrees.{Sight, TodayWorld, RepresentsToday, MeansTree, CellFits, KeyReads, ReadFits}
-use Rattle.pagable_world.specs.MachineSteps.{MachineSight, MachineWorld, world_of}
+use Rattle.pagable_world.specs.TodayTrees.{TodayWorld, RepresentsToday, CellFits, KeyReads, ReadFits}
+use Rattle.pagable_world.specs.MachineSteps.{MachineWorld, world_of}
 use Rattle.pagable_world.specs.LoadMoves.{FetchedRoot, EventSight, HasFetched, HasFetchedNothing, without_load, read_root, IsReadOf, RefusesRoot, StepFetches, StepEnds, LoadStepped}
 use Rattle.pagable_world.specs.MachineRuns.{FetchedFits}
 use Rattle.pagable_machine.specs.declared.fetched.FetchedBlob.{FetchedBlob}
 use Rattle.pagable_machine.specs.Rows.{fetched_of}
 use Rattle.pagable_machine.specs.Moves.{EachLoad, EndsRead}
-use Rattle.pagable_machine.specs.Reading.{refusals, refused_rest, ReadsAlone, MeansItsTree}
+use Rattle.pagable_machine.specs.Reading.{refused_rest, ReadsAlone, MeansItsTree}
 use Rattle.pagable_machine.proofs.Loads.{one-load}
 
 -- ---- where a load stands

@@ -1,9 +1,8 @@
 -- What each event keeps of open loads and of what is stored, so that a load that has got its root's blob stays open and right.
-use Rattle.std.proofs.Common.{◌≡◌, ℕ, zero, suc, ◌+◌, ◌<◌, ◌≤◌, Bool, true, false, List, [], ◌∷◌, ◌++◌, length, get_or, All, Option, Some, None, Result, Ok, Err, refl, ap, sym, ◌∙◌, subst, arith, inl, inr, slice_get}
+use Rattle.std.proofs.Common.{◌≡◌, ℕ, zero, suc, Bool, true, false, List, [], ◌∷◌, ◌++◌, get_or, All, Option, Some, None, Result, Ok, Err, refl, ap, sym, ◌∙◌, subst, arith, inl, inr, slice_get}
 use Rattle.std.specs.Prelude.{◌⊎◌, ◌≢◌, ◌==◌, not, if◌then◌else◌}
 use Rattle.std.specs.List.{remove}
 use Rattle.std.proofs.lemmas.Bool.Decides.{nat_tests}
-use Rattle.std.proofs.lemmas.Option.{get_or_from_slice_get, slice_get_within}
 use Rattle.std.proofs.lemmas.List.Elements.{All-same, All-push, All-filter, filter_passes}
 use Rattle.pagable_model.specs.declared.error.Error.{Error}
 use Rattle.pagable_model.specs.declared.numbers.HandleNumber.{HandleNumber}
@@ -26,16 +25,14 @@ use Rattle.pagable_world.specs.declared.events.EventReply.{EventReply}
 use Rattle.pagable_world.specs.declared.events.EventReply.TheVariants as answers
 use Rattle.pagable_world.specs.declared.events.LoadAnswer.{LoadAnswer}
 use Rattle.pagable_world.specs.declared.events.LoadAnswer.TheVariants as ends
-use Rattle.pagable_world.specs.declared.events.LoadReply.{LoadReply}
 use Rattle.pagable_world.specs.declared.rows.Mode.{Mode}
 use Rattle.pagable_world.specs.declared.rows.HandleRow.{HandleRow}
 use Rattle.pagable_world.specs.declared.rows.LoadRow.{LoadRow}
-use Rattle.pagable_world.specs.World.{World, Prepared, Leaves, Closes}
+use Rattle.pagable_world.specs.World.{World, Prepared, Closes}
 use Rattle.pagable_world.specs.Calls.{Born, BornAway, Cloned, Loosened, PinnedBy, Unpinned, Released, Took, KeySet, Begun, HasLoad, Ended, Dropped}
 use Rattle.pagable_world.specs.Shown.{Shown}
-use Rattle.pagable_world.specs.Steps.{AnswersMade, AnswersHandle, AnswersPin, AnswersDone, AnswersCount, AnswersKey, AnswersAway, AnswersNode, AnswersType, AnswersLength, AnswersTaken, AnswersBlob, AnswersStored, AnswersBegun, AnswersFound, AnswersEnded}
 use Rattle.pagable_world.specs.MachineSteps.{MachineSight, MachineWorld, world_of, OnlyTables, OnlyFailures, BearsValue, FindsBlob, StoresBlob, LoadFinds, EndsLoad, CallDoes}
-use Rattle.pagable_world.specs.LoadMoves.{FetchedRoot, Driven, EventSight, event_world_of, without_load, HasFetched, HasFetchedNothing, StepFetches, StepEnds, LoadStepped}
+use Rattle.pagable_world.specs.LoadMoves.{FetchedRoot, Driven, EventSight, event_world_of, without_load, HasFetchedNothing, StepFetches, StepEnds}
 use Rattle.pagable_world.specs.MachineEvents.{fetched_after, EventDoes}
 use Rattle.pagable_world.specs.MachineRuns.{FetchedFits}
 use Rattle.pagable_machine.proofs.Loads.{same-there}
@@ -81,9 +78,9 @@ closed : (w w' : MachineWorld) (l : LoadNumber) (p : ℕ) (row : LoadRow) → Ha
 closed w w' l p row has loads stored =
     record {
       loads = λ k q other stays there.
-      let apart : p ≢ q = λ is. stays (ap (λ (n : LoadNumber). n.0) (sym there.1) ∙ sym (ap (λ (r : LoadRow). r.number.0) (same-there w.tables.loads p q row other has.0 there.0 is)) ∙ ap (λ (n : LoadNumber). n.0) has.1) in
-      let it = beside w.tables.loads p q other there.0 apart in
-      (it.0, (ap (λ (xs : List LoadRow). slice_get xs it.0) loads ∙ it.1, there.1));
+          let apart : p ≢ q = λ is. stays (ap (λ (n : LoadNumber). n.0) (sym there.1) ∙ sym (ap (λ (r : LoadRow). r.number.0) (same-there w.tables.loads p q row other has.0 there.0 is)) ∙ ap (λ (n : LoadNumber). n.0) has.1) in
+          let it = beside w.tables.loads p q other there.0 apart in
+          (it.0, (ap (λ (xs : List LoadRow). slice_get xs it.0) loads ∙ it.1, there.1));
       stored = same-stored w w' stored;
     }
 
@@ -111,10 +108,10 @@ adds w w' key b tables a =
       loads = λ l p row stays has. (p, (ap (λ (x : World). slice_get x.loads p) tables ∙ has.0, has.1));
       stored = λ q c at. elim (cases_test (q == key)) [
         | inl is ↦
-          let number : q ≡ key = grind (arith, nat_tests) in
-          let there : w.stored key ≡ Some c = ap w.stored (sym number) ∙ at in
-          let one : Some b ≡ Some c = elim a.free [ | inl none ↦ absurd (let no : ⊥ = cc in no) | inr some ↦ sym some ∙ there ] in
-          a.each q ∙ ap (λ (t : Bool). if t then Some b else w.stored q) is ∙ one
+            let number : q ≡ key = grind (arith, nat_tests) in
+            let there : w.stored key ≡ Some c = ap w.stored (sym number) ∙ at in
+            let one : Some b ≡ Some c = elim a.free [ inl none ↦ absurd (let no : ⊥ = cc in no) | inr some ↦ sym some ∙ there ] in
+            a.each q ∙ ap (λ (t : Bool). if t then Some b else w.stored q) is ∙ one
         | inr other ↦ a.each q ∙ ap (λ (t : Bool). if t then Some b else w.stored q) other ∙ at
       ];
     }

@@ -1,5 +1,5 @@
 -- What an event does to a world with trees.
-use Rattle.std.proofs.Common.{◌≡◌, List, Result, Ok, Err, if◌then◌else◌, Option, Some, None, refl, ap, sym, ◌∙◌}
+use Rattle.std.proofs.Common.{◌≡◌, List, Result, Ok, Err, if◌then◌else◌, Option, Some, None, refl}
 use Rattle.pagable_model.specs.declared.error.Error.{Error}
 use Rattle.pagable_model.specs.declared.numbers.HandleNumber.{HandleNumber}
 use Rattle.pagable_model.specs.declared.numbers.LoadNumber.{LoadNumber}
@@ -11,7 +11,6 @@ use Rattle.pagable_world.specs.declared.machine.MachineCall.TheVariants as calls
 use Rattle.pagable_world.specs.declared.machine.MachineEvent.TheVariants as events
 use Rattle.pagable_world.specs.declared.events.EventReply.TheVariants as answers
 use Rattle.pagable_world.specs.declared.events.LoadReply.{LoadReply}
-use Rattle.pagable_world.specs.Shown.{Shown}
 use Rattle.pagable_world.specs.TodayTrees.{TodayWorld, EachWorld, Always}
 use Rattle.pagable_world.specs.LoadMoves.{FetchedRoot, Driven, EventSight, without_load}
 use Rattle.pagable_world.specs.MachineEvents.{fetched_after}

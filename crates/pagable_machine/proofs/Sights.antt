@@ -1,5 +1,5 @@
 -- How a machine is seen, by the members of its bounds.
-use Rattle.std.proofs.Common.{◌≡◌, ℕ, List, Option, Bool, Global}
+use Rattle.std.proofs.Common.{ℕ, List, Option, Bool, Global}
 use Rattle.std.specs.Arc.{arc_value}
 use Rattle.std.specs.declared.sync.Arc.{Arc}
 use Rattle.pagable_model.specs.declared.error.Error.{Error}

@@ -1,5 +1,5 @@
 -- The rows of loads that have got their root's blob, and what closes a load.
-use Rattle.std.specs.Prelude.{ℕ, Bool, true, false, List, map, Option, Some, None, Result, Ok, Err}
+use Rattle.std.specs.Prelude.{Bool, true, false, List, map, Option, Some, None, Result, Ok, Err}
 use Rattle.std.specs.Arc.{arc_value}
 use Rattle.pagable_core.specs.Data.{blob_of}
 use Rattle.pagable_model.specs.declared.error.Error.{Error}

@@ -10,8 +10,7 @@ ghost use Rattle.pagable_world.specs.MachineRuns.{EventLeadsOn, FetchedFits, IsW
 ghost use Rattle.pagable_machine.specs.Rows.{driven_by, fetched_of};
 
 use crate::fetched::FetchedBlob;
-use crate::single;
-use crate::steps;
+use crate::{single, steps};
 use pagable_codec::{Env, NodeSet};
 use pagable_core::{PagableData, PagableStorage};
 use pagable_model::{HandleNumber, LoadNumber};

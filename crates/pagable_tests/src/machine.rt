@@ -3,8 +3,8 @@
 
 use crate::calls::empty;
 use pagable::{
-    Beginning, Error, EventReply, HandleNumber, LoadAnswer, LoadNumber, LoadReply, Machine, MachineCall,
-    MachineEvent, PagableData, Reply,
+    Beginning, Error, EventReply, HandleNumber, LoadAnswer, LoadNumber, LoadReply, Machine,
+    MachineCall, MachineEvent, PagableData, Reply,
 };
 use pagable_samples::{TextNode, paging};
 use std::alloc::{AllocError, Global};
@@ -109,7 +109,7 @@ fn moved(reply: LoadReply<TextNode>) -> Told {
 }
 
 /// What an event told.
-fn told(reply: EventReply<TextNode, Arc<PagableData>, ()>) -> Told {
+fn told_by(reply: EventReply<TextNode, Arc<PagableData>, ()>) -> Told {
     match reply {
         EventReply::Started(Ok(Beginning::Load(_, _))) => Told::Begun,
         EventReply::LoadMoved(Ok(step)) => moved(step),
@@ -136,7 +136,7 @@ fn run_on_paged_out(
     let mut machine = Machine::new(alloc, pager);
     if let Ok(replies) = machine.run(alloc, events) {
         for reply in replies {
-            answers.push(told(reply))?;
+            answers.push(told_by(reply))?;
         }
     }
     Ok(answers)
@@ -206,6 +206,9 @@ fn a_load_whose_fetch_fails_is_closed(rt: HostRuntime) -> Result<(), Fail> {
         Told::GoesOn(1),
         Told::Pinned(2),
     ]?;
-    assert!(rt; told == expected, "the second load finds what the first didn't");
+    assert!(rt;
+        told == expected,
+        "the second load finds what the first didn't"
+    );
     Ok(())
 }

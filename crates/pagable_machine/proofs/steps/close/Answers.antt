@@ -1,7 +1,7 @@
 use Rattle.pagable_model.specs.Blob.{key_of}
-use Rattle.pagable_machine.proofs.Sights.{values-by, machine-by, events-by}
+use Rattle.pagable_machine.proofs.Sights.{values-by, machine-by}
 use Rattle.pagable_machine.proofs.Closing.{drop-closes, leads}
-use Rattle.pagable_world.specs.TodayTrees.{Always, ReadFits}
+use Rattle.pagable_world.specs.TodayTrees.{Always}
 use Rattle.pagable_world.specs.Calls.{Dropped}
 use Rattle.pagable_machine.proofs.steps.close.Goals as goal
 

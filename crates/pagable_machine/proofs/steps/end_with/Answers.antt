@@ -1,7 +1,7 @@
 use Rattle.pagable_model.specs.Blob.{key_of}
-use Rattle.pagable_machine.proofs.Sights.{values-by, machine-by, events-by}
+use Rattle.pagable_machine.proofs.Sights.{values-by, machine-by}
 use Rattle.pagable_machine.proofs.Closing.{closed-ends, open-ends, leads}
-use Rattle.pagable_world.specs.TodayTrees.{Always, ReadFits}
+use Rattle.pagable_world.specs.TodayTrees.{ReadFits}
 use Rattle.std.proofs.Common.{rules}
 use Rattle.pagable_world.specs.LoadEnds.{EndedAs}
 use Rattle.pagable_machine.proofs.steps.end_with.Goals as goal

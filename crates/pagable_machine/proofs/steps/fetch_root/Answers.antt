@@ -1,6 +1,6 @@
 use Rattle.pagable_model.specs.Blob.{key_of}
 use Rattle.std.proofs.Common.{◌≡◌}
-use Rattle.pagable_machine.proofs.Sights.{values-by, machine-by, events-by}
+use Rattle.pagable_machine.proofs.Sights.{values-by, machine-by}
 use Rattle.pagable_machine.proofs.Closing.{fetch-gives, fetch-closes, leads, leads-on}
 use Rattle.pagable_world.specs.TodayTrees.{Always}
 use Rattle.pagable_machine.proofs.steps.fetch_root.Goals as goal

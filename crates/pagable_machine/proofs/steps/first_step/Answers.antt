@@ -1,7 +1,7 @@
 use Rattle.pagable_model.specs.Blob.{key_of}
 use Rattle.pagable_machine.proofs.Sights.{values-by, machine-by, events-by}
 use Rattle.pagable_machine.proofs.Closing.{full-closes, fetch-refused, root-kept, kept-more}
-use Rattle.std.proofs.Common.{map, ap, ◌∙◌, ◌++◌, ◌∷◌, []}
+use Rattle.std.proofs.Common.{map, ap}
 use Rattle.pagable_machine.specs.Rows.{fetched_of}
 use Rattle.pagable_machine.proofs.steps.first_step.Goals as goal
 

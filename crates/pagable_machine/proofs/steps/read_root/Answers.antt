@@ -1,5 +1,3 @@
-use Rattle.pagable_model.specs.Blob.{key_of}
-use Rattle.pagable_machine.proofs.Sights.{values-by, machine-by, events-by}
 use Rattle.pagable_machine.proofs.steps.read_root.Goals as goal
 
 pub returns-clause-tree : goal.returns-clause-tree

@@ -1,10 +1,9 @@
 use Rattle.pagable_model.specs.Blob.{key_of}
 use Rattle.pagable_machine.proofs.Sights.{values-by, machine-by, events-by}
-use Rattle.std.proofs.Common.{◌≡◌, map, ap, sym, ◌∙◌, rules, IfOk}
+use Rattle.std.proofs.Common.{map, IfOk}
 use Rattle.pagable_machine.specs.Rows.{fetched_of}
-use Rattle.pagable_machine.specs.declared.fetched.FetchedBlob.{FetchedBlob}
 use Rattle.pagable_machine.proofs.Closing.{leads-anyway}
-use Rattle.pagable_world.specs.TodayTrees.{Always, ReadFits}
+use Rattle.pagable_world.specs.TodayTrees.{ReadFits}
 use Rattle.pagable_machine.proofs.Ending.{kept-at, row-number, fits-here, second-does, read-means, same-load}
 use Rattle.pagable_machine.proofs.steps.second_step.Goals as goal
 
