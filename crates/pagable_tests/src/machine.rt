@@ -100,10 +100,11 @@ enum Told {
 
 /// What a load's step told.
 fn moved(reply: LoadReply<TextNode>) -> Told {
-    match reply.ended {
-        None => Told::GoesOn(reply.steps),
-        Some(LoadAnswer::Pinned(_)) => Told::Pinned(reply.steps),
-        Some(LoadAnswer::Refused(e)) => Told::Refused(e, reply.steps),
+    let LoadReply { ended, steps } = reply;
+    match ended {
+        None => Told::GoesOn(steps),
+        Some(LoadAnswer::Pinned(_)) => Told::Pinned(steps),
+        Some(LoadAnswer::Refused(e)) => Told::Refused(e, steps),
         Some(LoadAnswer::Read(_)) => Told::Other,
     }
 }
