@@ -8,7 +8,9 @@ pub use pagable_core::{
     PagableStorage, References, SerializedData, SerializerForPaging, WeighHash,
 };
 pub use pagable_flavors::{DataKey, Error, OptionalDataKey, PagableSlice, PagableVecFlavor};
-pub use pagable_machine::{Found, Machine, MachineCall, Reply};
+pub use pagable_machine::{
+    EventReply, Found, LoadAnswer, LoadReply, Machine, MachineCall, MachineEvent, Reply,
+};
 pub use pagable_model::{
     ArcRef, HandleNumber, Identity, Kind, LoadNumber, NodeNumber, PagableCursor, WorkerNumber,
 };

@@ -1,4 +1,10 @@
 pub mod Leading
+pub mod Alone
+pub mod Sights
+pub mod Loads
+pub mod Closing
+pub mod Ending
+pub mod Fits
+pub mod Moving
 pub mod Running
 pub mod Pins
-pub mod Alone

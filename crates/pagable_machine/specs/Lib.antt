@@ -1,2 +1,4 @@
 pub mod Laws
 pub mod Reading
+pub mod Rows
+pub mod Moves

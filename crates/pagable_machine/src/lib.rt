@@ -1,10 +1,16 @@
-//! The machine: a pager that is driven by lists of calls, each of them a step of the plain world.
+//! The machine: a pager that is driven by lists of events, each of them a step of the plain world.
 #![tactic(auto)]
 
+mod events;
+mod fetched;
 pub mod laws;
+mod list;
 pub mod machine;
 mod reading;
 mod single;
+mod steps;
 
 pub use machine::Machine;
-pub use pagable_world::{Found, MachineCall, Reply};
+pub use pagable_world::{
+    EventReply, Found, LoadAnswer, LoadReply, MachineCall, MachineEvent, Reply,
+};

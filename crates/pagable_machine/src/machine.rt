@@ -1,100 +1,108 @@
-//! A pager that is driven by lists of calls.
+//! A pager that is driven by lists of events.
 
-ghost use Rattle.std.specs.Prelude.{◌≡◌, ◌<◌, ◌≤◌, ◌+◌, ◌++◌, ◌∷◌, [], IfOk, IfErr, OnErr, vec_len};
-ghost use Rattle.std.specs.Vec.{vec_capacity};
+ghost use Rattle.std.specs.Prelude.{◌≡◌, [], IfOk, IfErr, OnErr};
 ghost use Rattle.std.specs.Arc.{arc_value};
 ghost use Rattle.pagable_model.specs.Blob.{key_of};
 ghost use Rattle.pagable_core.specs.Data.{blob_of};
 ghost use Rattle.pagable_world.specs.MachineRuns.{HasRun};
 
-use crate::single;
+use crate::events;
+use crate::fetched::FetchedBlob;
+use crate::list::put;
 use pagable_codec::{Env, NodeSet};
 use pagable_core::{PagableData, PagableStorage};
 use pagable_flavors::Error;
 use pagable_pager::Pager;
-use pagable_world::{MachineCall, Reply};
+use pagable_world::{EventReply, MachineEvent};
 use std::alloc::Global;
 use std::collections::VecDeque;
 use std::marker::Model;
 use std::sync::Arc;
 
-/// A pager that takes lists of calls, and is seen as its pager is.
+/// A pager that takes lists of events, and the open loads that have got the blob of their root. Each of these is open, has
+/// made one step, and got what stands under its key.
 #[derive(Drop)]
 pub struct Machine<E: Env, S: PagableStorage<E>>
 where
     E::Node: NodeSet<E>,
 {
     pager: Pager<E, S>,
+    fetched: Vec<FetchedBlob>,
 }
 
 impl<E: Env, S: PagableStorage<E>> Model for Machine<E, S>
 where
     E::Node: NodeSet<E>,
 {
-    ghost use Rattle.pagable_world.specs.Shown.{Shown};
+    ghost use Rattle.std.specs.Prelude.{All, map};
+    ghost use Rattle.std.specs.Arc.{arc_value};
+    ghost use Rattle.pagable_model.specs.Blob.{key_of};
+    ghost use Rattle.pagable_core.specs.Data.{blob_of};
+    ghost use Rattle.std.specs.Global.{Global};
+    ghost use Rattle.std.specs.declared.sync.Arc.{Arc};
+    ghost use Rattle.pagable_core.specs.declared.storage.data.PagableData.{PagableData};
+    ghost use Rattle.pagable_world.specs.LoadMoves.{Driven};
+    ghost use Rattle.pagable_world.specs.MachineRuns.{FetchedFits};
+    ghost use Rattle.pagable_machine.specs.Rows.{fetched_of};
 
-    ghost Value = { Shown E.Node S E };
+    ghost Value = { Driven E.Node S E };
 
-    ghost view = { λ m. m.pager };
+    ghost view = { λ m. record { pager = m.pager; fetched = map fetched_of m.fetched.items } };
+
+    ghost invariant = { λ m. All (FetchedFits (record { machine = record { sight = record { type_of = E.Node.type_of; means = E.Node.means; shape_of = E.Node.shape_of; parts = E.parts; stored = S.stored }; references = E.Node.refs_of; digest = key_of E.Hash.digest; blob_of = blob_of; found = λ (b : Arc PagableData Global). blob_of (arc_value b); is_closed = S.is_closed; failed = S.failed }; read_causes = E.Node.read_causes }) m.pager) (map fetched_of m.fetched.items) };
 }
 
 impl<E: Env, S: PagableStorage<E>> Machine<E, S>
 where
     E::Node: NodeSet<E>,
 {
-    /// A machine over a pager, as it stands.
-    pub fn new(pager: Pager<E, S>) -> Machine<E, S>
-        ensures { result ≡ pager }
+    /// A machine over a pager, as it stands. It takes no memory. A load that is open in the pager goes on by the machine's
+    /// steps, as one that it began itself.
+    pub fn new(alloc: Global, pager: Pager<E, S>) -> Machine<E, S>
+        ensures pager { result.pager ≡ pager }
+        ensures fetched { result.fetched ≡ [] }
     {
-        Machine { pager }
+        Machine {
+            pager,
+            fetched: Vec::new(alloc),
+        }
     }
 
     /// The pager, to look at its values between two runs.
     pub fn pager(&self) -> &Pager<E, S>
-        ensures { result.now ≡ self.now }
+        ensures { result.now ≡ self.now.pager }
     {
         &self.pager
     }
 
-    /// Makes the calls in their order, and answers one reply for each. Where there is no memory for the replies, nothing
-    /// is done, and OutOfMemory comes back with the calls.
+    /// Does the events in their order, and answers one reply for each. Where there is no memory for the replies, nothing
+    /// is done, and OutOfMemory comes back with the events.
     ///
-    /// Replies and pagers are a run of the plain world: each call is one step of it, after each the tables are whole and a
-    /// value is in memory exactly while its node is pinned or has no key, and counts are numbers of pinning handles. From
+    /// Replies and machines are a run of the plain world: each event is one step of it, after each the tables are whole and
+    /// a value is in memory exactly while its node is pinned or has no key, and counts are numbers of pinning handles. From
     /// each world with trees that the pager stood for, the run leads on through worlds in which every node keeps its tree,
-    /// as long as keys that are set or given, and values that are given to loads, are what the call asks for.
+    /// as long as keys that are set or given, and values that are handed to the end of a load, are what the call asks for.
+    /// A load that the machine reads by steps asks nothing.
     pub fn run(
         &mut self,
         alloc: Global,
-        calls: Vec<MachineCall<E::Node, PagableData>>,
+        events: Vec<MachineEvent<E::Node, PagableData>>,
     ) -> Result<
-        Vec<Reply<E::Node, Arc<PagableData>>>,
-        (Error, Vec<MachineCall<E::Node, PagableData>>),
+        Vec<EventReply<E::Node, Arc<PagableData>, ()>>,
+        (Error, Vec<MachineEvent<E::Node, PagableData>>),
     >
-        ensures run { IfOk result (λ replies. HasRun (record { sight = record { type_of = E.Node.type_of; means = E.Node.means; shape_of = E.Node.shape_of; parts = E.parts; stored = S.stored }; references = E.Node.refs_of; digest = key_of E.Hash.digest; blob_of = blob_of; found = λ (b : Arc PagableData Global). blob_of (arc_value b); is_closed = S.is_closed; failed = S.failed }) self.old calls.items replies.items self.new) }
+        ensures run { IfOk result (λ replies. HasRun (record { machine = record { sight = record { type_of = E.Node.type_of; means = E.Node.means; shape_of = E.Node.shape_of; parts = E.parts; stored = S.stored }; references = E.Node.refs_of; digest = key_of E.Hash.digest; blob_of = blob_of; found = λ (b : Arc PagableData Global). blob_of (arc_value b); is_closed = S.is_closed; failed = S.failed }; read_causes = E.Node.read_causes }) self.old events.items replies.items self.new) }
         ensures nothing { OnErr result (self.new ≡ self.old) }
-        ensures back { IfErr result (λ e. (e.0 ≡ Error.OutOfMemory) × (e.1 ≡ calls)) }
+        ensures back { IfErr result (λ e. (e.0 ≡ Error.OutOfMemory) × (e.1 ≡ events)) }
     {
-        let Ok(mut replies) = Vec::with_capacity(alloc, calls.len()) else {
-            return Err((Error::OutOfMemory, calls));
+        let Ok(mut replies) = Vec::with_capacity(alloc, events.len()) else {
+            return Err((Error::OutOfMemory, events));
         };
-        let mut rest = VecDeque::from_vec(calls);
-        while let Some(call) = rest.pop_front() {
-            let reply = single::apply(&mut self.pager, alloc, call);
+        let mut rest = VecDeque::from_vec(events);
+        while let Some(event) = rest.pop_front() {
+            let reply = events::apply(&mut self.pager, &mut self.fetched, alloc, event);
             put(&mut replies, reply);
         }
         Ok(replies)
-    }
-}
-
-// Adds an item where there is room for it.
-fn put<T: Drop>(list: &mut Vec<T>, item: T)
-    requires { vec_len list.old < vec_capacity list.old }
-    ensures items { list.new.items ≡ list.old.items ++ item ∷ [] }
-    ensures len { vec_len list.new ≡ vec_len list.old + 1 }
-    ensures room { vec_capacity list.old ≤ vec_capacity list.new }
-{
-    if list.push(item).is_err() {
-        unreachable!();
     }
 }

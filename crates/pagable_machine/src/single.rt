@@ -1,12 +1,16 @@
 //! Each call of the pager as the machine makes it: a step of the plain world, with a reply of the call's type.
 
-ghost use Rattle.std.specs.Prelude.{◌≡◌};
+ghost use Rattle.std.specs.Prelude.{◌≡◌, map};
 ghost use Rattle.std.specs.Arc.{arc_value};
 ghost use Rattle.pagable_model.specs.Blob.{key_of};
 ghost use Rattle.pagable_core.specs.Data.{blob_of};
 ghost use Rattle.pagable_world.specs.MachineSteps.{CallDoes, world_of};
+ghost use Rattle.pagable_world.specs.MachineEvents.{fetched_after};
 ghost use Rattle.pagable_world.specs.MachineRuns.{IsWholeToday, LeadsOn};
+ghost use Rattle.pagable_machine.specs.Rows.{ended_by, fetched_of};
 
+use crate::fetched;
+use crate::fetched::FetchedBlob;
 use either::Either;
 use pagable_codec::{Env, NodeSet};
 use pagable_core::{PagableData, PagableStorage};
@@ -269,9 +273,35 @@ where
     Reply::Begun(pager.load_begin(handle))
 }
 
-// A load ends.
+// Whether the end of a load has closed it: the value comes back exactly where it stays open.
+fn has_ended<N: Drop>(outcome: &Result<HandleNumber, (Error, Option<N>)>) -> bool
+    ensures { result ≡ ended_by outcome.now }
+{
+    match outcome {
+        Ok(_) => true,
+        Err((_, left)) => left.is_none(),
+    }
+}
+
+// The end of a load.
+fn end_load<E: Env, S: PagableStorage<E>>(
+    pager: &mut Pager<E, S>,
+    alloc: Global,
+    load: LoadNumber,
+    node: E::Node,
+) -> Result<HandleNumber, (Error, Option<E::Node>)>
+where
+    E::Node: NodeSet<E>,
+    ensures does { CallDoes (record { sight = record { type_of = E.Node.type_of; means = E.Node.means; shape_of = E.Node.shape_of; parts = E.parts; stored = S.stored }; references = E.Node.refs_of; digest = key_of E.Hash.digest; blob_of = blob_of; found = λ (b : Arc PagableData Global). blob_of (arc_value b); is_closed = S.is_closed; failed = S.failed }) (world_of (record { sight = record { type_of = E.Node.type_of; means = E.Node.means; shape_of = E.Node.shape_of; parts = E.parts; stored = S.stored }; references = E.Node.refs_of; digest = key_of E.Hash.digest; blob_of = blob_of; found = λ (b : Arc PagableData Global). blob_of (arc_value b); is_closed = S.is_closed; failed = S.failed }) pager.old) (MachineCall.LoadEnd load node) (Reply.LoadEnded result) (world_of (record { sight = record { type_of = E.Node.type_of; means = E.Node.means; shape_of = E.Node.shape_of; parts = E.parts; stored = S.stored }; references = E.Node.refs_of; digest = key_of E.Hash.digest; blob_of = blob_of; found = λ (b : Arc PagableData Global). blob_of (arc_value b); is_closed = S.is_closed; failed = S.failed }) pager.new) }
+    ensures leads { LeadsOn (record { sight = record { type_of = E.Node.type_of; means = E.Node.means; shape_of = E.Node.shape_of; parts = E.parts; stored = S.stored }; references = E.Node.refs_of; digest = key_of E.Hash.digest; blob_of = blob_of; found = λ (b : Arc PagableData Global). blob_of (arc_value b); is_closed = S.is_closed; failed = S.failed }) pager.old (MachineCall.LoadEnd load node) (Reply.LoadEnded result) pager.new }
+{
+    pager.load_end(alloc, load, node)
+}
+
+// A load ends, and is forgotten where that has closed it.
 fn load_end<E: Env, S: PagableStorage<E>>(
     pager: &mut Pager<E, S>,
+    fetched: &mut Vec<FetchedBlob>,
     alloc: Global,
     load: LoadNumber,
     node: E::Node,
@@ -280,21 +310,30 @@ where
     E::Node: NodeSet<E>,
     ensures does { CallDoes (record { sight = record { type_of = E.Node.type_of; means = E.Node.means; shape_of = E.Node.shape_of; parts = E.parts; stored = S.stored }; references = E.Node.refs_of; digest = key_of E.Hash.digest; blob_of = blob_of; found = λ (b : Arc PagableData Global). blob_of (arc_value b); is_closed = S.is_closed; failed = S.failed }) (world_of (record { sight = record { type_of = E.Node.type_of; means = E.Node.means; shape_of = E.Node.shape_of; parts = E.parts; stored = S.stored }; references = E.Node.refs_of; digest = key_of E.Hash.digest; blob_of = blob_of; found = λ (b : Arc PagableData Global). blob_of (arc_value b); is_closed = S.is_closed; failed = S.failed }) pager.old) (MachineCall.LoadEnd load node) result (world_of (record { sight = record { type_of = E.Node.type_of; means = E.Node.means; shape_of = E.Node.shape_of; parts = E.parts; stored = S.stored }; references = E.Node.refs_of; digest = key_of E.Hash.digest; blob_of = blob_of; found = λ (b : Arc PagableData Global). blob_of (arc_value b); is_closed = S.is_closed; failed = S.failed }) pager.new) }
     ensures leads { LeadsOn (record { sight = record { type_of = E.Node.type_of; means = E.Node.means; shape_of = E.Node.shape_of; parts = E.parts; stored = S.stored }; references = E.Node.refs_of; digest = key_of E.Hash.digest; blob_of = blob_of; found = λ (b : Arc PagableData Global). blob_of (arc_value b); is_closed = S.is_closed; failed = S.failed }) pager.old (MachineCall.LoadEnd load node) result pager.new }
+    ensures forgets { map fetched_of fetched.new.items ≡ fetched_after {B = PagableData} (MachineCall.LoadEnd load node) result (map fetched_of fetched.old.items) }
 {
-    Reply::LoadEnded(pager.load_end(alloc, load, node))
+    let outcome = end_load(pager, alloc, load, node);
+    let is_closed = has_ended(&outcome);
+    fetched::forget_if(fetched, load, is_closed);
+    Reply::LoadEnded(outcome)
 }
 
-// A load is given up.
+// A load is given up, and is forgotten.
 fn load_drop<E: Env, S: PagableStorage<E>>(
     pager: &mut Pager<E, S>,
+    fetched: &mut Vec<FetchedBlob>,
     load: LoadNumber,
 ) -> Reply<E::Node, Arc<PagableData>>
 where
     E::Node: NodeSet<E>,
     ensures does { CallDoes (record { sight = record { type_of = E.Node.type_of; means = E.Node.means; shape_of = E.Node.shape_of; parts = E.parts; stored = S.stored }; references = E.Node.refs_of; digest = key_of E.Hash.digest; blob_of = blob_of; found = λ (b : Arc PagableData Global). blob_of (arc_value b); is_closed = S.is_closed; failed = S.failed }) (world_of (record { sight = record { type_of = E.Node.type_of; means = E.Node.means; shape_of = E.Node.shape_of; parts = E.parts; stored = S.stored }; references = E.Node.refs_of; digest = key_of E.Hash.digest; blob_of = blob_of; found = λ (b : Arc PagableData Global). blob_of (arc_value b); is_closed = S.is_closed; failed = S.failed }) pager.old) (MachineCall.LoadDrop load) result (world_of (record { sight = record { type_of = E.Node.type_of; means = E.Node.means; shape_of = E.Node.shape_of; parts = E.parts; stored = S.stored }; references = E.Node.refs_of; digest = key_of E.Hash.digest; blob_of = blob_of; found = λ (b : Arc PagableData Global). blob_of (arc_value b); is_closed = S.is_closed; failed = S.failed }) pager.new) }
     ensures leads { LeadsOn (record { sight = record { type_of = E.Node.type_of; means = E.Node.means; shape_of = E.Node.shape_of; parts = E.parts; stored = S.stored }; references = E.Node.refs_of; digest = key_of E.Hash.digest; blob_of = blob_of; found = λ (b : Arc PagableData Global). blob_of (arc_value b); is_closed = S.is_closed; failed = S.failed }) pager.old (MachineCall.LoadDrop load) result pager.new }
+    ensures forgets { map fetched_of fetched.new.items ≡ fetched_after {B = PagableData} (MachineCall.LoadDrop load) result (map fetched_of fetched.old.items) }
 {
-    Reply::Done(pager.load_drop(load))
+    let outcome = pager.load_drop(load);
+    let is_closed = outcome.is_ok();
+    fetched::forget_if(fetched, load, is_closed);
+    Reply::Done(outcome)
 }
 
 // The blob of a load's root.
@@ -318,6 +357,7 @@ where
 // Makes the call.
 fn dispatch<E: Env, S: PagableStorage<E>>(
     pager: &mut Pager<E, S>,
+    fetched: &mut Vec<FetchedBlob>,
     alloc: Global,
     call: MachineCall<E::Node, PagableData>,
 ) -> Reply<E::Node, Arc<PagableData>>
@@ -325,6 +365,7 @@ where
     E::Node: NodeSet<E>,
     ensures does { CallDoes (record { sight = record { type_of = E.Node.type_of; means = E.Node.means; shape_of = E.Node.shape_of; parts = E.parts; stored = S.stored }; references = E.Node.refs_of; digest = key_of E.Hash.digest; blob_of = blob_of; found = λ (b : Arc PagableData Global). blob_of (arc_value b); is_closed = S.is_closed; failed = S.failed }) (world_of (record { sight = record { type_of = E.Node.type_of; means = E.Node.means; shape_of = E.Node.shape_of; parts = E.parts; stored = S.stored }; references = E.Node.refs_of; digest = key_of E.Hash.digest; blob_of = blob_of; found = λ (b : Arc PagableData Global). blob_of (arc_value b); is_closed = S.is_closed; failed = S.failed }) pager.old) (call) result (world_of (record { sight = record { type_of = E.Node.type_of; means = E.Node.means; shape_of = E.Node.shape_of; parts = E.parts; stored = S.stored }; references = E.Node.refs_of; digest = key_of E.Hash.digest; blob_of = blob_of; found = λ (b : Arc PagableData Global). blob_of (arc_value b); is_closed = S.is_closed; failed = S.failed }) pager.new) }
     ensures leads { LeadsOn (record { sight = record { type_of = E.Node.type_of; means = E.Node.means; shape_of = E.Node.shape_of; parts = E.parts; stored = S.stored }; references = E.Node.refs_of; digest = key_of E.Hash.digest; blob_of = blob_of; found = λ (b : Arc PagableData Global). blob_of (arc_value b); is_closed = S.is_closed; failed = S.failed }) pager.old (call) result pager.new }
+    ensures forgets { map fetched_of fetched.new.items ≡ fetched_after call result (map fetched_of fetched.old.items) }
 {
     match call {
         MachineCall::NewLoose(node) => new_loose(pager, alloc, node),
@@ -346,15 +387,17 @@ where
         MachineCall::Fetch(key) => fetch(pager, alloc, key),
         MachineCall::Store(blob) => store(pager, alloc, blob),
         MachineCall::LoadBegin(handle) => load_begin(pager, handle),
-        MachineCall::LoadEnd(load, node) => load_end(pager, alloc, load, node),
-        MachineCall::LoadDrop(load) => load_drop(pager, load),
+        MachineCall::LoadEnd(load, node) => load_end(pager, fetched, alloc, load, node),
+        MachineCall::LoadDrop(load) => load_drop(pager, fetched, load),
         MachineCall::LoadFetch(load) => load_fetch(pager, alloc, load),
     }
 }
 
-/// Makes the call, and answers what the pager answers. The pager is whole afterwards.
+/// Makes the call, and answers what the pager answers. The pager is whole afterwards, and a load that was closed by it is
+/// forgotten.
 pub fn apply<E: Env, S: PagableStorage<E>>(
     pager: &mut Pager<E, S>,
+    fetched: &mut Vec<FetchedBlob>,
     alloc: Global,
     call: MachineCall<E::Node, PagableData>,
 ) -> Reply<E::Node, Arc<PagableData>>
@@ -363,8 +406,9 @@ where
     ensures does { CallDoes (record { sight = record { type_of = E.Node.type_of; means = E.Node.means; shape_of = E.Node.shape_of; parts = E.parts; stored = S.stored }; references = E.Node.refs_of; digest = key_of E.Hash.digest; blob_of = blob_of; found = λ (b : Arc PagableData Global). blob_of (arc_value b); is_closed = S.is_closed; failed = S.failed }) (world_of (record { sight = record { type_of = E.Node.type_of; means = E.Node.means; shape_of = E.Node.shape_of; parts = E.parts; stored = S.stored }; references = E.Node.refs_of; digest = key_of E.Hash.digest; blob_of = blob_of; found = λ (b : Arc PagableData Global). blob_of (arc_value b); is_closed = S.is_closed; failed = S.failed }) pager.old) (call) result (world_of (record { sight = record { type_of = E.Node.type_of; means = E.Node.means; shape_of = E.Node.shape_of; parts = E.parts; stored = S.stored }; references = E.Node.refs_of; digest = key_of E.Hash.digest; blob_of = blob_of; found = λ (b : Arc PagableData Global). blob_of (arc_value b); is_closed = S.is_closed; failed = S.failed }) pager.new) }
     ensures leads { LeadsOn (record { sight = record { type_of = E.Node.type_of; means = E.Node.means; shape_of = E.Node.shape_of; parts = E.parts; stored = S.stored }; references = E.Node.refs_of; digest = key_of E.Hash.digest; blob_of = blob_of; found = λ (b : Arc PagableData Global). blob_of (arc_value b); is_closed = S.is_closed; failed = S.failed }) pager.old (call) result pager.new }
     ensures whole { IsWholeToday (record { sight = record { type_of = E.Node.type_of; means = E.Node.means; shape_of = E.Node.shape_of; parts = E.parts; stored = S.stored }; references = E.Node.refs_of; digest = key_of E.Hash.digest; blob_of = blob_of; found = λ (b : Arc PagableData Global). blob_of (arc_value b); is_closed = S.is_closed; failed = S.failed }) pager.new }
+    ensures forgets { map fetched_of fetched.new.items ≡ fetched_after call result (map fetched_of fetched.old.items) }
 {
-    let reply = dispatch(pager, alloc, call);
+    let reply = dispatch(pager, fetched, alloc, call);
     pager.is_whole();
     reply
 }

@@ -1,9 +1,12 @@
-//! Lists of calls on a machine of texts. Numbers of handles are worked out by hand: they count from 1, and an entry of the
+//! Lists of events on a machine of texts. Numbers of handles are worked out by hand: they count from 1, and an entry of the
 //! list has a handle of its own.
 
 use crate::calls::empty;
-use pagable::{HandleNumber, Machine, MachineCall, PagableData, Reply};
-use pagable_samples::TextNode;
+use pagable::{
+    Beginning, Error, EventReply, HandleNumber, LoadAnswer, LoadNumber, LoadReply, Machine,
+    MachineCall, MachineEvent, PagableData, Reply,
+};
+use pagable_samples::{TextNode, paging};
 use std::alloc::{AllocError, Global};
 use std::sync::Arc;
 use std::test::Fail;
@@ -20,57 +23,48 @@ const PIN: HandleNumber = HandleNumber(5);
 /// What a run answered of counts and lengths, in their order.
 fn numbers(
     alloc: Global,
-    replies: &[Reply<TextNode, Arc<PagableData>>],
+    replies: Vec<EventReply<TextNode, Arc<PagableData>, ()>>,
 ) -> Result<Vec<u64>, AllocError> {
     let mut numbers = Vec::new(alloc);
     for reply in replies {
         match reply {
-            Reply::Count(Ok(count)) => numbers.push(*count)?,
-            Reply::Length(length) => numbers.push(*length)?,
+            EventReply::CallReply(Reply::Count(Ok(count))) => numbers.push(count)?,
+            EventReply::CallReply(Reply::Length(length)) => numbers.push(length)?,
             _ => {}
         }
     }
     Ok(numbers)
 }
 
-/// The calls of the run.
-fn calls(
-    alloc: Global,
-    node: TextNode,
-) -> Result<Vec<MachineCall<TextNode, PagableData>>, AllocError> {
-    let calls = vec![in alloc;
-        MachineCall::NewPinned(node),
-        MachineCall::Clone(FIRST),
-        MachineCall::IntoPagable(LOOSE),
-        MachineCall::Count(LOOSE),
-        MachineCall::Unpin(LOOSE),
-        MachineCall::Count(LOOSE),
-        MachineCall::Release(FIRST),
-        MachineCall::Count(LOOSE),
-        MachineCall::Pending,
-        MachineCall::Clone(LOOSE),
-        MachineCall::Count(LOOSE),
-        MachineCall::Pin(CLONE),
-        MachineCall::Count(LOOSE),
-        MachineCall::Release(PIN),
-        MachineCall::Count(LOOSE),
-        MachineCall::Release(CLONE),
-        MachineCall::Count(LOOSE),
-        MachineCall::Pending,
-    ]?;
-    Ok(calls)
-}
-
 #[test]
 fn clones_and_pins_are_counted(rt: HostRuntime) -> Result<(), Fail> {
     let alloc = rt.alloc();
-    let mut machine = Machine::new(empty(alloc, u64::MAX));
-    let calls = calls(alloc, TextNode::new(alloc, "x")?)?;
-    let made = calls.len();
-    match machine.run(alloc, calls) {
+    let mut machine = Machine::new(alloc, empty(alloc, u64::MAX));
+    let events = vec![in alloc;
+        MachineEvent::Call(MachineCall::NewPinned(TextNode::new(alloc, "x")?)),
+        MachineEvent::Call(MachineCall::Clone(FIRST)),
+        MachineEvent::Call(MachineCall::IntoPagable(LOOSE)),
+        MachineEvent::Call(MachineCall::Count(LOOSE)),
+        MachineEvent::Call(MachineCall::Unpin(LOOSE)),
+        MachineEvent::Call(MachineCall::Count(LOOSE)),
+        MachineEvent::Call(MachineCall::Release(FIRST)),
+        MachineEvent::Call(MachineCall::Count(LOOSE)),
+        MachineEvent::Call(MachineCall::Pending),
+        MachineEvent::Call(MachineCall::Clone(LOOSE)),
+        MachineEvent::Call(MachineCall::Count(LOOSE)),
+        MachineEvent::Call(MachineCall::Pin(CLONE)),
+        MachineEvent::Call(MachineCall::Count(LOOSE)),
+        MachineEvent::Call(MachineCall::Release(PIN)),
+        MachineEvent::Call(MachineCall::Count(LOOSE)),
+        MachineEvent::Call(MachineCall::Release(CLONE)),
+        MachineEvent::Call(MachineCall::Count(LOOSE)),
+        MachineEvent::Call(MachineCall::Pending),
+    ]?;
+    let made = events.len();
+    match machine.run(alloc, events) {
         Ok(replies) => {
-            assert!(rt; replies.len() == made, "a reply for each call");
-            let numbers = numbers(alloc, replies.as_slice())?;
+            assert!(rt; replies.len() == made, "a reply for each event");
+            let numbers = numbers(alloc, replies)?;
             assert!(rt;
                 numbers.as_slice() == [2, 1, 0, 1, 0, 2, 1, 0, 2].as_slice(),
                 "counts"
@@ -79,5 +73,143 @@ fn clones_and_pins_are_counted(rt: HostRuntime) -> Result<(), Fail> {
         Err(_) => assert!(rt; false, "there is memory for the replies"),
     }
     assert!(rt; machine.pager().pending() == 2, "two entries");
+    Ok(())
+}
+
+/// The first load of a pager.
+const LOAD: LoadNumber = LoadNumber(1);
+
+/// What an event told.
+#[derive(PartialEq, Drop)]
+enum Told {
+    /// A load has begun.
+    Begun,
+    /// The load goes on, and has made this many steps.
+    GoesOn(u64),
+    /// The load ended with a pin.
+    Pinned(u64),
+    /// The load was refused and closed.
+    Refused(Error, u64),
+    /// There is no such load, and nothing is counted.
+    NotOpen(Error),
+    /// How many handles pin the node.
+    Count(u64),
+    /// Anything else.
+    Other,
+}
+
+/// What a load's step told.
+fn moved(reply: LoadReply<TextNode>) -> Told {
+    let LoadReply { ended, steps } = reply;
+    match ended {
+        None => Told::GoesOn(steps),
+        Some(LoadAnswer::Pinned(_)) => Told::Pinned(steps),
+        Some(LoadAnswer::Refused(e)) => Told::Refused(e, steps),
+        Some(LoadAnswer::Read(_)) => Told::Other,
+    }
+}
+
+/// What an event told.
+fn told_by(reply: EventReply<TextNode, Arc<PagableData>, ()>) -> Told {
+    match reply {
+        EventReply::Started(Ok(Beginning::Load(_, _))) => Told::Begun,
+        EventReply::LoadMoved(Ok(step)) => moved(step),
+        EventReply::LoadMoved(Err(e)) => Told::NotOpen(e),
+        EventReply::CallReply(Reply::Count(Ok(count))) => Told::Count(count),
+        _ => Told::Other,
+    }
+}
+
+/// What the events tell on a machine with one cell, which is paged out, and whose storage fails once, after so many calls.
+fn run_on_paged_out(
+    alloc: Global,
+    calls_before: u64,
+    events: Vec<MachineEvent<TextNode, PagableData>>,
+) -> Result<Vec<Told>, Fail> {
+    let mut pager = empty(alloc, calls_before);
+    let mut answers = Vec::new(alloc);
+    let Ok(first) = pager.new_loose(alloc, TextNode::new(alloc, "x")?) else {
+        return Ok(answers);
+    };
+    if pager.unpin(first).is_err() || paging::page_out_pending(alloc, &mut pager).is_err() {
+        return Ok(answers);
+    }
+    let mut machine = Machine::new(alloc, pager);
+    if let Ok(replies) = machine.run(alloc, events) {
+        for reply in replies {
+            answers.push(told_by(reply))?;
+        }
+    }
+    Ok(answers)
+}
+
+#[test]
+fn a_load_ends_by_its_second_step(rt: HostRuntime) -> Result<(), Fail> {
+    let alloc = rt.alloc();
+    let events = vec![in alloc;
+        MachineEvent::LoadStart(FIRST),
+        MachineEvent::LoadStep(LOAD),
+        MachineEvent::LoadStep(LOAD),
+        MachineEvent::Call(MachineCall::Count(FIRST)),
+        MachineEvent::LoadStep(LOAD),
+    ]?;
+    let told = run_on_paged_out(alloc, u64::MAX, events)?;
+    let expected = vec![in alloc;
+        Told::Begun,
+        Told::GoesOn(1),
+        Told::Pinned(2),
+        Told::Count(2),
+        Told::NotOpen(Error::NoSuchHandle),
+    ]?;
+    assert!(rt; told == expected, "a fetch, and then a pin");
+    Ok(())
+}
+
+#[test]
+fn a_load_without_its_handle_is_closed(rt: HostRuntime) -> Result<(), Fail> {
+    let alloc = rt.alloc();
+    let events = vec![in alloc;
+        MachineEvent::LoadStart(FIRST),
+        MachineEvent::LoadStep(LOAD),
+        MachineEvent::Call(MachineCall::Release(FIRST)),
+        MachineEvent::LoadStep(LOAD),
+        MachineEvent::LoadStep(LOAD),
+    ]?;
+    let told = run_on_paged_out(alloc, u64::MAX, events)?;
+    let expected = vec![in alloc;
+        Told::Begun,
+        Told::GoesOn(1),
+        Told::Other,
+        Told::Refused(Error::NoSuchHandle, 2),
+        Told::NotOpen(Error::NoSuchHandle),
+    ]?;
+    assert!(rt; told == expected, "the load is closed with its handle gone");
+    Ok(())
+}
+
+#[test]
+fn a_load_whose_fetch_fails_is_closed(rt: HostRuntime) -> Result<(), Fail> {
+    let alloc = rt.alloc();
+    let events = vec![in alloc;
+        MachineEvent::LoadStart(FIRST),
+        MachineEvent::LoadStep(LOAD),
+        MachineEvent::LoadStep(LOAD),
+        MachineEvent::LoadStart(FIRST),
+        MachineEvent::LoadStep(LoadNumber(2)),
+        MachineEvent::LoadStep(LoadNumber(2)),
+    ]?;
+    let told = run_on_paged_out(alloc, 1, events)?;
+    let expected = vec![in alloc;
+        Told::Begun,
+        Told::Refused(Error::Storage(7), 1),
+        Told::NotOpen(Error::NoSuchHandle),
+        Told::Begun,
+        Told::GoesOn(1),
+        Told::Pinned(2),
+    ]?;
+    assert!(rt;
+        told == expected,
+        "the second load finds what the first didn't"
+    );
     Ok(())
 }

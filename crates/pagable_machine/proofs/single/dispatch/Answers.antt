@@ -1,3 +1,4 @@
+use Rattle.std.proofs.Common.{refl}
 use Rattle.pagable_machine.proofs.single.dispatch.Goals as goal
 
 pub returns-in-NewLoose-clause-leads : goal.returns-in-NewLoose-clause-leads
@@ -65,3 +66,69 @@ returns-in-LoadDrop-clause-leads g c = rw c.in-LoadDrop.is c.load_drop.ensures.l
 
 pub returns-in-LoadFetch-clause-leads : goal.returns-in-LoadFetch-clause-leads
 returns-in-LoadFetch-clause-leads g c = rw c.in-LoadFetch.is c.load_fetch.ensures.leads
+
+pub returns-in-NewLoose-clause-forgets : goal.returns-in-NewLoose-clause-forgets
+returns-in-NewLoose-clause-forgets g c = rw c.in-NewLoose.is refl
+
+pub returns-in-NewPinned-clause-forgets : goal.returns-in-NewPinned-clause-forgets
+returns-in-NewPinned-clause-forgets g c = rw c.in-NewPinned.is refl
+
+pub returns-in-NewPagedOut-clause-forgets : goal.returns-in-NewPagedOut-clause-forgets
+returns-in-NewPagedOut-clause-forgets g c = rw c.in-NewPagedOut.is refl
+
+pub returns-in-Clone-clause-forgets : goal.returns-in-Clone-clause-forgets
+returns-in-Clone-clause-forgets g c = rw c.in-Clone.is refl
+
+pub returns-in-IntoPagable-clause-forgets : goal.returns-in-IntoPagable-clause-forgets
+returns-in-IntoPagable-clause-forgets g c = rw c.in-IntoPagable.is refl
+
+pub returns-in-Pin-clause-forgets : goal.returns-in-Pin-clause-forgets
+returns-in-Pin-clause-forgets g c = rw c.in-Pin.is refl
+
+pub returns-in-Unpin-clause-forgets : goal.returns-in-Unpin-clause-forgets
+returns-in-Unpin-clause-forgets g c = rw c.in-Unpin.is refl
+
+pub returns-in-Release-clause-forgets : goal.returns-in-Release-clause-forgets
+returns-in-Release-clause-forgets g c = rw c.in-Release.is refl
+
+pub returns-in-SetDataKey-clause-forgets : goal.returns-in-SetDataKey-clause-forgets
+returns-in-SetDataKey-clause-forgets g c = rw c.in-SetDataKey.is refl
+
+pub returns-in-Count-clause-forgets : goal.returns-in-Count-clause-forgets
+returns-in-Count-clause-forgets g c = rw c.in-Count.is refl
+
+pub returns-in-Key-clause-forgets : goal.returns-in-Key-clause-forgets
+returns-in-Key-clause-forgets g c = rw c.in-Key.is refl
+
+pub returns-in-IsPagedOut-clause-forgets : goal.returns-in-IsPagedOut-clause-forgets
+returns-in-IsPagedOut-clause-forgets g c = rw c.in-IsPagedOut.is refl
+
+pub returns-in-NodeOf-clause-forgets : goal.returns-in-NodeOf-clause-forgets
+returns-in-NodeOf-clause-forgets g c = rw c.in-NodeOf.is refl
+
+pub returns-in-NodeLive-clause-forgets : goal.returns-in-NodeLive-clause-forgets
+returns-in-NodeLive-clause-forgets g c = rw c.in-NodeLive.is refl
+
+pub returns-in-Pending-clause-forgets : goal.returns-in-Pending-clause-forgets
+returns-in-Pending-clause-forgets g c = rw c.in-Pending.is refl
+
+pub returns-in-TakePending-clause-forgets : goal.returns-in-TakePending-clause-forgets
+returns-in-TakePending-clause-forgets g c = rw c.in-TakePending.is refl
+
+pub returns-in-Fetch-clause-forgets : goal.returns-in-Fetch-clause-forgets
+returns-in-Fetch-clause-forgets g c = rw c.in-Fetch.is refl
+
+pub returns-in-Store-clause-forgets : goal.returns-in-Store-clause-forgets
+returns-in-Store-clause-forgets g c = rw c.in-Store.is refl
+
+pub returns-in-LoadBegin-clause-forgets : goal.returns-in-LoadBegin-clause-forgets
+returns-in-LoadBegin-clause-forgets g c = rw c.in-LoadBegin.is refl
+
+pub returns-in-LoadEnd-clause-forgets : goal.returns-in-LoadEnd-clause-forgets
+returns-in-LoadEnd-clause-forgets g c = rw c.in-LoadEnd.is c.load_end.ensures.forgets
+
+pub returns-in-LoadDrop-clause-forgets : goal.returns-in-LoadDrop-clause-forgets
+returns-in-LoadDrop-clause-forgets g c = rw c.in-LoadDrop.is c.load_drop.ensures.forgets
+
+pub returns-in-LoadFetch-clause-forgets : goal.returns-in-LoadFetch-clause-forgets
+returns-in-LoadFetch-clause-forgets g c = rw c.in-LoadFetch.is refl

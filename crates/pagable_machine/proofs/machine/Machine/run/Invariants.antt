@@ -1,23 +1,25 @@
-use Rattle.std.proofs.Common.{◌≡◌, ◌+◌, ◌≤◌, length, List, ◌++◌, vec_len, Global}
-use Rattle.std.specs.Arc.{arc_value}
+use Rattle.std.proofs.Common.{◌≡◌, ◌+◌, ◌≤◌, length, List, ◌++◌, vec_len, All, map}
 use Rattle.std.specs.Vec.{vec_capacity}
-use Rattle.std.specs.declared.sync.Arc.{Arc}
 use Rattle.pagable_model.specs.Blob.{key_of}
-use Rattle.pagable_core.specs.Data.{blob_of}
 use Rattle.pagable_core.specs.declared.storage.data.PagableData.{PagableData}
-use Rattle.pagable_world.specs.declared.machine.MachineCall.{MachineCall}
-use Rattle.pagable_world.specs.MachineRuns.{HasRun}
+use Rattle.pagable_world.specs.declared.machine.MachineEvent.{MachineEvent}
+use Rattle.pagable_world.specs.MachineRuns.{FetchedFits, HasRun}
+use Rattle.pagable_machine.specs.Rows.{driven_by, fetched_of}
+use Rattle.pagable_machine.proofs.Sights.{values-by, machine-by, events-by}
 use Rattle.pagable_machine.proofs.machine.Machine.run.Given as goal
 
--- the calls that were made so far have run, and there is room for the replies to the rest
-abbrev pub invariant-loop-call : goal.invariant-loop-call
-invariant-loop-call g l =
-    let found : Arc PagableData Global → Rattle.pagable_model.specs.Blob.Blob = λ b. blob_of (arc_value b) in
+-- the events that were done so far have run, each load that has got its root's blob is open, and there is room for the replies
+-- to the rest
+abbrev pub invariant-loop-event : goal.invariant-loop-event
+invariant-loop-event g l =
+    let g-sight = values-by g.E.Node.NodeSet.type_of g.E.Node.NodeSet.means g.E.Node.NodeSet.shape_of g.E.Env.parts g.S.PagableStorage.stored in
+    let m = machine-by g-sight g.E.Node.NodeSet.refs_of (key_of g.E.Hash.KeyHash.digest) g.S.PagableStorage.is_closed g.S.PagableStorage.failed in
+    let em = events-by m g.E.Node.NodeSet.read_causes in
     record {
       room : length l.rest.items + vec_len l.replies ≤ vec_capacity l.replies;
-      run : (called : List (MachineCall _ PagableData)) × (called ++ l.rest.items ≡ l.fn.calls.items)
-          × HasRun (record { sight = record { type_of = g.E.Node.NodeSet.type_of; means = g.E.Node.NodeSet.means; shape_of = g.E.Node.NodeSet.shape_of; parts = g.E.Env.parts; stored = g.S.PagableStorage.stored }; references = g.E.Node.NodeSet.refs_of; digest = key_of g.E.Hash.KeyHash.digest; blob_of = blob_of; found = found; is_closed = g.S.PagableStorage.is_closed; failed = g.S.PagableStorage.failed }) l.fn.self called l.replies.items l.self-inside.pager;
+      fits : All (FetchedFits em l.self-inside.pager) (map fetched_of l.self-inside.fetched.items);
+      run : (happened : List (MachineEvent _ PagableData)) × (happened ++ l.rest.items ≡ l.fn.events.items) × HasRun em l.fn.self happened l.replies.items (driven_by l.self-inside.pager l.self-inside.fetched.items);
     }
 
-abbrev pub decreases-loop-call : goal.decreases-loop-call
-decreases-loop-call g l = length l.rest.items
+abbrev pub decreases-loop-event : goal.decreases-loop-event
+decreases-loop-event g l = length l.rest.items
