@@ -6,3 +6,5 @@ pub mod Collecting
 pub mod Maps
 pub mod Placed
 pub mod Sets
+pub mod Times
+pub mod Joined
