@@ -1,17 +1,16 @@
 -- Successes and failures, arrays, and tuples: what writing their parts one after another adds, and what reading them so gives.
-use Rattle.std.proofs.Common.{◌≡◌, ℕ, List, [], ◌∷◌, ◌++◌, length, refl, sym, ◌∙◌, Result, Ok, Err, inl, inr, subst}
+use Rattle.std.proofs.Common.{◌≡◌, ℕ, List, [], ◌∷◌, ◌++◌, length, refl, ◌∙◌, Result, Ok, Err, inl, inr, subst}
 use Rattle.std.specs.Prelude.{IfErr, OnOk, ◌⊎◌, Bool, true, false}
 use Rattle.pagable_model.specs.declared.error.Error.{Error}
 use Rattle.pagable_model.specs.declared.numbers.ArcRef.{ArcRef}
 use Rattle.pagable_model.specs.Basic.{bool_form, bool_at}
-use Rattle.pagable_model.specs.Gives.{memory, memory_or, either}
+use Rattle.pagable_model.specs.Gives.{memory_or, either}
 use Rattle.pagable_model.specs.Lifted.{MeanAll, MeansList, MeansPair}
 use Rattle.pagable_model.specs.Meaning.{Meaning, none, sequence, success, failure}
 use Rattle.pagable_model.specs.Shape.{Shape, nothing, outcome, array}
 use Rattle.pagable_model.specs.Form.{err-form, ok-form, array-form}
-use Rattle.pagable_model.specs.Reading.{Rest, Context, Gets, items, bytes_of, read, read_with}
+use Rattle.pagable_model.specs.Reading.{Rest, Context, items, bytes_of, read, read_with}
 use Rattle.pagable_model.specs.Standing.{Answer, Gave, handles_at}
-use Rattle.pagable_model.specs.Steps.{◌>>=◌}
 use Rattle.pagable_model.specs.Writing.{Out, Nesting, FormAt, FormsAt, WritesSome, WritesSomeAll, added, NoForm, NoForms, Refused, RefusedAll, IsRefusal, Grows}
 use Rattle.pagable_codec.proofs.Writing.{then}
 use Rattle.pagable_traits.proofs.Items.{mean-length, sequence-same}

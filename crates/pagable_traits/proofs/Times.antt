@@ -1,19 +1,17 @@
 -- Spans of time: how one is written, and what reading one gives.
-use Rattle.std.proofs.Common.{◌≡◌, ℕ, ◌+◌, ◌*◌, ◌/◌, ◌%◌, ◌<◌, ◌≤◌, ◌^◌, List, [], ◌++◌, arith, refl, ap, sym, ◌∙◌, Result, Ok, Err, inl, inr}
+use Rattle.std.proofs.Common.{◌≡◌, ℕ, ◌+◌, ◌*◌, ◌/◌, ◌%◌, ◌<◌, ◌≤◌, ◌^◌, List, ◌++◌, arith, refl, ap, ◌∙◌, Result, Ok, Err, inl, inr}
 use Rattle.std.proofs.lemmas.Bool.{lt-ltb, le-ltb}
 use Rattle.std.proofs.lemmas.Nat.{mod_below}
-use Rattle.std.specs.Prelude.{OnOk, ◌⊎◌, nat_lt, true, false}
+use Rattle.std.specs.Prelude.{OnOk, ◌⊎◌}
 use Rattle.std.specs.Duration.{as_nanos}
 use Rattle.std.specs.Int.{w32, w64}
 use Rattle.std.specs.declared.time.Duration.{Duration}
 use Rattle.pagable_model.specs.declared.error.Error.{Error}
 use Rattle.pagable_model.specs.declared.error.Error.TheVariants as errors
-use Rattle.pagable_model.specs.declared.numbers.ArcRef.{ArcRef}
 use Rattle.pagable_model.specs.Basic.{nanos_of_second, duration_form, duration_at}
 use Rattle.pagable_model.specs.Carried.{of_duration}
 use Rattle.pagable_model.specs.Form.{duration-form}
 use Rattle.pagable_model.specs.Gives.{Gives, never}
-use Rattle.pagable_model.specs.Meaning.{Meaning}
 use Rattle.pagable_model.specs.Numbers.{unsigned_at}
 use Rattle.pagable_model.specs.Reading.{Rest, read, read_with}
 use Rattle.pagable_model.specs.Shape.{Shape, duration}

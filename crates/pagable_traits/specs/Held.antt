@@ -1,11 +1,11 @@
 -- What values of further types mean, and why each has one meaning and one form.
-use Rattle.std.specs.Prelude.{◌≡◌, refl, ℕ, zero, suc, ◌/◌, ◌%◌, Result, Ok, Err}
+use Rattle.std.specs.Prelude.{◌≡◌, ℕ, zero, suc, ◌/◌, ◌%◌, Result, Ok, Err}
 use Rattle.std.proofs.Common.{ap}
 use Rattle.std.specs.Duration.{as_nanos}
 use Rattle.std.specs.declared.time.Duration.{Duration}
 use Rattle.pagable_model.specs.declared.numbers.ArcRef.{ArcRef}
 use Rattle.pagable_model.specs.Basic.{nanos_of_second}
-use Rattle.pagable_model.specs.Canonical.{IsCanonical, LiesIn, Within, Throughout}
+use Rattle.pagable_model.specs.Canonical.{IsCanonical, LiesIn, Within}
 use Rattle.pagable_model.specs.Carried.{of_duration, of_result}
 use Rattle.pagable_model.specs.Keyed.{throughout-alone}
 use Rattle.pagable_model.specs.Meaning.{Meaning, success, failure}

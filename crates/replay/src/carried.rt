@@ -5,14 +5,16 @@ use anyhow::ensure;
 use indexmap::{IndexMap, IndexSet};
 use pagable::{
     Env, NoReferences, PagableDeserialize, PagableDeserializer, PagableDeserializerImpl,
-    PagableSerialize, PagableSerializerImpl, WeighHash,
+    PagableSerialize, PagableSerializerImpl, PathText, Thin, WeighHash,
 };
 use pagable_samples::{Nested, NestedEnv, TextEnv};
 use smallvec::SmallVec;
 use std::alloc::Global;
-use std::boxed::BoxedSlice;
+use std::boxed::{BoxedSlice, BoxedStr};
 use std::collections::{BTreeMap, BTreeSet};
 use std::fmt::Debug;
+use std::marker::PhantomData;
+use std::time::Duration;
 
 /// The values hold no references, so any environment will do.
 type AnyEnv = TextEnv<WeighHash>;
@@ -145,12 +147,49 @@ fn collection(alloc: Global, name: &str, input: &[u8]) -> anyhow::Result<Option<
     Ok(Some(answer?))
 }
 
+/// What comes of an input of a duration, a text that is no `String`, or a mark; None for another type.
+fn small(alloc: Global, name: &str, input: &[u8]) -> anyhow::Result<Option<Answer>> {
+    let answer = match name {
+        "Duration" => replay_as::<Duration>(alloc, input),
+        "Box<str>" => replay_as::<BoxedStr>(alloc, input),
+        "PathBuf" => replay_as::<PathText>(alloc, input),
+        "PhantomData" => replay_as::<PhantomData<u8>>(alloc, input),
+        _ => return Ok(None),
+    };
+    Ok(Some(answer?))
+}
+
+/// What comes of an input of a result, a tuple of more than two, an array or a header with a list; None for another type.
+fn joined(alloc: Global, name: &str, input: &[u8]) -> anyhow::Result<Option<Answer>> {
+    let answer = match name {
+        "Result<String,String>" => replay_as::<Result<String, String>>(alloc, input),
+        "Result<u16,bool>" => replay_as::<Result<u16, bool>>(alloc, input),
+        "(u8,u16,i32)" => replay_as::<(u8, u16, i32)>(alloc, input),
+        "(u8,String,Vec<u64>,Option<i8>)" => {
+            replay_as::<(u8, String, Vec<u64>, Option<i8>)>(alloc, input)
+        }
+        "(u128,i128,char,bool,())" => replay_as::<(u128, i128, char, bool, ())>(alloc, input),
+        "[u16;2]" => replay_as::<[u16; 2]>(alloc, input),
+        "[String;3]" => replay_as::<[String; 3]>(alloc, input),
+        "[u8;31]" => replay_as::<[u8; 31]>(alloc, input),
+        "Thin<u8,u8>" => replay_as::<Thin<u8, u8>>(alloc, input),
+        _ => return Ok(None),
+    };
+    Ok(Some(answer?))
+}
+
 /// What comes of an input of a carried type; None for another type.
 pub fn answer(alloc: Global, name: &str, input: &[u8]) -> anyhow::Result<Option<Answer>> {
     if let Some(answer) = basic(alloc, name, input)? {
         return Ok(Some(answer));
     }
     if let Some(answer) = holder(alloc, name, input)? {
+        return Ok(Some(answer));
+    }
+    if let Some(answer) = small(alloc, name, input)? {
+        return Ok(Some(answer));
+    }
+    if let Some(answer) = joined(alloc, name, input)? {
         return Ok(Some(answer));
     }
     if let Some(answer) = vector(alloc, name, input)? {
