@@ -1,18 +1,21 @@
 -- Successes and failures, arrays, and tuples: what writing their parts one after another adds, and what reading them so gives.
-use Rattle.std.proofs.Common.{◌≡◌, ℕ, List, [], ◌∷◌, ◌++◌, length, refl, ◌∙◌, Result, Ok, Err, inl, inr, subst}
+use Rattle.std.proofs.Common.{◌≡◌, ℕ, List, [], ◌∷◌, ◌++◌, length, refl, ◌∙◌, Result, Ok, Err, inl, inr, subst, ap, ◌≤◌}
 use Rattle.std.specs.Prelude.{IfErr, OnOk, ◌⊎◌, Bool, true, false}
 use Rattle.pagable_model.specs.declared.error.Error.{Error}
 use Rattle.pagable_model.specs.declared.numbers.ArcRef.{ArcRef}
-use Rattle.pagable_model.specs.Basic.{bool_form, bool_at}
+use Rattle.pagable_model.specs.Basic.{bool_form, bool_at, longest, text_form}
 use Rattle.pagable_model.specs.Gives.{memory_or, either}
 use Rattle.pagable_model.specs.Lifted.{MeanAll, MeansList, MeansPair}
 use Rattle.pagable_model.specs.Meaning.{Meaning, none, sequence, success, failure}
 use Rattle.pagable_model.specs.Shape.{Shape, nothing, outcome, array}
-use Rattle.pagable_model.specs.Form.{err-form, ok-form, array-form}
+use Rattle.pagable_model.specs.Meaning as meanings
+use Rattle.pagable_model.specs.Shape as shapes
+use Rattle.std.specs.Str.{IsUtf8}
+use Rattle.pagable_model.specs.Form.{text-form, err-form, ok-form, array-form}
 use Rattle.pagable_model.specs.Reading.{Rest, Context, items, bytes_of, read, read_with}
-use Rattle.pagable_model.specs.Standing.{Answer, Gave, handles_at}
+use Rattle.pagable_model.specs.Standing.{Answer, Gave, handles_at, Is}
 use Rattle.pagable_model.specs.Writing.{Out, Nesting, FormAt, FormsAt, WritesSome, WritesSomeAll, added, NoForm, NoForms, Refused, RefusedAll, IsRefusal, Grows}
-use Rattle.pagable_codec.proofs.Writing.{then}
+use Rattle.pagable_codec.proofs.Writing.{then, writes_is, writes_bytes}
 use Rattle.pagable_traits.proofs.Items.{mean-length, sequence-same}
 use Rattle.pagable_traits.specs.Held.{MeansResult, means-ok, means-err}
 
@@ -20,6 +23,13 @@ use Rattle.pagable_traits.specs.Held.{MeansResult, means-ok, means-err}
 
 pub grows_on : (old mid new : Out) (b : List ℕ) → mid ≡ added old b [] → Grows mid new → Grows old new
 grows_on old mid new b e g = record { bytes = b ++ g.bytes; refs = [] ++ g.refs; grown = then old mid new b g.bytes [] g.refs e g.grown }
+
+-- ---- a text that is lent
+
+pub writes_str : {Y : Type 0} (r : Result Y Error) (t : List ℕ) (n : Nesting) (old last : Out) (now w : List ℕ) → now ≡ old.bytes → last ≡ record old { bytes = w } → IsUtf8 t → OnOk r (length t ≤ longest) → OnOk r (w ≡ now ++ text_form t)
+    → OnOk r (WritesSome (Is meanings.text t) n shapes.text old last)
+writes_str (Ok y) t n old last now w e f utf8 short h = rw f (writes_is meanings.text t n shapes.text old _ (writes_bytes n shapes.text (meanings.text t) old w (text_form t) (h ∙ ap (λ (b : List ℕ). b ++ text_form t) e) (text-form _ t utf8 short)))
+writes_str (Err y) t n old last now w e f utf8 short h = tt
 
 -- ---- nothing
 

@@ -19,7 +19,6 @@ use std::boxed::BoxedStr;
 
 /// Writes a text as a `String` is written: its length in bytes, and its bytes. TooLong above 4,294,967,295 bytes; else
 /// refused by want of memory alone.
-#[tactic(auto, using(pagable_codec::proofs::Writing::parts))]
 pub fn serialize_str<E: Env, S: PagableSerializer<E>>(
     text: &str,
     serializer: &mut S,
