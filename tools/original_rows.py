@@ -18,7 +18,12 @@ CARRIED = [
     "Box<u16>", "Option<()>", "Option<bool>", "Option<u8>", "Option<String>", "Option<Option<i32>>", "(u8,u8)",
     "(bool,String)", "Vec<()>", "Vec<bool>", "Vec<u8>", "Vec<i32>", "Vec<u64>", "Vec<String>", "Vec<Option<u8>>",
     "Vec<Vec<u16>>", "Vec<(String,i64)>", "Box<[u32]>", "Box<[String]>", "SmallVec<[u8;4]>", "SmallVec<[String;4]>", "Duration", "Result<String,String>",
+    "Result<u16,bool>", "[u16;2]", "[String;3]", "[u8;31]", "(u8,u16,i32)", "(u8,String,Vec<u64>,Option<i8>)",
+    "(u128,i128,char,bool,())", "Box<str>", "PathBuf", "PhantomData",
 ]
+
+# Texts, with a length in bytes.
+TEXTS = ("char", "String", "Box<str>", "PathBuf")
 
 # The greatest length of a text or a list; the original has no such limit below 64 bits.
 LONGEST = 2**32 - 1
@@ -66,6 +71,11 @@ def item_of(name):
     return None
 
 
+def item_of_array(name):
+    """The type of an array's items, or None where the name is no array's."""
+    return name[1:-1].rsplit(";", 1)[0] if name.startswith("[") else None
+
+
 def list_form(items, part):
     return varint(len(items)) + b"".join(form(part, item) for item in items)
 
@@ -81,9 +91,9 @@ def form(name, value):
         return varint(2 * number if number >= 0 else -2 * number - 1)
     if name == "bool":
         return b"\x01" if value else b"\x00"
-    if name in ("char", "String"):
+    if name in TEXTS:
         return text_form(value)
-    if name == "()":
+    if name in ("()", "PhantomData"):
         return b""
     if name == "Duration":
         return varint(int(value["secs"])) + varint(int(value["nanos"]))
@@ -93,6 +103,8 @@ def form(name, value):
         return b"\x01" + form(parts[0], value["ok"]) if "ok" in value else b"\x00" + form(parts[1], value["err"])
     if item_of(name):
         return list_form(value, item_of(name))
+    if part := item_of_array(name):
+        return b"".join(form(part, item) for item in value)
     if part := inside(name, "Box"):
         return form(part[0], value)
     if name.startswith("("):
@@ -106,7 +118,7 @@ def shown(name, value):
         return "true" if value else "false"
     if name[0] in "ui" and name[1:].isdigit() or name == "usize":
         return str(int(value))
-    if name in ("char", "String"):
+    if name in TEXTS and name != "PathBuf":
         if not all(" " <= sign <= "~" and sign not in "\\'\"" for sign in value):
             return None
         return f"'{value}'" if name == "char" else f'"{value}"'
@@ -121,12 +133,13 @@ def shown(name, value):
         case, part = ("Ok", parts[0]) if "ok" in value else ("Err", parts[1])
         of = shown(part, value[case.lower()])
         return None if of is None else f"{case}({of})"
-    if name.startswith("(") or item_of(name):
-        parts = [item_of(name)] * len(value) if item_of(name) else split(name[1:-1])
-        items = [shown(part, item) for part, item in zip(parts, value)]
+    item = item_of(name) or item_of_array(name)
+    if name.startswith("(") or item:
+        parts = [item] * len(value) if item else split(name[1:-1])
+        items = [shown(part, each) for part, each in zip(parts, value)]
         if None in items:
             return None
-        return ("[%s]" if item_of(name) else "(%s)") % ", ".join(items)
+        return ("[%s]" if item else "(%s)") % ", ".join(items)
     if part := inside(name, "Box"):
         return shown(part[0], value)
     return None
@@ -147,13 +160,13 @@ def may_be_too_long(data):
 
 def has_length(name):
     """Whether a length is read anywhere in values of the type."""
-    return any(word in name for word in ("String", "Vec", "str", "char", "Map", "Set", "Path", "Regex", "Json", "["))
+    return any(word in name for word in ("String", "Vec", "str", "char", "Map", "Set", "Path", "Regex", "Json", "Box<["))
 
 
 def refusal(name, line):
     """The name of the refusal, or ? where its cause isn't told or is another one here."""
     why = line["class"]
-    if why in LOST_CLASSES or why == "BadChar":
+    if why in LOST_CLASSES or why == "BadChar" or ("char" in name and name != "char"):
         return "?"
     if has_length(name) and may_be_too_long(bytes.fromhex(line["input_hex"])):
         return "?"
@@ -178,7 +191,7 @@ def row(line):
     if line["result"] == "err":
         return f"{name} read {data} refused {refusal(name, line)}"
     # A panic, an end by the system or a time-out of the original; and its char takes the first of several.
-    if line["result"] != "ok" or (name == "char" and not line["canon"]):
+    if line["result"] != "ok" or ("char" in name and not line["canon"]):
         return None
     # A list of items without bytes, of which only the length is told: it is too long here.
     if isinstance(line["value"], dict) and list(line["value"]) == ["len"]:

@@ -23,6 +23,6 @@ pub use pagable_registries::{
 pub use pagable_traits::{
     Canonical, Carried, EagerlyCarried, Env, InNode, KeyHash, NodeSet, OneMeaning,
     PagableDeserialize, PagableDeserializer, PagableEagerDeserialize, PagableEagerSerialize,
-    PagableKey, PagableOrdKey, PagableSerialize, PagableSerializer, Reader, read_twice,
-    serialize_slice,
+    PagableKey, PagableOrdKey, PagableSerialize, PagableSerializer, PathText, Reader, Thin,
+    read_twice, serialize_slice, serialize_str,
 };

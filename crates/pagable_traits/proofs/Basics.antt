@@ -14,7 +14,7 @@ use Rattle.pagable_model.specs.Writing.{Out, Nesting, WritesSome, Grows}
 use Rattle.pagable_model.specs.Standing.{Answer, GivesSome, Is, handles_at}
 use Rattle.pagable_codec.proofs.Writing.{writes_unsigned, writes_signed, grows_bytes}
 
-gives_bytes : {X Y : Type 0} (own : Error → Type 0) (view : X → Y) (meaning : Y → Meaning ArcRef) (at : List ℕ → Read Y) (r : Result X Error) (rest : Rest Answer) (after : List ℕ) → Gives own (λ x. (view x, after)) r (at rest.bytes)
+pub gives_bytes : {X Y : Type 0} (own : Error → Type 0) (view : X → Y) (meaning : Y → Meaning ArcRef) (at : List ℕ → Read Y) (r : Result X Error) (rest : Rest Answer) (after : List ℕ) → Gives own (λ x. (view x, after)) r (at rest.bytes)
     → GivesSome own (Is (λ x. meaning (view x))) (record rest { bytes = after }) r (bytes_of at meaning rest)
 gives_bytes own view meaning at (Ok x) rest after h = record { m = meaning (view x); is = refl; gave = rw h refl }
 gives_bytes own view meaning at (Err e) rest after (inl h) = inl (rw h refl)

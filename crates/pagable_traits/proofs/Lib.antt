@@ -7,3 +7,5 @@ pub mod Maps
 pub mod Placed
 pub mod Sets
 pub mod Held
+pub mod Times
+pub mod Joined

@@ -1,14 +1,22 @@
 //! The carried types.
 
+pub mod arrays;
 pub mod basic;
+pub mod boxed_texts;
 pub mod collecting;
 pub mod holders;
 pub mod lists;
 pub mod maps;
 pub mod numbers;
+pub mod paths;
 pub mod placed;
+pub mod references;
+pub mod results;
 pub mod sets;
 pub mod signed;
 pub mod slices;
 pub mod small;
 pub mod texts;
+pub mod thin;
+pub mod times;
+pub mod tuples;

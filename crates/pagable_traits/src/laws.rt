@@ -12,19 +12,30 @@ ghost use Rattle.pagable_model.specs.Meaning.{Meaning, number, integer, none};
 ghost use Rattle.pagable_model.specs.Meaning as meanings;
 ghost use Rattle.pagable_model.specs.Lifted.{MeansOption, MeansList, MeansPair};
 ghost use Rattle.std.specs.Box.{boxed_slice_items};
+ghost use Rattle.std.specs.Box.{boxed_str_bytes};
+ghost use Rattle.std.specs.Duration.{as_nanos};
+ghost use Rattle.std.specs.Prelude.{◌/◌, ◌%◌, Result as Either};
+ghost use Rattle.std.specs.declared.time.Duration.{Duration as Span};
+ghost use Rattle.pagable_model.specs.Carried.{of_duration};
+ghost use Rattle.pagable_model.specs.Shape.{duration, outcome, array};
+ghost use Rattle.pagable_traits.specs.Held.{MeansResult};
 ghost use Rattle.pagable_model.specs.declared.error.Error.{Error as Refusal};
 ghost use Rattle.pagable_model.specs.declared.numbers.ArcRef.{ArcRef as Reference};
 
+use crate::impls::paths::PathText;
+use crate::impls::thin::Thin;
 use crate::keys::{PagableKey, PagableOrdKey};
 use crate::traits::{Carried, PagableDeserialize, PagableSerialize};
 use indexmap::{IndexMap, IndexSet};
 use pagable_codec::env::Env;
 use smallvec::SmallVec;
 use std::alloc::Global;
-use std::boxed::BoxedSlice;
+use std::boxed::{BoxedSlice, BoxedStr};
 use std::collections::{BTreeMap, BTreeSet};
 use std::default::MadeWith;
 use std::hash::Hash;
+use std::marker::PhantomData;
+use std::time::Duration;
 
 /// A `bool` is spelled as a flag and means itself. Writing wants memory at most;
 /// reading has no cause of its own.
@@ -276,4 +287,125 @@ pub fn placed_set_is_carried<
     ensures means { (x : _) (m : Meaning Reference) → ⟦<IndexSet<T> as Carried<E>>⟧.means x m ↔ MeansList T.Carried.means x.keys m }
     ensures writes { (e : Refusal) → ⟦<IndexSet<T> as PagableSerialize<E>>⟧.write_causes e ↔ memory_or T.write_causes e }
     ensures reads { (e : Refusal) → ⟦<IndexSet<T> as PagableDeserialize<'static, E>>⟧.read_causes e ↔ memory_or T.read_causes e }
+{}
+
+/// A `Duration` is spelled as its whole seconds and the nanoseconds beside them, and means both. Writing wants memory at
+/// most; reading has no cause of its own.
+pub fn duration_is_carried<E: Env>()
+    ensures shape { (e : E) → ⟦<Duration as Carried<E>>⟧.shape e ≡ duration }
+    ensures means { (d : Span) (m : Meaning Reference) → ⟦<Duration as Carried<E>>⟧.means d m ↔ (m ≡ of_duration (as_nanos d / 1000000000) (as_nanos d % 1000000000)) }
+    ensures writes { (e : Refusal) → ⟦<Duration as PagableSerialize<E>>⟧.write_causes e ↔ memory e }
+    ensures reads { (e : Refusal) → ⟦<Duration as PagableDeserialize<'static, E>>⟧.read_causes e ↔ never e }
+{}
+
+/// A `Result` is spelled as a flag and the success where it is true, else the failure, and means that there is the one
+/// or the other. Writing it may want memory or be refused as its part is; reading it is refused as its part is.
+pub fn result_is_carried<
+    E: Env,
+    T: PagableSerialize<E> + PagableDeserialize<'static, E>,
+    X: PagableSerialize<E> + PagableDeserialize<'static, E>,
+>()
+    ensures shape { (e : E) → ⟦<Result<T, X> as Carried<E>>⟧.shape e ≡ outcome (T.Carried.shape e) (X.Carried.shape e) }
+    ensures means { (r : Either T X) (m : Meaning Reference) → ⟦<Result<T, X> as Carried<E>>⟧.means r m ↔ MeansResult T.Carried.means X.Carried.means r m }
+    ensures writes { (e : Refusal) → ⟦<Result<T, X> as PagableSerialize<E>>⟧.write_causes e ↔ memory_or (either T.write_causes X.write_causes) e }
+    ensures reads { (e : Refusal) → ⟦<Result<T, X> as PagableDeserialize<'static, E>>⟧.read_causes e ↔ either T.read_causes X.read_causes e }
+{}
+
+/// A tuple of three is spelled as its parts one after the other, means its first part and the pair of the others, and is
+/// refused as they are.
+pub fn triple_is_carried<
+    E: Env,
+    A: PagableSerialize<E> + PagableDeserialize<'static, E> + Drop,
+    B: PagableSerialize<E> + PagableDeserialize<'static, E> + Drop,
+    C: PagableSerialize<E> + PagableDeserialize<'static, E>,
+>()
+    ensures shape { (e : E) → ⟦<(A, B, C) as Carried<E>>⟧.shape e ≡ both (A.Carried.shape e) (both (B.Carried.shape e) (C.Carried.shape e)) }
+    ensures means { (a : A) (b : B) (c : C) (m : Meaning Reference) → ⟦<(A, B, C) as Carried<E>>⟧.means (a, b, c) m ↔ MeansPair A.Carried.means (MeansPair B.Carried.means C.Carried.means) (a, (b, c)) m }
+    ensures writes { (e : Refusal) → ⟦<(A, B, C) as PagableSerialize<E>>⟧.write_causes e ↔ either A.write_causes (either B.write_causes C.write_causes) e }
+    ensures reads { (e : Refusal) → ⟦<(A, B, C) as PagableDeserialize<'static, E>>⟧.read_causes e ↔ either A.read_causes (either B.read_causes C.read_causes) e }
+{}
+
+/// A tuple of four, likewise.
+pub fn quadruple_is_carried<
+    E: Env,
+    A: PagableSerialize<E> + PagableDeserialize<'static, E> + Drop,
+    B: PagableSerialize<E> + PagableDeserialize<'static, E> + Drop,
+    C: PagableSerialize<E> + PagableDeserialize<'static, E> + Drop,
+    D: PagableSerialize<E> + PagableDeserialize<'static, E>,
+>()
+    ensures shape { (e : E) → ⟦<(A, B, C, D) as Carried<E>>⟧.shape e ≡ both (A.Carried.shape e) (both (B.Carried.shape e) (both (C.Carried.shape e) (D.Carried.shape e))) }
+    ensures means { (a : A) (b : B) (c : C) (d : D) (m : Meaning Reference) → ⟦<(A, B, C, D) as Carried<E>>⟧.means (a, b, c, d) m ↔ MeansPair A.Carried.means (MeansPair B.Carried.means (MeansPair C.Carried.means D.Carried.means)) (a, (b, (c, d))) m }
+    ensures writes { (e : Refusal) → ⟦<(A, B, C, D) as PagableSerialize<E>>⟧.write_causes e ↔ either A.write_causes (either B.write_causes (either C.write_causes D.write_causes)) e }
+    ensures reads { (e : Refusal) → ⟦<(A, B, C, D) as PagableDeserialize<'static, E>>⟧.read_causes e ↔ either A.read_causes (either B.read_causes (either C.read_causes D.read_causes)) e }
+{}
+
+/// A tuple of five, likewise.
+pub fn quintuple_is_carried<
+    E: Env,
+    A: PagableSerialize<E> + PagableDeserialize<'static, E> + Drop,
+    B: PagableSerialize<E> + PagableDeserialize<'static, E> + Drop,
+    C: PagableSerialize<E> + PagableDeserialize<'static, E> + Drop,
+    D: PagableSerialize<E> + PagableDeserialize<'static, E> + Drop,
+    F: PagableSerialize<E> + PagableDeserialize<'static, E>,
+>()
+    ensures shape { (e : E) → ⟦<(A, B, C, D, F) as Carried<E>>⟧.shape e ≡ both (A.Carried.shape e) (both (B.Carried.shape e) (both (C.Carried.shape e) (both (D.Carried.shape e) (F.Carried.shape e)))) }
+    ensures means { (a : A) (b : B) (c : C) (d : D) (f : F) (m : Meaning Reference) → ⟦<(A, B, C, D, F) as Carried<E>>⟧.means (a, b, c, d, f) m ↔ MeansPair A.Carried.means (MeansPair B.Carried.means (MeansPair C.Carried.means (MeansPair D.Carried.means F.Carried.means))) (a, (b, (c, (d, f)))) m }
+    ensures writes { (e : Refusal) → ⟦<(A, B, C, D, F) as PagableSerialize<E>>⟧.write_causes e ↔ either A.write_causes (either B.write_causes (either C.write_causes (either D.write_causes F.write_causes))) e }
+    ensures reads { (e : Refusal) → ⟦<(A, B, C, D, F) as PagableDeserialize<'static, E>>⟧.read_causes e ↔ either A.read_causes (either B.read_causes (either C.read_causes (either D.read_causes F.read_causes))) e }
+{}
+
+/// An array is spelled as its items without a length, means what they mean, and is refused as an item is; reading may want
+/// memory.
+pub fn array_is_carried<
+    E: Env,
+    T: PagableSerialize<E> + PagableDeserialize<'static, E> + Drop,
+    const N: usize,
+>()
+    ensures shape { (e : E) → ⟦<[T; N] as Carried<E>>⟧.shape e ≡ array N (T.Carried.shape e) }
+    ensures means { (xs : _) (m : Meaning Reference) → ⟦<[T; N] as Carried<E>>⟧.means xs m ↔ MeansList T.Carried.means xs m }
+    ensures writes { (e : Refusal) → ⟦<[T; N] as PagableSerialize<E>>⟧.write_causes e ↔ T.write_causes e }
+    ensures reads { (e : Refusal) → ⟦<[T; N] as PagableDeserialize<'static, E>>⟧.read_causes e ↔ memory_or T.read_causes e }
+{}
+
+/// A boxed text is a text.
+pub fn boxed_text_is_carried<E: Env>()
+    ensures shape { (e : E) → ⟦<BoxedStr as Carried<E>>⟧.shape e ≡ text }
+    ensures means { (x : _) (m : Meaning Reference) → ⟦<BoxedStr as Carried<E>>⟧.means x m ↔ (m ≡ meanings.text (boxed_str_bytes x)) }
+    ensures writes { (e : Refusal) → ⟦<BoxedStr as PagableSerialize<E>>⟧.write_causes e ↔ memory e }
+    ensures reads { (e : Refusal) → ⟦<BoxedStr as PagableDeserialize<'static, E>>⟧.read_causes e ↔ memory e }
+{}
+
+/// A path is a text.
+pub fn path_is_carried<E: Env>()
+    ensures shape { (e : E) → ⟦<PathText as Carried<E>>⟧.shape e ≡ text }
+    ensures means { (x : _) (m : Meaning Reference) → ⟦<PathText as Carried<E>>⟧.means x m ↔ (m ≡ meanings.text (string_bytes x.text)) }
+    ensures writes { (e : Refusal) → ⟦<PathText as PagableSerialize<E>>⟧.write_causes e ↔ memory e }
+    ensures reads { (e : Refusal) → ⟦<PathText as PagableDeserialize<'static, E>>⟧.read_causes e ↔ memory e }
+{}
+
+/// A mark of a type is spelled as nothing, means nothing, and is never refused.
+pub fn mark_is_carried<E: Env, T>()
+    ensures shape { (e : E) → ⟦<PhantomData<T> as Carried<E>>⟧.shape e ≡ nothing }
+    ensures means { (x : _) (m : Meaning Reference) → ⟦<PhantomData<T> as Carried<E>>⟧.means x m ↔ (m ≡ none) }
+    ensures writes { (e : Refusal) → ⟦<PhantomData<T> as PagableSerialize<E>>⟧.write_causes e ↔ never e }
+    ensures reads { (e : Refusal) → ⟦<PhantomData<T> as PagableDeserialize<'static, E>>⟧.read_causes e ↔ never e }
+{}
+
+/// A lent value is spelled as the value, means what that means, and is refused as it is. It isn't read.
+pub fn lent_is_carried<'a, E: Env, T: PagableSerialize<E> + 'a>()
+    ensures shape { (e : E) → ⟦<&'a T as Carried<E>>⟧.shape e ≡ T.Carried.shape e }
+    ensures means { (x : _) (m : Meaning Reference) → ⟦<&'a T as Carried<E>>⟧.means x m ↔ T.Carried.means x.now m }
+    ensures writes { (e : Refusal) → ⟦<&'a T as PagableSerialize<E>>⟧.write_causes e ↔ T.write_causes e }
+{}
+
+/// A header with a list is spelled as the header and then the list, means the pair of both, and is refused as they are.
+pub fn thin_is_carried<
+    E: Env,
+    H: PagableSerialize<E> + PagableDeserialize<'static, E> + Drop,
+    T: PagableSerialize<E> + PagableDeserialize<'static, E> + Drop,
+>()
+    ensures shape { (e : E) → ⟦<Thin<H, T> as Carried<E>>⟧.shape e ≡ both (H.Carried.shape e) (list (T.Carried.shape e)) }
+    ensures means { (x : _) (m : Meaning Reference) → ⟦<Thin<H, T> as Carried<E>>⟧.means x m ↔ MeansPair H.Carried.means (MeansList T.Carried.means) (x.header, x.items.items) m }
+    ensures writes { (e : Refusal) → ⟦<Thin<H, T> as PagableSerialize<E>>⟧.write_causes e ↔ either H.write_causes (memory_or T.write_causes) e }
+    ensures reads { (e : Refusal) → ⟦<Thin<H, T> as PagableDeserialize<'static, E>>⟧.read_causes e ↔ either H.read_causes (memory_or T.read_causes) e }
 {}

@@ -12,7 +12,10 @@ pub mod traits;
 
 pub use again::read_twice;
 pub use eager::{EagerlyCarried, PagableEagerDeserialize, PagableEagerSerialize};
+pub use impls::boxed_texts::serialize_str;
+pub use impls::paths::PathText;
 pub use impls::slices::serialize_slice;
+pub use impls::thin::Thin;
 pub use in_node::InNode;
 pub use keys::{PagableKey, PagableOrdKey};
 pub use one_form::Canonical;

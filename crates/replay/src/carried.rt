@@ -5,14 +5,16 @@ use anyhow::ensure;
 use indexmap::{IndexMap, IndexSet};
 use pagable::{
     Env, NoReferences, PagableDeserialize, PagableDeserializer, PagableDeserializerImpl,
-    PagableSerialize, PagableSerializerImpl, WeighHash,
+    PagableSerialize, PagableSerializerImpl, PathText, Thin, WeighHash,
 };
 use pagable_samples::{Nested, NestedEnv, TextEnv};
 use smallvec::SmallVec;
 use std::alloc::Global;
-use std::boxed::BoxedSlice;
+use std::boxed::{BoxedSlice, BoxedStr};
 use std::collections::{BTreeMap, BTreeSet};
 use std::fmt::Debug;
+use std::marker::PhantomData;
+use std::time::Duration;
 
 /// The values hold no references, so any environment will do.
 type AnyEnv = TextEnv<WeighHash>;
@@ -140,6 +142,42 @@ fn vector(alloc: Global, name: &str, input: &[u8]) -> anyhow::Result<Option<Answ
     }
 }
 
+/// Results, tuples of more than two, arrays and headers with lists, and what comes after them.
+fn joined(alloc: Global, name: &str, input: &[u8]) -> anyhow::Result<Option<Answer>> {
+    match name {
+        "Result<String,String>" => replay_as::<Result<String, String>>(alloc, input),
+        "Result<u16,bool>" => replay_as::<Result<u16, bool>>(alloc, input),
+        "(u8,u16,i32)" => replay_as::<(u8, u16, i32)>(alloc, input),
+        "(u8,String,Vec<u64>,Option<i8>)" => {
+            replay_as::<(u8, String, Vec<u64>, Option<i8>)>(alloc, input)
+        }
+        "(u128,i128,char,bool,())" => replay_as::<(u128, i128, char, bool, ())>(alloc, input),
+        _ => array(alloc, name, input),
+    }
+}
+
+/// Arrays and headers with lists, and what comes after them.
+fn array(alloc: Global, name: &str, input: &[u8]) -> anyhow::Result<Option<Answer>> {
+    match name {
+        "[u16;2]" => replay_as::<[u16; 2]>(alloc, input),
+        "[String;3]" => replay_as::<[String; 3]>(alloc, input),
+        "[u8;31]" => replay_as::<[u8; 31]>(alloc, input),
+        "Thin<u8,u8>" => replay_as::<Thin<u8, u8>>(alloc, input),
+        _ => vector(alloc, name, input),
+    }
+}
+
+/// Durations, texts that are no `String`, and marks, and what comes after them.
+fn small(alloc: Global, name: &str, input: &[u8]) -> anyhow::Result<Option<Answer>> {
+    match name {
+        "Duration" => replay_as::<Duration>(alloc, input),
+        "Box<str>" => replay_as::<BoxedStr>(alloc, input),
+        "PathBuf" => replay_as::<PathText>(alloc, input),
+        "PhantomData" => replay_as::<PhantomData<u8>>(alloc, input),
+        _ => joined(alloc, name, input),
+    }
+}
+
 /// Other types that hold one or two values, and what comes after them.
 fn holder(alloc: Global, name: &str, input: &[u8]) -> anyhow::Result<Option<Answer>> {
     match name {
@@ -147,7 +185,7 @@ fn holder(alloc: Global, name: &str, input: &[u8]) -> anyhow::Result<Option<Answ
         "(u8,u8)" => replay_as::<(u8, u8)>(alloc, input),
         "(bool,String)" => replay_as::<(bool, String)>(alloc, input),
         "Nested" => replay_in::<NestedEnv, Nested>(alloc, &NestedEnv, input),
-        _ => vector(alloc, name, input),
+        _ => small(alloc, name, input),
     }
 }
 

@@ -1,0 +1,162 @@
+-- Successes and failures, arrays, and tuples: what writing their parts one after another adds, and what reading them so gives.
+use Rattle.std.proofs.Common.{◌≡◌, ℕ, List, [], ◌∷◌, ◌++◌, length, refl, ◌∙◌, Result, Ok, Err, inl, inr, subst, ap, ◌≤◌}
+use Rattle.std.specs.Prelude.{IfErr, OnOk, ◌⊎◌, Bool, true, false}
+use Rattle.pagable_model.specs.declared.error.Error.{Error}
+use Rattle.pagable_model.specs.declared.numbers.ArcRef.{ArcRef}
+use Rattle.pagable_model.specs.Basic.{bool_form, bool_at, longest, text_form}
+use Rattle.pagable_model.specs.Gives.{memory_or, either}
+use Rattle.pagable_model.specs.Lifted.{MeanAll, MeansList, MeansPair}
+use Rattle.pagable_model.specs.Meaning.{Meaning, none, sequence, success, failure}
+use Rattle.pagable_model.specs.Shape.{Shape, nothing, outcome, array}
+use Rattle.pagable_model.specs.Meaning as meanings
+use Rattle.pagable_model.specs.Shape as shapes
+use Rattle.std.specs.Str.{IsUtf8}
+use Rattle.pagable_model.specs.Form.{text-form, err-form, ok-form, array-form}
+use Rattle.pagable_model.specs.Reading.{Rest, Context, items, bytes_of, read, read_with}
+use Rattle.pagable_model.specs.Standing.{Answer, Gave, handles_at, Is}
+use Rattle.pagable_model.specs.Writing.{Out, Nesting, FormAt, FormsAt, WritesSome, WritesSomeAll, added, NoForm, NoForms, Refused, RefusedAll, IsRefusal, Grows}
+use Rattle.pagable_codec.proofs.Writing.{then, writes_is, writes_bytes}
+use Rattle.pagable_traits.proofs.Items.{mean-length, sequence-same}
+use Rattle.pagable_traits.specs.Held.{MeansResult, means-ok, means-err}
+
+-- ---- what is written grows on
+
+pub grows_on : (old mid new : Out) (b : List ℕ) → mid ≡ added old b [] → Grows mid new → Grows old new
+grows_on old mid new b e g = record { bytes = b ++ g.bytes; refs = [] ++ g.refs; grown = then old mid new b g.bytes [] g.refs e g.grown }
+
+-- ---- a text that is lent
+
+pub writes_str : {Y : Type 0} (r : Result Y Error) (t : List ℕ) (n : Nesting) (old last : Out) (now w : List ℕ) → now ≡ old.bytes → last ≡ record old { bytes = w } → IsUtf8 t → OnOk r (length t ≤ longest) → OnOk r (w ≡ now ++ text_form t)
+    → OnOk r (WritesSome (Is meanings.text t) n shapes.text old last)
+writes_str (Ok y) t n old last now w e f utf8 short h = rw f (writes_is meanings.text t n shapes.text old _ (writes_bytes n shapes.text (meanings.text t) old w (text_form t) (h ∙ ap (λ (b : List ℕ). b ++ text_form t) e) (text-form _ t utf8 short)))
+writes_str (Err y) t n old last now w e f utf8 short h = tt
+
+-- ---- nothing
+
+pub gives_nothing : (levels : ℕ) (parts : ℕ → Shape) (rest : Rest Answer) → Gave (λ m. m ≡ none) rest (read (handles_at levels parts) nothing rest)
+unfolding read read_with
+gives_nothing levels parts rest = record { m = none; is = refl; gave = refl }
+
+-- ---- a success or a failure
+
+pub writes_success : {Y T X : Type 0} (r : Result Y Error) (M : T → Meaning ArcRef → Type 0) (N : X → Meaning ArcRef → Type 0) (x : T) (n : Nesting) (s t : Shape) (old mid new : Out) → mid ≡ added old (bool_form true) [] → OnOk r (WritesSome (M x) n s mid new)
+    → OnOk r (WritesSome (MeansResult M N (Ok x)) n (outcome s t) old new)
+writes_success (Ok y) M N x n s t old mid new e w =
+    record { m = success w.m; is = means-ok x w.m w.is; wrote = record { bytes = 1 ∷ w.wrote.bytes; refs = w.wrote.refs; form = ok-form _ s t w.m _ _ w.wrote.form; grown = then old mid new _ _ _ _ e w.wrote.grown } }
+writes_success (Err y) M N x n s t old mid new e w = tt
+
+pub writes_failure : {Y T X : Type 0} (r : Result Y Error) (M : T → Meaning ArcRef → Type 0) (N : X → Meaning ArcRef → Type 0) (x : X) (n : Nesting) (s t : Shape) (old mid new : Out) → mid ≡ added old (bool_form false) [] → OnOk r (WritesSome (N x) n t mid new)
+    → OnOk r (WritesSome (MeansResult M N (Err x)) n (outcome s t) old new)
+writes_failure (Ok y) M N x n s t old mid new e w =
+    record { m = failure w.m; is = means-err x w.m w.is; wrote = record { bytes = 0 ∷ w.wrote.bytes; refs = w.wrote.refs; form = err-form _ s t w.m _ _ w.wrote.form; grown = then old mid new _ _ _ _ e w.wrote.grown } }
+writes_failure (Err y) M N x n s t old mid new e w = tt
+
+no-success : (n : Nesting) (s t : Shape) (m : Meaning ArcRef) → NoForm n s m → NoForm n (outcome s t) (success m)
+no-success n s t m h b k (ok-form l s' t' m' c k' f) = h c k' f
+
+no-failure : (n : Nesting) (s t : Shape) (m : Meaning ArcRef) → NoForm n t m → NoForm n (outcome s t) (failure m)
+no-failure n s t m h b k (err-form l s' t' m' c k' f) = h c k' f
+
+pub refused_success : {Y T X : Type 0} (r : Result Y Error) (M : T → Meaning ArcRef → Type 0) (N : X → Meaning ArcRef → Type 0) (x : T) (n : Nesting) (s t : Shape) → IfErr r (Refused (M x) n s) → IfErr r (Refused (MeansResult M N (Ok x)) n (outcome s t))
+refused_success (Ok y) M N x n s t h = tt
+refused_success (Err e) M N x n s t h = λ fault. let no = h fault in record { m = success no.m; is = means-ok x no.m no.is; no_form = no-success n s t no.m no.no_form }
+
+pub refused_failure : {Y T X : Type 0} (r : Result Y Error) (M : T → Meaning ArcRef → Type 0) (N : X → Meaning ArcRef → Type 0) (x : X) (n : Nesting) (s t : Shape) → IfErr r (Refused (N x) n t) → IfErr r (Refused (MeansResult M N (Err x)) n (outcome s t))
+refused_failure (Ok y) M N x n s t h = tt
+refused_failure (Err e) M N x n s t h = λ fault. let no = h fault in record { m = failure no.m; is = means-err x no.m no.is; no_form = no-failure n s t no.m no.no_form }
+
+only-first-part : (first second : Error → Type 0) (e : Error) → IsRefusal first e → IsRefusal (memory_or (either first second)) e
+only-first-part first second e (inl fault) = inl fault
+only-first-part first second e (inr cause) = inr (inr (inl cause))
+
+only-second-part : (first second : Error → Type 0) (e : Error) → IsRefusal second e → IsRefusal (memory_or (either first second)) e
+only-second-part first second e (inl fault) = inl fault
+only-second-part first second e (inr cause) = inr (inr (inr cause))
+
+pub only_success : {Y : Type 0} (r : Result Y Error) (first second : Error → Type 0) → IfErr r (IsRefusal first) → IfErr r (IsRefusal (memory_or (either first second)))
+only_success (Ok y) first second h = tt
+only_success (Err e) first second h = only-first-part first second e h
+
+pub only_failure : {Y : Type 0} (r : Result Y Error) (first second : Error → Type 0) → IfErr r (IsRefusal second) → IfErr r (IsRefusal (memory_or (either first second)))
+only_failure (Ok y) first second h = tt
+only_failure (Err e) first second h = only-second-part first second e h
+
+-- ---- reading one
+
+pub outcome_refused : {A B : Type 0} (own : Error → Type 0) (context : Context A B) (s t : Shape) (e : Error) (rest : Rest A) → (bytes_of bool_at (λ b. b) rest ≡ Err e) ⊎ ⊥ → (read context (outcome s t) rest ≡ Err e) ⊎ own e
+unfolding read read_with
+outcome_refused own context s t e rest (inl h) = inl (rw h refl)
+outcome_refused own context s t e rest (inr h) = absurd h
+
+pub success_refused : {A B : Type 0} (first second : Error → Type 0) (context : Context A B) (s t : Shape) (e : Error) (rest mid : Rest A) (good : Bool) → bytes_of bool_at (λ b. b) rest ≡ Ok (good, mid) → good ≡ true → (read context s mid ≡ Err e) ⊎ first e
+    → (read context (outcome s t) rest ≡ Err e) ⊎ either first second e
+unfolding read read_with
+success_refused first second context s t e rest mid good flagged which (inl h) = inl (rw (flagged, which, h) refl)
+success_refused first second context s t e rest mid good flagged which (inr h) = inr (inl h)
+
+pub failure_refused : {A B : Type 0} (first second : Error → Type 0) (context : Context A B) (s t : Shape) (e : Error) (rest mid : Rest A) (good : Bool) → bytes_of bool_at (λ b. b) rest ≡ Ok (good, mid) → good ≡ false → (read context t mid ≡ Err e) ⊎ second e
+    → (read context (outcome s t) rest ≡ Err e) ⊎ either first second e
+unfolding read read_with
+failure_refused first second context s t e rest mid good flagged which (inl h) = inl (rw (flagged, which, h) refl)
+failure_refused first second context s t e rest mid good flagged which (inr h) = inr (inr h)
+
+pub gave_success : {A T X : Type 0} (M : T → Meaning ArcRef → Type 0) (N : X → Meaning ArcRef → Type 0) (x : T) (context : Context A ArcRef) (s t : Shape) (rest mid after : Rest A) (good : Bool) → bytes_of bool_at (λ b. b) rest ≡ Ok (good, mid) → good ≡ true → Gave (M x) after (read context s mid)
+    → Gave (MeansResult M N (Ok x)) after (read context (outcome s t) rest)
+unfolding read read_with
+gave_success M N x context s t rest mid after good flagged which g = record { m = success g.m; is = means-ok x g.m g.is; gave = rw (flagged, which, g.gave) refl }
+
+pub gave_failure : {A T X : Type 0} (M : T → Meaning ArcRef → Type 0) (N : X → Meaning ArcRef → Type 0) (x : X) (context : Context A ArcRef) (s t : Shape) (rest mid after : Rest A) (good : Bool) → bytes_of bool_at (λ b. b) rest ≡ Ok (good, mid) → good ≡ false → Gave (N x) after (read context t mid)
+    → Gave (MeansResult M N (Err x)) after (read context (outcome s t) rest)
+unfolding read read_with
+gave_failure M N x context s t rest mid after good flagged which g = record { m = failure g.m; is = means-err x g.m g.is; gave = rw (flagged, which, g.gave) refl }
+
+-- ---- arrays
+
+pub writes_array : {Y T : Type 0} (r : Result Y Error) (M : T → Meaning ArcRef → Type 0) (xs : List T) (count : ℕ) (n : Nesting) (s : Shape) (old new : Out) → length xs ≡ count → OnOk r (WritesSomeAll (MeanAll M xs) n s old new) → OnOk r (WritesSome (MeansList M xs) n (array count s) old new)
+writes_array (Ok y) M xs count n s old new e v =
+    record {
+      m = sequence v.ms;
+      is = record { ms = v.ms; each = v.is; is = refl };
+      wrote = record { bytes = v.wrote.bytes; refs = v.wrote.refs; form = array-form _ count s v.ms _ _ (mean-length v.is ∙ e) v.wrote.form; grown = v.wrote.grown };
+    }
+writes_array (Err y) M xs count n s old new e v = tt
+
+array-parts : (n : Nesting) {count : ℕ} {s : Shape} {m : Meaning ArcRef} {b : List ℕ} {k : List ArcRef} (ms : List (Meaning ArcRef)) → FormAt n (array count s) m b k → m ≡ sequence ms → FormsAt n s ms b k
+array-parts n ms (array-form l count s' xs b' k' le f) e =
+    let same : xs ≡ ms = sequence-same xs ms e in
+    let Q : List (Meaning ArcRef) → Type 0 = λ x. FormsAt n s' x b' k' in
+    subst Q same f
+
+no-items : (n : Nesting) (count : ℕ) (s : Shape) (ms : List (Meaning ArcRef)) → NoForms n s ms → NoForm n (array count s) (sequence ms)
+no-items n count s ms h b k f = h b k (array-parts n ms f refl)
+
+pub refused_array : {Y T : Type 0} (r : Result Y Error) (M : T → Meaning ArcRef → Type 0) (xs : List T) (count : ℕ) (n : Nesting) (s : Shape) → IfErr r (RefusedAll (MeanAll M xs) n s) → IfErr r (Refused (MeansList M xs) n (array count s))
+refused_array (Ok y) M xs count n s h = tt
+refused_array (Err e) M xs count n s h = λ fault. let lacks = h fault in record { m = sequence lacks.ms; is = record { ms = lacks.ms; each = lacks.is; is = refl }; no_form = no-items n count s lacks.ms lacks.no_forms }
+
+pub array_refused : {A B : Type 0} (own : Error → Type 0) (context : Context A B) (s : Shape) (e : Error) (rest : Rest A) (count : ℕ) → (items (read context s) count rest ≡ Err e) ⊎ own e → (read context (array count s) rest ≡ Err e) ⊎ own e
+unfolding read read_with
+array_refused own context s e rest count (inl h) = inl (rw h refl)
+array_refused own context s e rest count (inr h) = inr h
+
+pub gave_array : {A T : Type 0} (M : T → Meaning ArcRef → Type 0) (xs ys : List T) (context : Context A ArcRef) (s : Shape) (rest after : Rest A) (count : ℕ) → xs ≡ ys → Gave (MeanAll M ys) after (items (read context s) count rest) → Gave (MeansList M xs) after (read context (array count s) rest)
+unfolding read read_with
+gave_array M xs ys context s rest after count e g = record { m = sequence g.m; is = record { ms = g.m; each = rw e g.is; is = refl }; gave = rw g.gave refl }
+
+-- ---- tuples
+
+-- what one thing means, another means too
+pub pair_along : {A B C D : Type 0} (M : A → Meaning ArcRef → Type 0) (N : B → Meaning ArcRef → Type 0) (M' : C → Meaning ArcRef → Type 0) (N' : D → Meaning ArcRef → Type 0) (p : A × B) (q : C × D)
+    → ((m : Meaning ArcRef) → M p.0 m → M' q.0 m) → ((m : Meaning ArcRef) → N p.1 m → N' q.1 m) → (m : Meaning ArcRef) → MeansPair M N p m → MeansPair M' N' q m
+pair_along M N M' N' p q f g m h = record { first = h.first; second = h.second; is_first = f h.first h.is_first; is_second = g h.second h.is_second; is = h.is }
+
+pub writes_along : {Y : Type 0} (r : Result Y Error) (P Q : Meaning ArcRef → Type 0) (n : Nesting) (s : Shape) (old new : Out) → OnOk r (WritesSome P n s old new) → ((m : Meaning ArcRef) → P m → Q m) → OnOk r (WritesSome Q n s old new)
+writes_along (Ok y) P Q n s old new w f = record { m = w.m; is = f w.m w.is; wrote = w.wrote }
+writes_along (Err y) P Q n s old new w f = tt
+
+pub refused_along : {Y : Type 0} (r : Result Y Error) (P Q : Meaning ArcRef → Type 0) (n : Nesting) (s : Shape) → IfErr r (Refused P n s) → ((m : Meaning ArcRef) → P m → Q m) → IfErr r (Refused Q n s)
+refused_along (Ok y) P Q n s h f = tt
+refused_along (Err e) P Q n s h f = λ fault. let no = h fault in record { m = no.m; is = f no.m no.is; no_form = no.no_form }
+
+pub gave_along : {R : Type 0} (P Q : Meaning ArcRef → Type 0) (after : R) (read : Result (Meaning ArcRef × R) Error) → Gave P after read → ((m : Meaning ArcRef) → P m → Q m) → Gave Q after read
+gave_along P Q after read g f = record { m = g.m; is = f g.m g.is; gave = g.gave }

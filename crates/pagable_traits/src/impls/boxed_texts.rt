@@ -1,0 +1,74 @@
+//! Texts that are lent or boxed.
+
+ghost use Rattle.std.specs.Prelude.{◌≡◌, OnOk, IfErr, refl};
+ghost use Rattle.std.specs.Box.{boxed_str_bytes};
+ghost use Rattle.pagable_model.specs.Gives.{memory};
+ghost use Rattle.pagable_model.specs.Shape.{text as text_shape};
+ghost use Rattle.pagable_model.specs.Meaning.{text as text_meaning};
+ghost use Rattle.pagable_model.specs.Standing.{Is};
+ghost use Rattle.pagable_model.specs.Writing.{nesting, WritesSome, Refused, IsRefusal, Grows};
+ghost use Rattle.pagable_model.specs.Causes.{memory_is_own_reading, memory_is_own_writing};
+
+use crate::traits::{Carried, OneMeaning, PagableDeserialize, PagableSerialize};
+use pagable_codec::deserializer::PagableDeserializer;
+use pagable_codec::env::Env;
+use pagable_codec::serializer::PagableSerializer;
+use pagable_flavors::Error;
+use std::alloc::Global;
+use std::boxed::BoxedStr;
+
+/// Writes a text as a `String` is written: its length in bytes, and its bytes. TooLong above 4,294,967,295 bytes; else
+/// refused by want of memory alone.
+pub fn serialize_str<E: Env, S: PagableSerializer<E>>(
+    text: &str,
+    serializer: &mut S,
+) -> Result<(), Error>
+    ensures ok { OnOk result (WritesSome (Is text_meaning text.now) (nesting (S.levels serializer.old) (E.parts (S.environment serializer.old))) text_shape (S.out serializer.old) (S.out serializer.new)) }
+    ensures refused { IfErr result (Refused (Is text_meaning text.now) (nesting (S.levels serializer.old) (E.parts (S.environment serializer.old))) text_shape) }
+    ensures only { IfErr result (IsRefusal memory) }
+    ensures err { Grows (S.out serializer.old) (S.out serializer.new) }
+    ensures same_env { S.environment serializer.new ≡ S.environment serializer.old }
+    ensures same_levels { S.levels serializer.new ≡ S.levels serializer.old }
+{
+    serializer.serde().write_str(text)
+}
+
+impl<E: Env> Carried<E> for BoxedStr {
+    ghost shape = { λ e. text_shape };
+
+    ghost means = { Is (λ s. text_meaning (boxed_str_bytes s)) };
+
+    ghost has_meaning = { λ s. (text_meaning (boxed_str_bytes s), refl) };
+}
+
+impl<E: Env> OneMeaning<E> for BoxedStr {
+    ghost meaning = { λ s. text_meaning (boxed_str_bytes s) };
+
+    ghost is_meaning = { λ s. refl };
+
+    ghost single = { λ s m is. is };
+}
+
+impl<E: Env> PagableSerialize<E> for BoxedStr {
+    ghost write_causes = { memory };
+
+    ghost write_causes_are_own = { memory_is_own_writing };
+
+    fn pagable_serialize<S: PagableSerializer<E>>(&self, serializer: &mut S) -> Result<(), Error> {
+        serialize_str(self.as_str(), serializer)
+    }
+}
+
+impl<'de, E: Env> PagableDeserialize<'de, E> for BoxedStr {
+    ghost read_causes = { memory };
+
+    ghost read_causes_are_own = { memory_is_own_reading };
+
+    fn pagable_deserialize<D: PagableDeserializer<E>>(
+        alloc: Global,
+        deserializer: &mut D,
+    ) -> Result<Self, Error> {
+        let text: String = PagableDeserialize::<E>::pagable_deserialize(alloc, deserializer)?;
+        Ok(text.into_boxed_str())
+    }
+}

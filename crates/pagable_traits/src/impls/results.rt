@@ -1,0 +1,72 @@
+//! Values that are a success or a failure.
+
+ghost use Rattle.pagable_model.specs.Carried.{of_result};
+ghost use Rattle.pagable_model.specs.Gives.{memory_or, either};
+ghost use Rattle.pagable_model.specs.Shape.{outcome};
+ghost use Rattle.pagable_model.specs.Causes.{memory_or_is_own_writing, either_is_own_reading, either_is_own_writing};
+ghost use Rattle.pagable_traits.specs.Held.{MeansResult, result_has_meaning, result_is_meaning, result_single};
+
+use crate::traits::{Carried, OneMeaning, PagableDeserialize, PagableSerialize};
+use pagable_codec::deserializer::PagableDeserializer;
+use pagable_codec::env::Env;
+use pagable_codec::parts::{read_flag, write_flag};
+use pagable_codec::serializer::PagableSerializer;
+use pagable_flavors::Error;
+use std::alloc::Global;
+
+impl<E: Env, T: Carried<E>, X: Carried<E>> Carried<E> for Result<T, X> {
+    ghost shape = { λ e. outcome (T.shape e) (X.shape e) };
+
+    ghost means = { MeansResult T.means X.means };
+
+    ghost has_meaning = { result_has_meaning T.means X.means T.has_meaning X.has_meaning };
+}
+
+impl<E: Env, T: OneMeaning<E>, X: OneMeaning<E>> OneMeaning<E> for Result<T, X> {
+    ghost meaning = { of_result T.meaning X.meaning };
+
+    ghost is_meaning = { result_is_meaning T.Carried.means X.Carried.means T.meaning X.meaning T.is_meaning X.is_meaning };
+
+    ghost single = { result_single T.Carried.means X.Carried.means T.meaning X.meaning T.single X.single };
+}
+
+impl<E: Env, T: PagableSerialize<E>, X: PagableSerialize<E>> PagableSerialize<E> for Result<T, X> {
+    ghost write_causes = { memory_or (either T.write_causes X.write_causes) };
+
+    ghost write_causes_are_own = { memory_or_is_own_writing (either T.write_causes X.write_causes) (either_is_own_writing T.write_causes X.write_causes T.write_causes_are_own X.write_causes_are_own) };
+
+    fn pagable_serialize<S: PagableSerializer<E>>(&self, serializer: &mut S) -> Result<(), Error> {
+        match self {
+            Ok(value) => {
+                write_flag(true, serializer)?;
+                value.pagable_serialize(serializer)
+            }
+            Err(failure) => {
+                write_flag(false, serializer)?;
+                failure.pagable_serialize(serializer)
+            }
+        }
+    }
+}
+
+impl<'de, E: Env, T: PagableDeserialize<'de, E>, X: PagableDeserialize<'de, E>> PagableDeserialize<
+    'de,
+    E,
+> for Result<T, X> {
+    ghost read_causes = { either T.read_causes X.read_causes };
+
+    ghost read_causes_are_own = { either_is_own_reading T.read_causes X.read_causes T.read_causes_are_own X.read_causes_are_own };
+
+    fn pagable_deserialize<D: PagableDeserializer<E>>(
+        alloc: Global,
+        deserializer: &mut D,
+    ) -> Result<Self, Error> {
+        let good = read_flag(deserializer)?;
+        if good {
+            let value = T::pagable_deserialize(alloc, deserializer)?;
+            return Ok(Ok(value));
+        }
+        let failure = X::pagable_deserialize(alloc, deserializer)?;
+        Ok(Err(failure))
+    }
+}

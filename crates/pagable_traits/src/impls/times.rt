@@ -1,0 +1,84 @@
+//! Spans of time.
+
+ghost use Rattle.std.specs.Prelude.{◌≡◌, ◌++◌, ◌<◌, ◌^◌, OnOk, IfErr, refl};
+ghost use Rattle.pagable_model.specs.Basic.{duration_at, duration_form};
+ghost use Rattle.pagable_model.specs.Gives.{Gives, never, memory, Extends};
+ghost use Rattle.pagable_model.specs.Shape.{duration};
+ghost use Rattle.pagable_model.specs.Standing.{Is};
+ghost use Rattle.pagable_model.specs.Track.{left, GoesOn};
+ghost use Rattle.pagable_model.specs.Causes.{never_is_own_reading, memory_is_own_writing};
+ghost use Rattle.pagable_traits.specs.Held.{of_span, seconds_of, nanos_of};
+
+use crate::traits::{Carried, OneMeaning, PagableDeserialize, PagableSerialize};
+use pagable_codec::deserializer::PagableDeserializer;
+use pagable_codec::env::Env;
+use pagable_codec::reader::Reader;
+use pagable_codec::serializer::PagableSerializer;
+use pagable_flavors::{Error, PagableVecFlavor};
+use std::alloc::Global;
+use std::time::Duration;
+
+const NANOS_OF_SECOND: u32 = 1_000_000_000;
+
+// Appends the whole seconds and the nanoseconds beside them.
+fn write_span(span: Duration, writer: &mut PagableVecFlavor) -> Result<(), Error>
+    ensures ok { OnOk result (writer.new ≡ writer.old ++ duration_form (seconds_of span) (nanos_of span)) }
+    ensures fits { seconds_of span < 2 ^ 64 }
+    ensures only { IfErr result memory }
+    ensures err { Extends writer.old writer.new }
+{
+    writer.write_u64(span.as_secs())?;
+    writer.write_u32(span.subsec_nanos())
+}
+
+// Reads seconds and nanoseconds, of which whole seconds are carried over: BadDuration where the seconds overflow.
+fn read_span<R: Reader>(reader: &mut R) -> Result<Duration, Error>
+    ensures gives { Gives never (λ d. ((seconds_of d, nanos_of d), left (R.track reader.new))) result (duration_at (left (R.track reader.old))) }
+    ensures goes { GoesOn (R.track reader.old) (R.track reader.new) }
+{
+    let seconds = reader.read_u64()?;
+    let nanos = reader.read_u32()?;
+    if seconds > u64::MAX - (nanos / NANOS_OF_SECOND) as u64 {
+        return Err(Error::BadDuration);
+    }
+    Ok(Duration::new(seconds, nanos))
+}
+
+impl<E: Env> Carried<E> for Duration {
+    ghost shape = { λ e. duration };
+
+    ghost means = { Is of_span };
+
+    ghost has_meaning = { λ d. (of_span d, refl) };
+}
+
+impl<E: Env> OneMeaning<E> for Duration {
+    ghost meaning = { of_span };
+
+    ghost is_meaning = { λ d. refl };
+
+    ghost single = { λ d m is. is };
+}
+
+impl<E: Env> PagableSerialize<E> for Duration {
+    ghost write_causes = { memory };
+
+    ghost write_causes_are_own = { memory_is_own_writing };
+
+    fn pagable_serialize<S: PagableSerializer<E>>(&self, serializer: &mut S) -> Result<(), Error> {
+        write_span(*self, serializer.serde())
+    }
+}
+
+impl<'de, E: Env> PagableDeserialize<'de, E> for Duration {
+    ghost read_causes = { never };
+
+    ghost read_causes_are_own = { never_is_own_reading };
+
+    fn pagable_deserialize<D: PagableDeserializer<E>>(
+        _alloc: Global,
+        deserializer: &mut D,
+    ) -> Result<Self, Error> {
+        read_span(deserializer.serde())
+    }
+}
