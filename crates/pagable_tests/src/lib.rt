@@ -10,9 +10,9 @@ mod byte_arrays;
 mod calls;
 #[cfg(test)]
 mod cursors;
+mod equal;
 #[cfg(test)]
 mod json;
-mod equal;
 #[cfg(test)]
 mod laws;
 #[cfg(test)]

@@ -1,4 +1,4 @@
-//! The calls that change a pager or its storage, and what they answer.
+//! The calls and steps of loads that change a pager or its storage, and what they answer.
 
 use pagable::{Beginning, DataKey, Error, HandleNumber, LoadNumber, Pinning};
 
@@ -45,7 +45,7 @@ pub struct Value {
     pub text: Text,
 }
 
-/// A call.
+/// A call, or a step of a load.
 #[derive(Clone, Copy, Debug)]
 pub enum Call {
     NewLoose(Value),
@@ -66,6 +66,9 @@ pub enum Call {
     LoadFetch(LoadNumber),
     LoadEnd(LoadNumber, Value),
     LoadDrop(LoadNumber),
+    /// A load begins that is read by steps.
+    LoadStart(HandleNumber),
+    LoadStep(LoadNumber),
 }
 
 /// What a call answers.
@@ -84,6 +87,12 @@ pub enum Answer {
     Refused(Error),
     /// The end of a load was refused, and the load is closed by that.
     Closed(Error),
+    /// A load goes on after so many steps.
+    GoesOn(u64),
+    /// A load's step has ended it with this pin, after so many steps.
+    Loaded(HandleNumber, u64),
+    /// A load's step was refused, and the load is closed after so many steps.
+    Stopped(Error, u64),
 }
 
 impl Call {
@@ -106,6 +115,8 @@ impl Call {
             Call::LoadFetch(_) => "load_fetch",
             Call::LoadEnd(_, _) => "load_end",
             Call::LoadDrop(_) => "load_drop",
+            Call::LoadStart(_) => "load_start",
+            Call::LoadStep(_) => "load_step",
         }
     }
 }
@@ -160,13 +171,22 @@ impl Answer {
         matches!(self, Answer::Text(_))
     }
 
+    /// Whether a load's step has got the blob.
+    pub fn goes_on(&self) -> bool {
+        matches!(self, Answer::GoesOn(_))
+    }
+
     /// What came of the call, in a word or two.
     pub fn name(&self) -> &'static str {
         match self {
             Answer::Refused(refusal) => refusal_name(refusal),
-            Answer::Closed(Error::NoSuchHandle) => "NoSuchHandle, closed",
+            Answer::Closed(Error::NoSuchHandle) | Answer::Stopped(Error::NoSuchHandle, _) => {
+                "NoSuchHandle, closed"
+            }
             Answer::Closed(Error::NotYours) => "NotYours, closed",
             Answer::Closed(_) => "unexpected, closed",
+            Answer::Stopped(refusal, _) => refusal_name(refusal),
+            Answer::GoesOn(_) => "goes on",
             Answer::NeedsLoad(_) => "NeedsLoad",
             Answer::InMemory => "InMemory",
             Answer::Nothing => "nothing",

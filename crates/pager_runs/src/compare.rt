@@ -1,6 +1,6 @@
 //! Whether the two pagers look the same.
 
-use crate::real::RunPager;
+use crate::machine::RunPager;
 use pagable::{HandleNumber, NodeNumber};
 use pagable_plain_world::PlainPager;
 

@@ -32,7 +32,7 @@ fn cell_of(plain: &PlainPager, call: Call) -> Option<NodeNumber> {
         Call::Unpin(handle) | Call::Release(handle) | Call::SetDataKey(handle, _) => {
             plain.node_of(handle).ok()
         }
-        Call::LoadEnd(load, _) => plain.cell_of(load),
+        Call::LoadEnd(load, _) | Call::LoadStep(load) => plain.cell_of(load),
         _ => None,
     }
 }

@@ -1,5 +1,6 @@
-//! Draws lists of calls from fixed seeds, makes each call on the pager and on the plain pager, and compares what they answer
-//! and how they stand. Ends with status 1 at the first difference, or where too little happened.
+//! Draws lists of calls from fixed seeds, makes each call on the machine and on the plain one, and compares what they answer
+//! and how they stand; then makes all as one list on a second machine. Ends with status 1 at the first difference, or where too
+//! little happened.
 #![tactic(auto)]
 
 pub mod calls;
@@ -7,10 +8,11 @@ pub mod compare;
 pub mod counts;
 pub mod dice;
 pub mod events;
+pub mod machine;
 pub mod nodes;
 pub mod plain;
+pub mod plain_machine;
 pub mod plan;
-pub mod real;
 pub mod runs;
 pub mod stage;
 pub mod wanted;
@@ -25,20 +27,18 @@ use std::alloc::Global;
 /// How many runs there are.
 const RUNS: u64 = 10_000;
 
-/// The first difference in the run of a seed, and the number of its call from 0.
-fn run(
+/// The first difference in a run that is made call by call, and the number of its call from 0.
+fn singly(
     alloc: Global,
-    seed: u64,
-    key: DataKey,
+    run: &mut Run,
     counts: &mut Counts,
 ) -> Result<Option<(u64, Difference)>, Error> {
-    let mut run = Run::new(alloc, seed, key);
     let length = run.length();
-    let found = steps(alloc, &mut run, length, counts)?;
+    let found = steps(alloc, run, length, counts)?;
     if found.is_some() {
         return Ok(found);
     }
-    empty(alloc, &mut run, length, counts)
+    empty(alloc, run, length, counts)
 }
 
 /// Makes so many calls.
@@ -71,23 +71,39 @@ fn empty(
     Ok(None)
 }
 
+/// Makes the run of a seed, call by call and then as one list, and fails where something differs.
+fn run_of(
+    rt: &impl Print,
+    alloc: Global,
+    seed: u64,
+    key: DataKey,
+    counts: &mut Counts,
+) -> anyhow::Result<()> {
+    let mut run = Run::new(alloc, seed, key);
+    if let Some((number, difference)) = singly(alloc, &mut run, counts)? {
+        return differ(rt, seed, number, &difference);
+    }
+    if !run.is_same_as_a_list(alloc, seed, key)? {
+        bail!("seed {seed}: the machine answers the list as a whole otherwise");
+    }
+    Ok(())
+}
+
 fn main(rt: HostRuntime) -> anyhow::Result<()> {
     let alloc = rt.alloc();
     let key = DataKey::new(5).context("5 is a key")?;
     let mut counts = Counts::new(alloc);
     for seed in 0..RUNS {
-        if let Some((number, difference)) = run(alloc, seed, key, &mut counts)? {
-            return differ(&rt, seed, number, &difference);
-        }
+        run_of(&rt, alloc, seed, key, &mut counts)?;
     }
     counts.print(&rt)?;
     are_enough(&counts)
 }
 
-/// Prints where the two pagers differ, and fails.
+/// Prints where the two machines differ, and fails.
 fn differ(rt: &impl Print, seed: u64, number: u64, difference: &Difference) -> anyhow::Result<()> {
     println!(rt; "seed {seed}, call {number}: {difference:?}")?;
-    bail!("the pagers differ");
+    bail!("the machines differ");
 }
 
 /// Refuses counts where too little happened.

@@ -1,4 +1,4 @@
-//! The same calls on the plain pager.
+//! The same calls on the plain pager, but of a load's steps.
 
 use crate::calls::{Answer, Call, Value, beginning, done, given, pinning, taken};
 use pagable::{DataKey, Error, HandleNumber, LoadNumber, Mode};
@@ -63,7 +63,7 @@ fn store(alloc: Global, pager: &mut PlainPager, handle: HandleNumber) -> Result<
 }
 
 /// The text that a blob reads as.
-fn text(alloc: Global, blob: &PlainBlob) -> Result<Answer, Error> {
+pub fn text(alloc: Global, blob: &PlainBlob) -> Result<Answer, Error> {
     match read_sample(alloc, Sort::Text, blob.bytes.as_slice())? {
         (Sample::Text(text), _) => Ok(Answer::Text(text)),
         _ => Ok(Answer::Nothing),
@@ -90,8 +90,8 @@ fn load_end(
     }
 }
 
-/// Makes the call. A refusal that closes a load is an answer.
-fn make(alloc: Global, pager: &mut PlainPager, call: Call) -> Result<Answer, Error> {
+/// Makes the call. A refusal that closes a load is an answer. A load's step isn't made here.
+pub fn make(alloc: Global, pager: &mut PlainPager, call: Call) -> Result<Answer, Error> {
     match call {
         Call::NewLoose(value) => new_cell(alloc, pager, value, Mode::LoosePinned),
         Call::NewPinned(value) => new_cell(alloc, pager, value, Mode::Pinned),
@@ -105,17 +105,10 @@ fn make(alloc: Global, pager: &mut PlainPager, call: Call) -> Result<Answer, Err
         Call::TakePending(place) => Ok(taken(pager.take_pending(place))),
         Call::Store(handle) => store(alloc, pager, handle),
         Call::Fetch(key) => text(alloc, pager.fetch(key)?),
-        Call::LoadBegin(handle) => beginning(pager.load_begin(handle)),
+        Call::LoadBegin(handle) | Call::LoadStart(handle) => beginning(pager.load_begin(handle)),
         Call::LoadFetch(load) => load_fetch(alloc, pager, load),
         Call::LoadEnd(load, value) => load_end(alloc, pager, load, value),
         Call::LoadDrop(load) => done(pager.load_drop(load)),
-    }
-}
-
-/// Makes the call, and gives what it answers.
-pub fn answer_to(alloc: Global, pager: &mut PlainPager, call: Call) -> Answer {
-    match make(alloc, pager, call) {
-        Ok(answer) => answer,
-        Err(refusal) => Answer::Refused(refusal),
+        Call::LoadStep(_) => Ok(Answer::Nothing),
     }
 }

@@ -3,6 +3,7 @@
 use crate::calls::{Answer, Call, TEXTS, Text, Value};
 use crate::dice::Dice;
 use crate::nodes::{NAMES, NOTES};
+use crate::plain_machine::PlainMachine;
 use crate::stage::Stage;
 use pagable::{DataKey, HandleNumber, LoadNumber, NodeNumber};
 use pagable_plain_world::PlainPager;
@@ -32,16 +33,24 @@ impl Plan {
     }
 
     /// The next call, and whether it is one of the page-out or load that is under way.
-    pub fn next(&mut self, plain: &PlainPager) -> (Call, bool) {
+    pub fn next(&mut self, plain: &PlainMachine) -> (Call, bool) {
         if self.below(3) > 0 {
-            if let Stage::Fetched(load) = self.stage {
-                return (self.end_of(plain, load), true);
-            }
-            if let Some(call) = self.stage.call() {
+            if let Some(call) = self.staged(plain) {
                 return (call, true);
             }
         }
         (self.drawn(plain), false)
+    }
+
+    /// The next call of the page-out or load that is under way.
+    fn staged(&mut self, plain: &PlainMachine) -> Option<Call> {
+        let stage = self.stage;
+        match stage {
+            Stage::Fetched(load) => Some(self.end_of(plain.pager(), load)),
+            Stage::Started(load) | Stage::Stepped(load) => Some(step_of(plain, load)),
+            Stage::Away(handle) if self.below(2) == 0 => Some(Call::LoadStart(handle)),
+            stage => stage.call(),
+        }
     }
 
     /// Goes on from what the call answered. A page-out or load that begins cuts off another one.
@@ -50,15 +59,16 @@ impl Plan {
             self.key = key;
         }
         if is_staged {
-            self.stage = self.stage.after(answer);
+            self.stage = self.stage.after(call, answer);
         } else if let Some(stage) = Stage::begun(call, answer) {
             self.stage = stage;
         }
     }
 
     /// A call of any sort. As long as no load was begun, few ask for one.
-    fn drawn(&mut self, plain: &PlainPager) -> Call {
-        let sorts = if plain.last_load() == 0 { 22 } else { 24 };
+    fn drawn(&mut self, machine: &PlainMachine) -> Call {
+        let plain = machine.pager();
+        let sorts = if plain.last_load() == 0 { 23 } else { 27 };
         match self.below(sorts) {
             0 => Call::NewLoose(self.value()),
             1 => Call::NewPinned(self.value()),
@@ -73,8 +83,10 @@ impl Plan {
             16 => Call::Fetch(self.key),
             17 | 18 => Call::LoadBegin(self.handle(plain)),
             19 | 20 => Call::TakePending(self.place(plain)),
-            21 => Call::LoadFetch(self.load(plain)),
-            22 => Call::LoadDrop(self.load(plain)),
+            21 => Call::LoadStart(self.handle(plain)),
+            22 => Call::LoadFetch(self.load(plain)),
+            23 => Call::LoadDrop(self.load(plain)),
+            24 | 25 => step_of(machine, self.load(plain)),
             _ => {
                 let load = self.load(plain);
                 self.end_of(plain, load)
@@ -151,6 +163,18 @@ impl Plan {
             value.node_type = plain.node_live(node).unwrap_or(NAMES);
         }
         Call::LoadEnd(load, value)
+    }
+}
+
+/// A load's step. One that would bring another text than the cell's is given up instead: then the key that was set reads as
+/// another value than it has to.
+fn step_of(plain: &PlainMachine, load: LoadNumber) -> Call {
+    match (plain.fetched(load), plain.pager().cell_of(load)) {
+        (Some(text), Some(node))
+            if plain.pager().is_away(node) && plain.pager().text_of(node) != Some(text) => {
+            Call::LoadDrop(load)
+        }
+        _ => Call::LoadStep(load),
     }
 }
 

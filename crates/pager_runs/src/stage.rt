@@ -24,6 +24,10 @@ pub enum Stage {
     Opened(LoadNumber),
     /// The blob was fetched, and the load is to end.
     Fetched(LoadNumber),
+    /// A load was begun that is read by steps, and is to make its first.
+    Started(LoadNumber),
+    /// The first step has got the blob, and the second is to come.
+    Stepped(LoadNumber),
 }
 
 impl Stage {
@@ -32,15 +36,16 @@ impl Stage {
         match call {
             Call::TakePending(_) => Some(Stage::Taken(answer.handle()?)),
             Call::LoadBegin(_) => Some(Stage::Opened(answer.load()?)),
+            Call::LoadStart(_) => Some(Stage::Started(answer.load()?)),
             Call::Pin(handle) if answer.needs_load() => Some(Stage::Away(handle)),
             _ => None,
         }
     }
 
-    /// The next call, but of a load's end.
+    /// The next call, but of a load's end and its steps.
     pub fn call(self) -> Option<Call> {
         match self {
-            Stage::Idle | Stage::Fetched(_) => None,
+            Stage::Idle | Stage::Fetched(_) | Stage::Started(_) | Stage::Stepped(_) => None,
             Stage::Taken(entry) => Some(Call::Pin(entry)),
             Stage::Held(_, pinned) => Some(Call::Store(pinned)),
             Stage::Stored(entry, _, key) => Some(Call::SetDataKey(entry, key)),
@@ -52,7 +57,7 @@ impl Stage {
     }
 
     /// Where it stands after its call was answered.
-    pub fn after(self, answer: &Answer) -> Stage {
+    pub fn after(self, call: Call, answer: &Answer) -> Stage {
         match self {
             Stage::Taken(entry) => match answer.handle() {
                 Some(pinned) => Stage::Held(entry, pinned),
@@ -64,11 +69,9 @@ impl Stage {
             },
             Stage::Stored(entry, pinned, _) => Stage::Keyed(entry, pinned),
             Stage::Keyed(entry, _) => Stage::Ending(entry),
-            Stage::Away(_) => match answer.load() {
-                Some(load) => Stage::Opened(load),
-                None => Stage::Idle,
-            },
+            Stage::Away(_) => Stage::begun(call, answer).unwrap_or(Stage::Idle),
             Stage::Opened(load) if answer.is_text() => Stage::Fetched(load),
+            Stage::Started(load) if answer.goes_on() => Stage::Stepped(load),
             _ => Stage::Idle,
         }
     }

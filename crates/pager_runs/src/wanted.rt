@@ -4,10 +4,17 @@ use crate::counts::{Counts, Name};
 use crate::events::{EVICTED, LISTED_AGAIN, LOADED_AGAIN, LOADED_FIRST};
 
 /// What has to happen a hundred times.
-static OFTEN: [Name; 4] = [EVICTED, LISTED_AGAIN, LOADED_AGAIN, LOADED_FIRST];
+static OFTEN: [Name; 6] = [
+    EVICTED,
+    LISTED_AGAIN,
+    LOADED_AGAIN,
+    LOADED_FIRST,
+    ("load_step", "goes on"),
+    ("load_step", "ok"),
+];
 
 /// What has to happen: each refusal of each call that can be reached.
-static ONCE: [Name; 30] = [
+static ONCE: [Name; 37] = [
     ("clone", "NoSuchHandle"),
     ("into_pagable", "NoSuchHandle"),
     ("into_pagable", "NotYours"),
@@ -38,6 +45,13 @@ static ONCE: [Name; 30] = [
     ("load_end", "NoSuchHandle, closed"),
     ("load_end", "WrongKind"),
     ("load_drop", "NoSuchHandle"),
+    ("load_start", "NoSuchHandle"),
+    ("load_start", "NotYours"),
+    ("load_start", "WrongMode"),
+    ("load_step", "NoSuchHandle"),
+    ("load_step", "NoSuchHandle, closed"),
+    ("load_step", "NoData"),
+    ("load_step", "Storage"),
 ];
 
 /// The first of these that happened less often than this.
