@@ -24,7 +24,7 @@ use Rattle.pagable_world.specs.Shown.{Shown}
 use Rattle.pagable_world.specs.LoadSteps.{one_more}
 use Rattle.pagable_world.specs.TodayTrees.{TodayWorld, RepresentsToday, CellFits, KeyReads, ReadFits}
 use Rattle.pagable_world.specs.MachineSteps.{MachineWorld, world_of}
-use Rattle.pagable_world.specs.LoadMoves.{FetchedRoot, EventSight, HasFetched, HasFetchedNothing, without_load, read_root, IsReadOf, RefusesRoot, StepFetches, StepEnds, LoadStepped}
+use Rattle.pagable_world.specs.LoadMoves.{FetchedRoot, EventSight, HasFetched, HasFetchedNothing, without_load, read_root, IsReadFrom, RefusesRoot, StepFetches, StepEnds, LoadStepped}
 use Rattle.pagable_world.specs.MachineRuns.{FetchedFits}
 use Rattle.pagable_machine.specs.declared.fetched.FetchedBlob.{FetchedBlob}
 use Rattle.pagable_machine.specs.Rows.{fetched_of}
@@ -65,7 +65,7 @@ same-root m env t blob = let P : List Answer → Rest Answer = λ refs. record {
 
 -- what was read, or why it wasn't
 abbrev ReadsBlob : {N S E B C : Type 0} → EventSight N S E B C → E → ℕ → Blob → Result N Error → Type 0
-ReadsBlob m env t blob (Ok x) = IsReadOf m env t blob x
+ReadsBlob m env t blob (Ok x) = IsReadFrom m env t blob x
 ReadsBlob m env t blob (Err e) = RefusesRoot m env t blob e
 
 reads-blob : {N S E B C : Type 0} (m : EventSight N S E B C) (env : E) (t : ℕ) (blob : Blob) (r : Result N Error) → IfOk r (λ x. m.machine.sight.type_of x ≡ t) → ReadsAlone m.read_causes m.machine.sight.means (record { nodes = m.machine.sight.shape_of env; parts = m.machine.sight.parts env }) t blob r → ReadsBlob m env t blob r

@@ -64,7 +64,7 @@ read_root m env t blob =
     read_typed (handles_at 0 (m.machine.sight.parts env)) (m.machine.sight.shape_of env t) (record { bytes = blob.bytes; refs = map (λ key kind. Err errors.WrongKind) blob.keys })
 
 -- the value is one that the blob reads as
-pub record IsReadOf {N S E B C : Type 0} (m : EventSight N S E B C) (env : E) (t : ℕ) (blob : Blob) (x : N) : Type 0 where
+pub record IsReadFrom {N S E B C : Type 0} (m : EventSight N S E B C) (env : E) (t : ℕ) (blob : Blob) (x : N) : Type 0 where
   pub own : Meaning ArcRef
   pub rest : Rest Answer
   pub read : read_root m env t blob ≡ Ok (own, rest)
@@ -100,9 +100,9 @@ StepFetches w p load (Some _) w' = ⊥
 -- The second step ends the load: with a pin of its cell, whose value is one that the blob reads as; or with a refusal, and then
 -- the load is closed and no more.
 abbrev pub StepEnds : {N S E B C : Type 0} → EventSight N S E B C → E → MachineWorld → ℕ → LoadRow → ℕ → Blob → Option (LoadAnswer N) → MachineWorld → Type 0
-StepEnds {N} m env w p load t blob (Some (ends.Pinned k)) w' = (x : N) × IsReadOf m env t blob x × Ended w.tables load.number (Ok k) w'.tables × OnlyTables w w'
+StepEnds {N} m env w p load t blob (Some (ends.Pinned k)) w' = (x : N) × IsReadFrom m env t blob x × Ended w.tables load.number (Ok k) w'.tables × OnlyTables w w'
 StepEnds {N} m env w p load t blob (Some (ends.Refused e)) w' =
-    (RefusesRoot m env t blob e ⊎ ((x : N) × IsReadOf m env t blob x × RefusesPin w.tables load e)) × Closes w.tables p load w'.tables × OnlyTables w w'
+    (RefusesRoot m env t blob e ⊎ ((x : N) × IsReadFrom m env t blob x × RefusesPin w.tables load e)) × Closes w.tables p load w'.tables × OnlyTables w w'
 StepEnds m env w p load t blob _ w' = ⊥
 
 -- A load's step, with how many it has made. Of a load that isn't open, nothing is done and nothing counted.
