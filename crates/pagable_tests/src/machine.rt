@@ -1,15 +1,17 @@
 //! Lists of events on a machine of texts. Numbers of handles are worked out by hand: they count from 1, and an entry of the
 //! list has a handle of its own.
 
-use crate::calls::empty;
+use crate::calls::{TextPager, empty};
 use pagable::{
-    Beginning, Error, EventReply, HandleNumber, LoadAnswer, LoadNumber, LoadReply, Machine,
-    MachineCall, MachineEvent, PagableData, Reply,
+    Beginning, Error, EventReply, HandleNumber, InMemoryBlobs, LoadAnswer, LoadNumber, LoadReply,
+    Machine, MachineCall, MachineEvent, PagableData, Reply, WeighHash,
 };
-use pagable_samples::{TextNode, paging};
+use pagable_samples::{FailingStorage, TextEnv, TextNode, paging};
 use std::alloc::{AllocError, Global};
 use std::sync::Arc;
 use std::test::Fail;
+
+type TextStorage = FailingStorage<InMemoryBlobs<TextEnv<WeighHash>>>;
 
 const FIRST: HandleNumber = HandleNumber(1);
 
@@ -94,6 +96,8 @@ enum Told {
     NotOpen(Error),
     /// How many handles pin the node.
     Count(u64),
+    /// Whether the value has to be read first.
+    Away(bool),
     /// Anything else.
     Other,
 }
@@ -116,8 +120,36 @@ fn told_by(reply: EventReply<TextNode, Arc<PagableData>, ()>) -> Told {
         EventReply::LoadMoved(Ok(step)) => moved(step),
         EventReply::LoadMoved(Err(e)) => Told::NotOpen(e),
         EventReply::CallReply(Reply::Count(Ok(count))) => Told::Count(count),
+        EventReply::CallReply(Reply::Away(Ok(is_away))) => Told::Away(is_away),
         _ => Told::Other,
     }
+}
+
+/// A pager with one cell of this text, which is paged out, and whose storage fails once, after so many calls.
+fn paged_out(alloc: Global, text: &str, calls_before: u64) -> Result<Option<TextPager>, Fail> {
+    let mut pager = empty(alloc, calls_before);
+    let Ok(first) = pager.new_loose(alloc, TextNode::new(alloc, text)?) else {
+        return Ok(None);
+    };
+    if pager.unpin(first).is_err() || paging::page_out_pending(alloc, &mut pager).is_err() {
+        return Ok(None);
+    }
+    Ok(Some(pager))
+}
+
+/// What the events tell.
+fn answers_to(
+    alloc: Global,
+    machine: &mut Machine<TextEnv<WeighHash>, TextStorage>,
+    events: Vec<MachineEvent<TextNode, PagableData>>,
+) -> Result<Vec<Told>, Fail> {
+    let mut answers = Vec::new(alloc);
+    if let Ok(replies) = machine.run(alloc, events) {
+        for reply in replies {
+            answers.push(told_by(reply))?;
+        }
+    }
+    Ok(answers)
 }
 
 /// What the events tell on a machine with one cell, which is paged out, and whose storage fails once, after so many calls.
@@ -126,21 +158,85 @@ fn run_on_paged_out(
     calls_before: u64,
     events: Vec<MachineEvent<TextNode, PagableData>>,
 ) -> Result<Vec<Told>, Fail> {
-    let mut pager = empty(alloc, calls_before);
-    let mut answers = Vec::new(alloc);
-    let Ok(first) = pager.new_loose(alloc, TextNode::new(alloc, "x")?) else {
-        return Ok(answers);
+    match paged_out(alloc, "x", calls_before)? {
+        Some(pager) => answers_to(alloc, &mut Machine::new(alloc, pager), events),
+        None => Ok(Vec::new(alloc)),
+    }
+}
+
+/// The second handle of the cell that is paged out: the list's entry and the pin of the page-out came before it.
+const OTHER: HandleNumber = HandleNumber(4);
+
+/// The pin of the first load. Each of the two loads has a handle of its own before it.
+const FIRST_PIN: HandleNumber = HandleNumber(7);
+
+/// The pin of the second load.
+const SECOND_PIN: HandleNumber = HandleNumber(8);
+
+/// Two loads of one cell are begun; the first ends, and its pins go before the second reads.
+fn two_loads(alloc: Global) -> Result<Vec<MachineEvent<TextNode, PagableData>>, AllocError> {
+    let events = vec![in alloc;
+        MachineEvent::Call(MachineCall::Clone(FIRST)),
+        MachineEvent::LoadStart(FIRST),
+        MachineEvent::LoadStart(OTHER),
+        MachineEvent::LoadStep(LOAD),
+        MachineEvent::LoadStep(LOAD),
+        MachineEvent::Call(MachineCall::Count(FIRST)),
+        MachineEvent::Call(MachineCall::Release(FIRST_PIN)),
+        MachineEvent::Call(MachineCall::Count(FIRST)),
+        MachineEvent::Call(MachineCall::Unpin(FIRST)),
+        MachineEvent::Call(MachineCall::Count(FIRST)),
+        MachineEvent::Call(MachineCall::IsPagedOut(FIRST)),
+        MachineEvent::LoadStep(LoadNumber(2)),
+        MachineEvent::LoadStep(LoadNumber(2)),
+        MachineEvent::Call(MachineCall::Count(OTHER)),
+    ]?;
+    Ok(events)
+}
+
+/// What they tell.
+fn two_loads_told(alloc: Global) -> Result<Vec<Told>, AllocError> {
+    let wanted = vec![in alloc;
+        Told::Other,
+        Told::Begun,
+        Told::Begun,
+        Told::GoesOn(1),
+        Told::Pinned(2),
+        Told::Count(2),
+        Told::Other,
+        Told::Count(1),
+        Told::Other,
+        Told::Count(0),
+        Told::Away(true),
+        Told::GoesOn(1),
+        Told::Pinned(2),
+        Told::Count(2),
+    ]?;
+    Ok(wanted)
+}
+
+#[test]
+fn two_loads_of_one_cell_are_read(rt: HostRuntime) -> Result<(), Fail> {
+    let alloc = rt.alloc();
+    let Some(pager) = paged_out(alloc, "hello world", u64::MAX)? else {
+        assert!(rt; false, "the cell is paged out");
+        return Ok(());
     };
-    if pager.unpin(first).is_err() || paging::page_out_pending(alloc, &mut pager).is_err() {
-        return Ok(answers);
-    }
     let mut machine = Machine::new(alloc, pager);
-    if let Ok(replies) = machine.run(alloc, events) {
-        for reply in replies {
-            answers.push(told_by(reply))?;
-        }
-    }
-    Ok(answers)
+    let found = answers_to(alloc, &mut machine, two_loads(alloc)?)?;
+    assert!(rt;
+        found == two_loads_told(alloc)?,
+        "two loads, and an eviction between"
+    );
+    let text = match machine.pager().value(SECOND_PIN) {
+        Ok(Some(node)) => node.as_str(),
+        _ => "none",
+    };
+    assert!(rt;
+        text == "hello world",
+        "the second load gives the text again"
+    );
+    Ok(())
 }
 
 #[test]
