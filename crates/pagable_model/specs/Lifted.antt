@@ -1,15 +1,20 @@
 -- What values that hold others mean: the meanings of their parts, put together.
-use Rattle.std.specs.Prelude.{◌≡◌, refl, Option, Some, None, List, [], ◌∷◌, map}
+use Rattle.std.specs.Prelude.{◌≡◌, refl, Option, Some, None, Result, Ok, Err, List, [], ◌∷◌, map}
 use Rattle.std.proofs.Common.{ap}
 use Rattle.pagable_model.specs.declared.numbers.ArcRef.{ArcRef}
-use Rattle.pagable_model.specs.Meaning.{Meaning, pair, sequence, absent, present}
-use Rattle.pagable_model.specs.Carried.{of_option}
+use Rattle.pagable_model.specs.Meaning.{Meaning, pair, sequence, absent, present, success, failure}
+use Rattle.pagable_model.specs.Carried.{of_option, of_result}
 use Rattle.pagable_model.specs.Standing.{SomeMeaning}
 
 -- no value, or what the value means
 pub data MeansOption {T : Type 0} (M : T → Meaning ArcRef → Type 0) : Option T → Meaning ArcRef → Type 0 where
   means-none : MeansOption M None absent
   means-some : (x : T) (m : Meaning ArcRef) → M x m → MeansOption M (Some x) (present m)
+
+-- what the success means, or what the failure means
+pub data MeansResult {T X : Type 0} (M : T → Meaning ArcRef → Type 0) (N : X → Meaning ArcRef → Type 0) : Result T X → Meaning ArcRef → Type 0 where
+  means-ok : (x : T) (m : Meaning ArcRef) → M x m → MeansResult M N (Ok x) (success m)
+  means-err : (x : X) (m : Meaning ArcRef) → N x m → MeansResult M N (Err x) (failure m)
 
 -- each item with its meaning, in their order
 pub data MeanAll {T : Type 0} (M : T → Meaning ArcRef → Type 0) : List T → List (Meaning ArcRef) → Type 0 where
@@ -36,6 +41,10 @@ pub option_has_meaning : {T : Type 0} (M : T → Meaning ArcRef → Type 0) → 
 option_has_meaning M has None = (absent, means-none)
 option_has_meaning M has (Some x) = (present (has x).0, means-some x (has x).0 (has x).1)
 
+pub result_has_meaning : {T X : Type 0} (M : T → Meaning ArcRef → Type 0) (N : X → Meaning ArcRef → Type 0) → ((x : T) → SomeMeaning (M x)) → ((x : X) → SomeMeaning (N x)) → (r : Result T X) → SomeMeaning (MeansResult M N r)
+result_has_meaning M N has_ok has_err (Ok x) = (success (has_ok x).0, means-ok x (has_ok x).0 (has_ok x).1)
+result_has_meaning M N has_ok has_err (Err x) = (failure (has_err x).0, means-err x (has_err x).0 (has_err x).1)
+
 pub items_have_meanings : {T : Type 0} (M : T → Meaning ArcRef → Type 0) → ((x : T) → SomeMeaning (M x)) → (xs : List T) → (ms : List (Meaning ArcRef)) × MeanAll M xs ms
 items_have_meanings M has [] = ([], mean-none)
 items_have_meanings M has (x ∷ xs) = let rest = items_have_meanings M has xs in ((has x).0 ∷ rest.0, mean-more x (has x).0 xs rest.0 (has x).1 rest.1)
@@ -56,6 +65,15 @@ option_is_meaning M meaning is (Some x) = means-some x (meaning x) (is x)
 pub option_single : {T : Type 0} (M : T → Meaning ArcRef → Type 0) (meaning : T → Meaning ArcRef) → ((x : T) (m : Meaning ArcRef) → M x m → m ≡ meaning x) → (o : Option T) (m : Meaning ArcRef) → MeansOption M o m → m ≡ of_option meaning o
 option_single M meaning single None _ means-none = refl
 option_single M meaning single (Some x) _ (means-some x' m is) = ap present (single x' m is)
+
+pub result_is_meaning : {T X : Type 0} (M : T → Meaning ArcRef → Type 0) (N : X → Meaning ArcRef → Type 0) (f : T → Meaning ArcRef) (g : X → Meaning ArcRef) → ((x : T) → M x (f x)) → ((x : X) → N x (g x)) → (r : Result T X) → MeansResult M N r (of_result f g r)
+result_is_meaning M N f g is_ok is_err (Ok x) = means-ok x (f x) (is_ok x)
+result_is_meaning M N f g is_ok is_err (Err x) = means-err x (g x) (is_err x)
+
+pub result_single : {T X : Type 0} (M : T → Meaning ArcRef → Type 0) (N : X → Meaning ArcRef → Type 0) (f : T → Meaning ArcRef) (g : X → Meaning ArcRef) → ((x : T) (m : Meaning ArcRef) → M x m → m ≡ f x) → ((x : X) (m : Meaning ArcRef) → N x m → m ≡ g x)
+    → (r : Result T X) (m : Meaning ArcRef) → MeansResult M N r m → m ≡ of_result f g r
+result_single M N f g single_ok single_err (Ok x) _ (means-ok x' m is) = ap success (single_ok x' m is)
+result_single M N f g single_ok single_err (Err x) _ (means-err x' m is) = ap failure (single_err x' m is)
 
 pub items_are_meanings : {T : Type 0} (M : T → Meaning ArcRef → Type 0) (meaning : T → Meaning ArcRef) → ((x : T) → M x (meaning x)) → (xs : List T) → MeanAll M xs (map meaning xs)
 items_are_meanings M meaning is [] = mean-none

@@ -2,7 +2,7 @@
 use Rattle.std.specs.Prelude.{ℕ, zero, suc}
 use Rattle.std.specs.Int.{Width}
 use Rattle.pagable_model.specs.Keys.{KeyOrder}
-use Rattle.pagable_model.specs.Shape.{Shape, unsigned, signed, optional, list, run, both, sorted_map, placed_map, sorted_set, placed_set}
+use Rattle.pagable_model.specs.Shape.{Shape, unsigned, signed, duration, optional, outcome, list, run, array, both, sorted_map, placed_map, sorted_set, placed_set}
 use Rattle.pagable_model.specs.Shape as shapes
 use Rattle.pagable_model.specs.Canonical.{IsCanonical, LiesIn, Within, Throughout}
 use Rattle.pagable_model.specs.Keyed.{throughout-alone}
@@ -54,9 +54,21 @@ pub letter_has_one_form : (parts : ℕ → Shape) → HasOneFormThroughout parts
 unfolding IsCanonical LiesIn
 letter_has_one_form parts = throughout-alone IsCanonical parts shapes.letter tt (λ those. tt)
 
+pub duration_has_one_form : (parts : ℕ → Shape) → HasOneFormThroughout parts duration
+unfolding IsCanonical LiesIn
+duration_has_one_form parts = throughout-alone IsCanonical parts duration tt (λ those. tt)
+
 pub optional_has_one_form : (parts : ℕ → Shape) (s : Shape) → HasOneFormThroughout parts s → HasOneFormThroughout parts (optional s)
 unfolding IsCanonical LiesIn
 optional_has_one_form parts s t = throughout-over IsCanonical parts s (optional s) (λ h. h) (λ those h. h) t
+
+pub outcome_has_one_form : (parts : ℕ → Shape) (s t : Shape) → HasOneFormThroughout parts s → HasOneFormThroughout parts t → HasOneFormThroughout parts (outcome s t)
+unfolding IsCanonical LiesIn Within
+outcome_has_one_form parts s t u v = record { within = within }
+  where
+    within : (steps : ℕ) → Within IsCanonical parts steps (outcome s t)
+    within zero = (u.within zero, v.within zero)
+    within (suc steps) = (((u.within (suc steps)).0, (v.within (suc steps)).0), ((u.within (suc steps)).1, (v.within (suc steps)).1))
 
 pub list_has_one_form : (parts : ℕ → Shape) (s : Shape) → HasOneFormThroughout parts s → HasOneFormThroughout parts (list s)
 unfolding IsCanonical LiesIn
@@ -65,6 +77,14 @@ list_has_one_form parts s t = throughout-over IsCanonical parts s (list s) (λ h
 pub run_has_one_form : (parts : ℕ → Shape) (s : Shape) → HasOneFormThroughout parts s → HasOneFormThroughout parts (run s)
 unfolding IsCanonical LiesIn
 run_has_one_form parts s t = throughout-over IsCanonical parts s (run s) (λ h. h) (λ those h. h) t
+
+pub array_has_one_form : (parts : ℕ → Shape) (n : ℕ) (s : Shape) → HasOneFormThroughout parts s → HasOneFormThroughout parts (array n s)
+unfolding IsCanonical LiesIn Within
+array_has_one_form parts n s t = record { within = within }
+  where
+    within : (steps : ℕ) → Within IsCanonical parts steps (array n s)
+    within zero = t.within zero
+    within (suc steps) = ((t.within (suc steps)).0, (t.within (suc steps)).1)
 
 pub sorted_set_has_one_form : (parts : ℕ → Shape) (order : KeyOrder) (s : Shape) → HasOneFormThroughout parts s → HasOneFormThroughout parts (sorted_set order s)
 unfolding IsCanonical LiesIn

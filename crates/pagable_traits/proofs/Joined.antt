@@ -5,7 +5,7 @@ use Rattle.pagable_model.specs.declared.error.Error.{Error}
 use Rattle.pagable_model.specs.declared.numbers.ArcRef.{ArcRef}
 use Rattle.pagable_model.specs.Basic.{bool_form, bool_at, longest, text_form}
 use Rattle.pagable_model.specs.Gives.{memory_or, either}
-use Rattle.pagable_model.specs.Lifted.{MeanAll, MeansList, MeansPair}
+use Rattle.pagable_model.specs.Lifted.{MeanAll, MeansList, MeansPair, MeansResult, means-ok, means-err}
 use Rattle.pagable_model.specs.Meaning.{Meaning, none, sequence, success, failure}
 use Rattle.pagable_model.specs.Shape.{Shape, nothing, outcome, array}
 use Rattle.pagable_model.specs.Meaning as meanings
@@ -17,7 +17,6 @@ use Rattle.pagable_model.specs.Standing.{Answer, Gave, handles_at, Is}
 use Rattle.pagable_model.specs.Writing.{Out, Nesting, FormAt, FormsAt, WritesSome, WritesSomeAll, added, NoForm, NoForms, Refused, RefusedAll, IsRefusal, Grows}
 use Rattle.pagable_codec.proofs.Writing.{then, writes_is, writes_bytes}
 use Rattle.pagable_traits.proofs.Items.{mean-length, sequence-same}
-use Rattle.pagable_traits.specs.Held.{MeansResult, means-ok, means-err}
 
 -- ---- what is written grows on
 

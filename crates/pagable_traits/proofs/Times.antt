@@ -19,7 +19,7 @@ use Rattle.pagable_model.specs.Standing.{Answer, GivesSome, Is, handles_at}
 use Rattle.pagable_model.specs.Writing.{Out, Nesting, WritesSome}
 use Rattle.pagable_codec.proofs.Writing.{writes_is, writes_bytes}
 use Rattle.pagable_traits.proofs.Basics.{gives_bytes}
-use Rattle.pagable_traits.specs.Held.{seconds_of, nanos_of, of_span}
+use Rattle.pagable_model.specs.Spans.{seconds_of, nanos_of, of_span}
 
 -- ---- writing
 

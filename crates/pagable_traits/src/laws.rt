@@ -10,7 +10,7 @@ ghost use Rattle.pagable_model.specs.Gives.{never, memory, memory_or, either};
 ghost use Rattle.pagable_model.specs.Shape.{nothing, unsigned, signed, flag, text, letter, optional, list, run, both, sorted_map, placed_map, sorted_set, placed_set};
 ghost use Rattle.pagable_model.specs.Meaning.{Meaning, number, integer, none};
 ghost use Rattle.pagable_model.specs.Meaning as meanings;
-ghost use Rattle.pagable_model.specs.Lifted.{MeansOption, MeansList, MeansPair};
+ghost use Rattle.pagable_model.specs.Lifted.{MeansOption, MeansList, MeansPair, MeansResult};
 ghost use Rattle.std.specs.Box.{boxed_slice_items};
 ghost use Rattle.std.specs.Box.{boxed_str_bytes};
 ghost use Rattle.std.specs.Duration.{as_nanos};
@@ -18,7 +18,6 @@ ghost use Rattle.std.specs.Prelude.{◌/◌, ◌%◌, Result as Either};
 ghost use Rattle.std.specs.declared.time.Duration.{Duration as Span};
 ghost use Rattle.pagable_model.specs.Carried.{of_duration};
 ghost use Rattle.pagable_model.specs.Shape.{duration, outcome, array};
-ghost use Rattle.pagable_traits.specs.Held.{MeansResult};
 ghost use Rattle.pagable_model.specs.declared.error.Error.{Error as Refusal};
 ghost use Rattle.pagable_model.specs.declared.numbers.ArcRef.{ArcRef as Reference};
 

@@ -4,7 +4,7 @@ ghost use Rattle.pagable_model.specs.Carried.{of_result};
 ghost use Rattle.pagable_model.specs.Gives.{memory_or, either};
 ghost use Rattle.pagable_model.specs.Shape.{outcome};
 ghost use Rattle.pagable_model.specs.Causes.{memory_or_is_own_writing, either_is_own_reading, either_is_own_writing};
-ghost use Rattle.pagable_traits.specs.Held.{MeansResult, result_has_meaning, result_is_meaning, result_single};
+ghost use Rattle.pagable_model.specs.Lifted.{MeansResult, result_has_meaning, result_is_meaning, result_single};
 
 use crate::traits::{Carried, OneMeaning, PagableDeserialize, PagableSerialize};
 use pagable_codec::deserializer::PagableDeserializer;

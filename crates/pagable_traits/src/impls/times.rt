@@ -7,7 +7,7 @@ ghost use Rattle.pagable_model.specs.Shape.{duration};
 ghost use Rattle.pagable_model.specs.Standing.{Is};
 ghost use Rattle.pagable_model.specs.Track.{left, GoesOn};
 ghost use Rattle.pagable_model.specs.Causes.{never_is_own_reading, memory_is_own_writing};
-ghost use Rattle.pagable_traits.specs.Held.{of_span, seconds_of, nanos_of};
+ghost use Rattle.pagable_model.specs.Spans.{of_span, seconds_of, nanos_of};
 
 use crate::traits::{Carried, OneMeaning, PagableDeserialize, PagableSerialize};
 use pagable_codec::deserializer::PagableDeserializer;
