@@ -10,6 +10,7 @@ mod byte_arrays;
 mod calls;
 #[cfg(test)]
 mod cursors;
+#[cfg(test)]
 mod equal;
 #[cfg(test)]
 mod json;
