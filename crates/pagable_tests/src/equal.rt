@@ -1,5 +1,5 @@
 //! The comparison of what was found and what is wanted, as one function: an `assert_eq!` in each test would cost the check
-//! far more, since it grows by the square of a function's length.
+//! more, since it grows faster than a function's length.
 
 use std::fmt::Debug;
 use std::process::Abort;

@@ -1,5 +1,5 @@
 //! Tests of the crates below that are no data: cursors of readers and writers, byte arrays, second readings,
-//! references, JSON values that are written, laws, and the pager's calls.
+//! references, JSON values that are written, laws, the pager's calls, and lists of events on the machine.
 #![tactic(auto)]
 
 #[cfg(test)]

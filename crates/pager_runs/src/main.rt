@@ -1,4 +1,4 @@
-//! Draws lists of calls from fixed seeds, makes each call on the machine and on the plain one, and compares what they answer
+//! Draws lists of calls and steps of loads from fixed seeds, makes each on the machine and a plain one, compares what they answer
 //! and how they stand; then makes all as one list on a second machine. Ends with status 1 at the first difference, or where too
 //! little happened.
 #![tactic(auto)]

@@ -227,7 +227,7 @@ fn unsigned(alloc: Global, name: &str, input: &[u8]) -> anyhow::Result<Option<An
 }
 
 /// What comes of an input of a carried type; None for another type. It knows the basic types but numbers, and hands the others on:
-/// each of these functions has few types, since the check of one costs by the square of them.
+/// each of these functions has few types, since the check of one grows faster than their number.
 pub fn answer(alloc: Global, name: &str, input: &[u8]) -> anyhow::Result<Option<Answer>> {
     match name {
         "()" => replay_as::<()>(alloc, input),
