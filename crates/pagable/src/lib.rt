@@ -17,12 +17,11 @@ pub use pagable_model::{
 pub use pagable_pager::{Beginning, Mode, Owner, Pager, Pinning, Want};
 pub use pagable_registries::{
     ForTag, HasStaticValueRegistry, HasTypetagRegistry, PagableRegisteredFor, PagableTagged,
-    SessionContext, SessionMap, StaticBytes, StaticStr, StaticValue, StaticValueEntry,
-    StaticValueRegistry, TagReader, TypetagRegistration, TypetagRegistry,
+    StaticBytes, StaticStr, StaticValue, StaticValueEntry, StaticValueRegistry, TagReader, TypetagRegistration, TypetagRegistry,
 };
 pub use pagable_traits::{
     Canonical, Carried, EagerlyCarried, Env, InNode, KeyHash, NodeSet, OneMeaning,
     PagableDeserialize, PagableDeserializer, PagableEagerDeserialize, PagableEagerSerialize,
-    PagableKey, PagableOrdKey, PagableSerialize, PagableSerializer, PathText, Reader, Thin,
-    read_twice, serialize_slice, serialize_str,
+    PagableKey, PagableOrdKey, PagableSerialize, PagableSerializer, PathText, Reader,
+    SessionContext, SessionMap, Thin, read_twice, serialize_slice, serialize_str,
 };

@@ -10,6 +10,7 @@ ghost use Rattle.pagable_model.specs.Standing.{Answer, Standing, rest_at, answer
 
 use crate::env::Env;
 use crate::reader::Reader;
+use crate::session::SessionContext;
 use pagable_flavors::Error;
 use pagable_model::{ArcRef, Kind, PagableCursor};
 
@@ -78,6 +79,10 @@ pub trait PagableDeserializer<E: Env> {
     /// The environment, where registries are found.
     fn env(&self) -> &E
         ensures { result.now ≡ environment self.now };
+
+    /// What the values of this session of reading share. What a lock holds is no part of a value, so no clause can tell
+    /// one session from another; it is the one that the deserializer was made with.
+    fn session_context(&self) -> &SessionContext<E::CtxKey, E::CtxValue>;
 
     // What is left follows from where the deserializer stands, and its reader stands there too.
     ghost rest_is: { (s : Self) → rest s ≡ rest_at (standing s) };

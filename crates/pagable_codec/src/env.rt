@@ -13,6 +13,12 @@ pub trait Env: Sized {
     /// The hash that makes keys.
     type Hash: KeyHash;
 
+    /// The keys of a session's values; `()` where no session is used.
+    type CtxKey: Ord + Drop;
+
+    /// The values of a session, of which it answers clones.
+    type CtxValue: Clone + Drop;
+
     // How the parts of values that have numbers are spelled, each one level further down.
     ghost parts: { Self → ℕ → Shape };
 }

@@ -1,5 +1,5 @@
 //! What values are written to and read from: the traits of environments, of their nodes, of hashes, of serializers and
-//! deserializers, and the parts that values of many types have in common.
+//! deserializers, what one session of reading and writing shares, and the parts that values of many types have in common.
 #![tactic(auto)]
 
 pub mod deserializer;
@@ -9,6 +9,7 @@ pub mod nodes;
 pub mod parts;
 pub mod reader;
 pub mod serializer;
+pub mod session;
 
 pub use deserializer::PagableDeserializer;
 pub use env::Env;
@@ -19,3 +20,4 @@ pub use pagable_model::{
 };
 pub use reader::Reader;
 pub use serializer::PagableSerializer;
+pub use session::{SessionContext, SessionMap};

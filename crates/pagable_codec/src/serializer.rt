@@ -7,6 +7,7 @@ ghost use Rattle.pagable_model.specs.Writing.{Out, added, end_of, overwritten};
 ghost use Rattle.pagable_model.specs.Reading.{deepest};
 
 use crate::env::Env;
+use crate::session::SessionContext;
 use pagable_flavors::{Error, PagableVecFlavor};
 use pagable_model::{ArcRef, PagableCursor};
 
@@ -64,6 +65,10 @@ pub trait PagableSerializer<E: Env> {
     /// The environment, where registries are found.
     fn env(&self) -> &E
         ensures { result.now ≡ environment self.now };
+
+    /// What the values of this session of writing share. What a lock holds is no part of a value, so no clause can tell
+    /// one session from another; it is the one that the serializer was made with.
+    fn session_context(&self) -> &SessionContext<E::CtxKey, E::CtxValue>;
 
     ghost out_of_with: { (s : Self) (w : List ℕ) → out (with_bytes s w) ≡ record (out s) { bytes = w } };
 

@@ -7,32 +7,35 @@ use Rattle.pagable_core.specs.declared.context.references.NoReferences.{NoRefere
 use Rattle.pagable_core.specs.declared.context.writing.PagableSerializerImpl.{PagableSerializerImpl}
 use Rattle.pagable_core.specs.declared.storage.support.SerializerForPaging.{SerializerForPaging}
 
+-- Serializers and those who answer name the environment E with its types: N of nodes, H of hashes, K and V of the keys and
+-- the values of sessions.
+
 -- ---- the serializer over memory
 
-abbrev pub written : {E : Type 0} → PagableSerializerImpl E → Out
+abbrev pub written : {E N H K V : Type 0} → PagableSerializerImpl E N H K V → Out
 written s = record { bytes = s.writer; refs = s.arcs.items }
 
-abbrev pub levels_written : {E : Type 0} → PagableSerializerImpl E → ℕ
+abbrev pub levels_written : {E N H K V : Type 0} → PagableSerializerImpl E N H K V → ℕ
 levels_written s = s.levels
 
-abbrev pub writers_environment : {E : Type 0} → PagableSerializerImpl E → E
+abbrev pub writers_environment : {E N H K V : Type 0} → PagableSerializerImpl E N H K V → E
 writers_environment s = s.env.now
 
-abbrev pub with_written : {E : Type 0} → PagableSerializerImpl E → List ℕ → PagableSerializerImpl E
+abbrev pub with_written : {E N H K V : Type 0} → PagableSerializerImpl E N H K V → List ℕ → PagableSerializerImpl E N H K V
 with_written s bytes = record s { writer = bytes }
 
 -- ---- the serializer of page-out
 
-abbrev pub paged : {E : Type 0} → SerializerForPaging E → Out
+abbrev pub paged : {E N H K V : Type 0} → SerializerForPaging E N H K V → Out
 paged s = record { bytes = s.writer; refs = s.arcs.items }
 
-abbrev pub levels_paged : {E : Type 0} → SerializerForPaging E → ℕ
+abbrev pub levels_paged : {E N H K V : Type 0} → SerializerForPaging E N H K V → ℕ
 levels_paged s = s.levels
 
-abbrev pub pagings_environment : {E : Type 0} → SerializerForPaging E → E
+abbrev pub pagings_environment : {E N H K V : Type 0} → SerializerForPaging E N H K V → E
 pagings_environment s = s.env.now
 
-abbrev pub with_paged : {E : Type 0} → SerializerForPaging E → List ℕ → SerializerForPaging E
+abbrev pub with_paged : {E N H K V : Type 0} → SerializerForPaging E N H K V → List ℕ → SerializerForPaging E N H K V
 with_paged s bytes = record s { writer = bytes }
 
 -- ---- the deserializer
@@ -54,5 +57,5 @@ with_reader s r = record s { reader = r }
 
 -- ---- no references
 
-abbrev pub environment_without : {E : Type 0} → NoReferences E → E
+abbrev pub environment_without : {E N H K V : Type 0} → NoReferences E N H K V → E
 environment_without s = s.env.now

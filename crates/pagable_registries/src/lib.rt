@@ -1,13 +1,11 @@
-//! What the environment's value holds for its values: registries of static values, which are written as their index;
-//! registries of the readers of tagged values; and what one session of reading and writing shares among its values.
+//! What the environment's value holds for its values: registries of static values, which are written as their index, and
+//! registries of the readers of tagged values.
 #![tactic(auto)]
 
 pub mod laws;
-pub mod session;
 pub mod static_value;
 pub mod typetag;
 
-pub use session::{SessionContext, SessionMap};
 pub use static_value::{
     HasStaticValueRegistry, StaticBytes, StaticStr, StaticValue, StaticValueEntry,
     StaticValueRegistry,

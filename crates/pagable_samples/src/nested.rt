@@ -36,6 +36,10 @@ impl Env for NestedEnv {
 
     type Hash = WeighHash;
 
+    type CtxKey = ();
+
+    type CtxValue = ();
+
     ghost use Rattle.pagable_samples.specs.Cells.{cells};
 
     ghost parts = { λ e. cells };

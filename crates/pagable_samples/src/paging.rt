@@ -3,7 +3,8 @@
 use either::Either;
 use pagable::{
     Beginning, Env, Error, HandleNumber, LoadNumber, NoReferences, NodeSet, PagableData,
-    PagableDeserializerImpl, PagableStorage, Pager, Pinning, SerializerForPaging, Want,
+    PagableDeserializerImpl, PagableStorage, Pager, Pinning, SerializerForPaging, SessionContext,
+    Want,
 };
 use std::alloc::Global;
 
@@ -65,7 +66,7 @@ where
     }
 }
 
-/// Reads a blob as a value of this type, which holds no references.
+/// Reads a blob as a value of this type, which holds no references, in a session of its own.
 pub fn read<E: Env>(
     alloc: Global,
     env: &E,
@@ -75,10 +76,11 @@ pub fn read<E: Env>(
 where
     E::Node: NodeSet<E>,
 {
+    let session = SessionContext::new(alloc);
     let mut deserializer = PagableDeserializerImpl::new(
         blob.bytes.as_slice(),
         blob.arcs.as_slice(),
-        NoReferences::new(env),
+        NoReferences::new(env, &session),
     );
     E::Node::read(node_type, alloc, &mut deserializer)
 }
@@ -154,7 +156,7 @@ where
     pager.set_data_key(entry, key)
 }
 
-/// The value of a pinned cell as a blob.
+/// The value of a pinned cell as a blob, written in a session of its own.
 fn written<E: Env, S: PagableStorage<E>>(
     alloc: Global,
     pager: &Pager<E, S>,
@@ -166,7 +168,8 @@ where
     let Some(value) = pager.value(pinned)? else {
         return Err(Error::NoSuchHandle);
     };
-    let mut serializer = SerializerForPaging::new(alloc, pager.env());
+    let session = SessionContext::new(alloc);
+    let mut serializer = SerializerForPaging::new(alloc, pager.env(), &session);
     value.write(&mut serializer)?;
     let (bytes, refs) = serializer.finish();
     if !refs.is_empty() {

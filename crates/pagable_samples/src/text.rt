@@ -25,6 +25,10 @@ impl<H: KeyHash> Env for TextEnv<H> {
 
     type Hash = H;
 
+    type CtxKey = ();
+
+    type CtxValue = ();
+
     ghost use Rattle.pagable_model.specs.Shape.{nothing};
 
     ghost parts = { λ e number. nothing };

@@ -2,7 +2,8 @@
 
 use crate::equal::equal;
 use pagable::{
-    Error, NoReferences, PagableDeserializer, PagableDeserializerImpl, WeighHash, read_twice,
+    Error, NoReferences, PagableDeserializer, PagableDeserializerImpl, SessionContext, WeighHash,
+    read_twice,
 };
 use pagable_samples::TextEnv;
 use std::alloc::Global;
@@ -12,7 +13,8 @@ type AnyEnv = TextEnv<WeighHash>;
 /// What two readings of a number after the first byte give, and how many bytes were read then.
 fn after_a_byte(alloc: Global, input: &[u8]) -> (Result<u16, Error>, Result<u16, Error>, usize) {
     let env = AnyEnv::new();
-    let mut source = PagableDeserializerImpl::new(input, &[], NoReferences::new(&env));
+    let session = SessionContext::new(alloc);
+    let mut source = PagableDeserializerImpl::new(input, &[], NoReferences::new(&env, &session));
     let _byte = PagableDeserializer::<AnyEnv>::serde(&mut source).read_u8();
     let (first, second) = read_twice::<AnyEnv, u16, _>(alloc, &mut source);
     let place = PagableDeserializer::<AnyEnv>::position(&source).byte_pos;

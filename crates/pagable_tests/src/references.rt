@@ -11,7 +11,7 @@ use crate::equal::equal;
 use pagable::{
     ArcRef, Carried, DataKey, Env, Error, HandleNumber, Kind, NodeNumber, PagableDeserialize,
     PagableDeserializer, PagableDeserializerImpl, PagableSerialize, PagableSerializer,
-    PagableSerializerImpl, References, WeighHash,
+    PagableSerializerImpl, References, SessionContext, WeighHash,
 };
 use std::alloc::Global;
 use std::test::Fail;
@@ -26,6 +26,10 @@ impl Env for TestEnv {
     type Node = NoNode;
 
     type Hash = WeighHash;
+
+    type CtxKey = ();
+
+    type CtxValue = ();
 
     ghost use Rattle.pagable_model.specs.Shape.{nothing};
 
@@ -80,6 +84,7 @@ impl<'de> PagableDeserialize<'de, TestEnv> for Held {
 #[derive(Drop)]
 struct Places {
     env: TestEnv,
+    session: SessionContext<(), ()>,
 }
 
 impl References<TestEnv> for Places {
@@ -91,6 +96,10 @@ impl References<TestEnv> for Places {
 
     fn env(&self) -> &TestEnv {
         &self.env
+    }
+
+    fn session_context(&self) -> &SessionContext<(), ()> {
+        &self.session
     }
 
     fn reference(&mut self, _place: usize, _key: DataKey, kind: Kind) -> Result<ArcRef, Error> {
@@ -110,7 +119,11 @@ fn key(number: u128) -> Result<DataKey, &'static str> {
 fn a_reference_takes_one_key(rt: HostRuntime) -> Result<(), Fail> {
     let alloc = rt.alloc();
     let arcs = vec![in alloc; key(5)?]?;
-    let mut source = PagableDeserializerImpl::new(b"", arcs.as_slice(), Places { env: TestEnv });
+    let places = Places {
+        env: TestEnv,
+        session: SessionContext::new(alloc),
+    };
+    let mut source = PagableDeserializerImpl::new(b"", arcs.as_slice(), places);
     let front = PagableDeserializer::<TestEnv>::position(&source);
     let first = Held::pagable_deserialize(alloc, &mut source)
         .ok()

@@ -21,6 +21,7 @@ pub use keys::{PagableKey, PagableOrdKey};
 pub use one_form::Canonical;
 pub use pagable_codec::{
     ArcRef, Env, HandleNumber, Identity, KeyHash, Kind, LoadNumber, NodeNumber, NodeSet,
-    PagableCursor, PagableDeserializer, PagableSerializer, Reader, WorkerNumber,
+    PagableCursor, PagableDeserializer, PagableSerializer, Reader, SessionContext, SessionMap,
+    WorkerNumber,
 };
 pub use traits::{Carried, OneMeaning, PagableDeserialize, PagableSerialize};

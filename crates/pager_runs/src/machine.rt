@@ -5,6 +5,7 @@ use crate::nodes::{NAMES, RunEnv, RunNode};
 use pagable::{
     DataKey, Error, EventReply, Found, HandleNumber, InMemoryBlobs, LoadAnswer, LoadReply, Machine,
     MachineCall, MachineEvent, NodeSet, PagableData, Pager, Reply, SerializerForPaging,
+    SessionContext,
 };
 use pagable_samples::{FailingStorage, paging};
 use std::alloc::Global;
@@ -33,7 +34,8 @@ fn written(
     let Some(value) = pager.value(handle)? else {
         return Ok(None);
     };
-    let mut serializer = SerializerForPaging::new(alloc, pager.env());
+    let session = SessionContext::new(alloc);
+    let mut serializer = SerializerForPaging::new(alloc, pager.env(), &session);
     value.write(&mut serializer)?;
     let (bytes, _) = serializer.finish();
     Ok(Some(PagableData {

@@ -22,6 +22,10 @@ impl Env for RunEnv {
 
     type Hash = WeighHash;
 
+    type CtxKey = ();
+
+    type CtxValue = ();
+
     ghost use Rattle.pagable_model.specs.Shape.{nothing};
 
     ghost parts = { λ e number. nothing };

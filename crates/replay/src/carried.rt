@@ -5,7 +5,7 @@ use anyhow::ensure;
 use indexmap::{IndexMap, IndexSet};
 use pagable::{
     Env, NoReferences, PagableDeserialize, PagableDeserializer, PagableDeserializerImpl,
-    PagableSerialize, PagableSerializerImpl, PathText, Thin, WeighHash,
+    PagableSerialize, PagableSerializerImpl, PathText, SessionContext, Thin, WeighHash,
 };
 use pagable_samples::{Nested, NestedEnv, TextEnv};
 use smallvec::SmallVec;
@@ -29,7 +29,8 @@ fn replay_in<'de, E: Env, T>(
 where
     T: PagableSerialize<E> + PagableDeserialize<'de, E> + Debug + Drop,
 {
-    let mut source = PagableDeserializerImpl::new(input, &[], NoReferences::new(env));
+    let session = SessionContext::new(alloc);
+    let mut source = PagableDeserializerImpl::new(input, &[], NoReferences::new(env, &session));
     let front = PagableDeserializer::<E>::position(&source);
     let value = match T::pagable_deserialize(alloc, &mut source) {
         Ok(value) => value,

@@ -6,11 +6,13 @@ ghost use Rattle.pagable_core.specs.Fields.{references_of};
 
 use crate::context::keys::PagableKeys;
 use crate::context::references::References;
-use pagable_codec::{ArcRef, Env, Kind, PagableCursor, PagableDeserializer, Reader};
+use pagable_codec::{
+    ArcRef, Env, Kind, PagableCursor, PagableDeserializer, Reader, SessionContext,
+};
 use pagable_flavors::{DataKey, Error, PagableSlice};
 
-/// A deserializer over the bytes and keys of one blob. `B` reads the bytes; `R` answers for its references and lends
-/// the environment. What is left of bytes and keys after a value is accepted.
+/// A deserializer over the bytes and keys of one blob. `B` reads the bytes; `R` answers for its references, and lends
+/// the environment and the session's context. What is left of bytes and keys after a value is accepted.
 #[derive(Drop)]
 pub struct PagableDeserializerImpl<'de, B, R> {
     reader: B,
@@ -125,5 +127,9 @@ impl<'de, E: Env, B: Reader, R: References<E>> PagableDeserializer<E>
 
     fn env(&self) -> &E {
         self.references.env()
+    }
+
+    fn session_context(&self) -> &SessionContext<E::CtxKey, E::CtxValue> {
+        self.references.session_context()
     }
 }

@@ -5,10 +5,10 @@ ghost use Rattle.pagable_model.specs.declared.numbers.ArcRef.{ArcRef as Referenc
 ghost use Rattle.pagable_model.specs.declared.error.Error.{Error as Refusal};
 ghost use Rattle.pagable_model.specs.declared.error.Error.TheVariants.{WrongKind};
 
-use pagable_codec::{ArcRef, Env, Kind};
+use pagable_codec::{ArcRef, Env, Kind, SessionContext};
 use pagable_flavors::{DataKey, Error};
 
-/// What lends a deserializer its environment and answers for its references. An answer depends on the place of the
+/// What lends a deserializer its environment and its session's context, and answers for its references. An answer depends on the place of the
 /// reference in the blob, its key and its kind alone, so that a blob may be read again from its front.
 pub trait References<E: Env> {
     ghost environment: { Self → E };
@@ -18,6 +18,8 @@ pub trait References<E: Env> {
 
     fn env(&self) -> &E
         ensures { result.now ≡ environment self.now };
+
+    fn session_context(&self) -> &SessionContext<E::CtxKey, E::CtxValue>;
 
     /// The reference at this place of the blob's list, which has this key and is read as this kind.
     fn reference(&mut self, place: usize, key: DataKey, kind: Kind) -> Result<ArcRef, Error>
@@ -29,15 +31,20 @@ pub trait References<E: Env> {
 
 /// An environment whose values hold no references: each one that a blob asks for is WrongKind.
 #[derive(Drop)]
-pub struct NoReferences<'e, E> {
+pub struct NoReferences<'e, E: Env> {
     env: &'e E,
+    session: &'e SessionContext<E::CtxKey, E::CtxValue>,
 }
 
 impl<'e, E: Env> NoReferences<'e, E> {
-    pub fn new(env: &'e E) -> NoReferences<'e, E>
+    /// Lends this environment, and this context as that of the session.
+    pub fn new(
+        env: &'e E,
+        session: &'e SessionContext<E::CtxKey, E::CtxValue>,
+    ) -> NoReferences<'e, E>
         ensures { ⟦<NoReferences<'e, E> as References<E>>⟧.environment result ≡ env.now }
     {
-        NoReferences { env }
+        NoReferences { env, session }
     }
 }
 
@@ -50,6 +57,10 @@ impl<'e, E: Env> References<E> for NoReferences<'e, E> {
 
     fn env(&self) -> &E {
         self.env
+    }
+
+    fn session_context(&self) -> &SessionContext<E::CtxKey, E::CtxValue> {
+        self.session
     }
 
     fn reference(&mut self, _place: usize, _key: DataKey, _kind: Kind) -> Result<ArcRef, Error> {

@@ -4,7 +4,7 @@ ghost use Rattle.std.specs.Prelude.{◌≡◌, refl, [], length, IsOk, IfOk};
 ghost use Rattle.pagable_core.specs.Context.{nothing, out_of};
 ghost use Rattle.pagable_core.specs.Fields.{written, levels_written, writers_environment, with_written};
 
-use pagable_codec::{ArcRef, Env, PagableCursor, PagableSerializer};
+use pagable_codec::{ArcRef, Env, PagableCursor, PagableSerializer, SessionContext};
 use pagable_flavors::{Error, PagableVecFlavor};
 use std::alloc::Global;
 
@@ -15,17 +15,18 @@ pub struct SerializedData {
     pub arcs: Vec<ArcRef>,
 }
 
-/// A serializer over memory, which is lent the environment.
+/// A serializer over memory, which is lent the environment, and has a session's context of its own.
 #[derive(Drop)]
-pub struct PagableSerializerImpl<'e, E> {
+pub struct PagableSerializerImpl<'e, E: Env> {
     writer: PagableVecFlavor,
     arcs: Vec<ArcRef>,
     levels: usize,
     env: &'e E,
+    session: SessionContext<E::CtxKey, E::CtxValue>,
 }
 
 impl<'e, E: Env> PagableSerializerImpl<'e, E> {
-    /// A serializer to which nothing was written. It takes no memory.
+    /// A serializer to which nothing was written, with a new context. It takes no memory.
     pub fn testing_new(alloc: Global, env: &'e E) -> PagableSerializerImpl<'e, E>
         ensures out { ⟦<PagableSerializerImpl<'e, E> as PagableSerializer<E>>⟧.out result ≡ nothing }
         ensures levels { ⟦<PagableSerializerImpl<'e, E> as PagableSerializer<E>>⟧.levels result ≡ 0 }
@@ -36,6 +37,7 @@ impl<'e, E: Env> PagableSerializerImpl<'e, E> {
             arcs: Vec::new(alloc),
             levels: 0,
             env,
+            session: SessionContext::new(alloc),
         }
     }
 
@@ -49,6 +51,7 @@ impl<'e, E: Env> PagableSerializerImpl<'e, E> {
             arcs,
             levels: _,
             env: _,
+            session: _,
         } = self;
         Ok(SerializedData {
             bytes: writer.finalize(),
@@ -106,5 +109,9 @@ impl<'e, E: Env> PagableSerializer<E> for PagableSerializerImpl<'e, E> {
 
     fn env(&self) -> &E {
         self.env
+    }
+
+    fn session_context(&self) -> &SessionContext<E::CtxKey, E::CtxValue> {
+        &self.session
     }
 }

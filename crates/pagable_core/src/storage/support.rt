@@ -4,22 +4,28 @@ ghost use Rattle.std.specs.Prelude.{◌≡◌, refl};
 ghost use Rattle.pagable_core.specs.Context.{nothing, pair_out};
 ghost use Rattle.pagable_core.specs.Fields.{paged, levels_paged, pagings_environment, with_paged};
 
-use pagable_codec::{ArcRef, Env, PagableCursor, PagableSerializer};
+use pagable_codec::{ArcRef, Env, PagableCursor, PagableSerializer, SessionContext};
 use pagable_flavors::{Error, PagableVecFlavor};
 use std::alloc::Global;
 
-/// The serializer that page-out writes a value to. It is lent the environment, and its writing takes no lock.
+/// The serializer that page-out writes a value to. It is lent the environment and the session's context, and its
+/// writing takes no lock.
 #[derive(Drop)]
-pub struct SerializerForPaging<'e, E> {
+pub struct SerializerForPaging<'e, E: Env> {
     writer: PagableVecFlavor,
     arcs: Vec<ArcRef>,
     levels: usize,
     env: &'e E,
+    session: &'e SessionContext<E::CtxKey, E::CtxValue>,
 }
 
 impl<'e, E: Env> SerializerForPaging<'e, E> {
     /// A serializer to which nothing was written. It takes no memory.
-    pub fn new(alloc: Global, env: &'e E) -> SerializerForPaging<'e, E>
+    pub fn new(
+        alloc: Global,
+        env: &'e E,
+        session: &'e SessionContext<E::CtxKey, E::CtxValue>,
+    ) -> SerializerForPaging<'e, E>
         ensures out { ⟦<SerializerForPaging<'e, E> as PagableSerializer<E>>⟧.out result ≡ nothing }
         ensures levels { ⟦<SerializerForPaging<'e, E> as PagableSerializer<E>>⟧.levels result ≡ 0 }
         ensures env { ⟦<SerializerForPaging<'e, E> as PagableSerializer<E>>⟧.environment result ≡ env.now }
@@ -29,6 +35,7 @@ impl<'e, E: Env> SerializerForPaging<'e, E> {
             arcs: Vec::new(alloc),
             levels: 0,
             env,
+            session,
         }
     }
 
@@ -41,6 +48,7 @@ impl<'e, E: Env> SerializerForPaging<'e, E> {
             arcs,
             levels: _,
             env: _,
+            session: _,
         } = self;
         (writer.finalize(), arcs)
     }
@@ -95,5 +103,9 @@ impl<'e, E: Env> PagableSerializer<E> for SerializerForPaging<'e, E> {
 
     fn env(&self) -> &E {
         self.env
+    }
+
+    fn session_context(&self) -> &SessionContext<E::CtxKey, E::CtxValue> {
+        self.session
     }
 }

@@ -1,9 +1,9 @@
 //! What one session of reading and writing shares among its values: a map under a lock.
 
-ghost use Rattle.std.specs.Prelude.{◌≡◌, None, Some, IfOk, IfErr, OnOk, OnErr};
+ghost use Rattle.std.specs.Prelude.{◌≡◌, None, Some, IfOk, IfErr, IfSome, IsSome, OnOk, OnErr};
 ghost use Rattle.std.specs.BTreeMap.{IsEmpty, IsUnchanged, Updates, get};
 ghost use Rattle.pagable_model.specs.Gives.{memory};
-ghost use Rattle.pagable_model.specs.Session.{IsCloneOf};
+ghost use Rattle.pagable_model.specs.Session.{IsCloneOf, IsBack};
 
 use pagable_flavors::Error;
 use std::alloc::Global;
@@ -29,6 +29,7 @@ impl<K: Ord + Drop, V: Clone> SessionMap<K, V> {
     /// A clone of the key's value, or None where there is none. Refused by want of memory alone.
     pub fn get(&self, key: &K) -> Result<Option<V>, Error>
         ensures value { IfOk result (IsCloneOf V.is_clone (get K.cmp self.now.values key.now)) }
+        ensures there { OnErr result (IsSome (get K.cmp self.now.values key.now)) }
         ensures only { IfErr result memory }
     {
         match self.values.get(key) {
@@ -37,32 +38,61 @@ impl<K: Ord + Drop, V: Clone> SessionMap<K, V> {
         }
     }
 
-    /// Gives the key this value, in place of the one that it had. Refused by want of memory alone; then nothing changes.
-    pub fn set(&mut self, key: K, value: V) -> Result<(), Error>
+    /// Gives the key this value, in place of the one that it had. Refused by want of memory alone; then nothing changes,
+    /// and key and value come back.
+    pub fn set(&mut self, key: K, value: V) -> Result<(), (Error, K, V)>
         ensures ok { OnOk result (Updates K.cmp self.old.values self.new.values key (Some value)) }
         ensures err { OnErr result (IsUnchanged self.old.values self.new.values) }
-        ensures only { IfErr result memory }
+        ensures only { IfErr result (λ e. memory e.0) }
+        ensures back { IfErr result (λ e. (e.1 ≡ key) × (e.2 ≡ value)) }
     {
-        self.values.insert(key, value)?;
-        Ok(())
+        match self.values.insert(key, value) {
+            Ok(_) => Ok(()),
+            Err(failed) => {
+                let (key, value) = failed.value;
+                Err((Error::OutOfMemory, key, value))
+            }
+        }
+    }
+
+    // Keeps a value that was made for a key that has none, and answers a clone of it.
+    fn keep_made(&mut self, key: K, value: V) -> Result<V, (Error, K, V)>
+        ensures kept { IfOk result (λ y. V.is_clone value y × Updates K.cmp self.old.values self.new.values key (Some value)) }
+        ensures err { OnErr result (IsUnchanged self.old.values self.new.values) }
+        ensures only { IfErr result (λ e. memory e.0) }
+        ensures back { IfErr result (λ e. (e.1 ≡ key) × (e.2 ≡ value)) }
+    {
+        let Ok(answer) = value.clone() else {
+            return Err((Error::OutOfMemory, key, value));
+        };
+        match self.set(key, value) {
+            Ok(()) => Ok(answer),
+            Err((refusal, key, value)) => Err((refusal, key, value)),
+        }
     }
 
     /// A clone of the key's value, which is made where there is none. Refused by want of memory alone; then nothing
-    /// changes.
-    pub fn get_or_insert_with<F: FnOnce() -> V>(&mut self, key: K, make: F) -> Result<V, Error>
+    /// changes, and the key comes back, with the value if one was made.
+    pub fn get_or_insert_with<F: FnOnce() -> V>(
+        &mut self,
+        key: K,
+        make: F,
+    ) -> Result<V, (Error, K, Option<V>)>
         requires { F.pre make }
         ensures kept { IfOk result (λ y. (x : V) → get K.cmp self.old.values key ≡ Some x → V.is_clone x y × IsUnchanged self.old.values self.new.values) }
         ensures made { IfOk result (λ y. get K.cmp self.old.values key ≡ None → (x : V) × F.post make x × V.is_clone x y × Updates K.cmp self.old.values self.new.values key (Some x)) }
         ensures err { OnErr result (IsUnchanged self.old.values self.new.values) }
-        ensures only { IfErr result memory }
+        ensures only { IfErr result (λ e. memory e.0) }
+        ensures back { IfErr result (λ e. (e.1 ≡ key) × IsBack (F.post make) (get K.cmp self.old.values key) e.2) }
     {
-        if let Some(value) = self.get(&key)? {
-            return Ok(value);
+        match self.get(&key) {
+            Err(refusal) => Err((refusal, key, None)),
+            Ok(Some(value)) => Ok(value),
+            Ok(None) => match self.keep_made(key, make()) {
+                Ok(answer) => Ok(answer),
+                Err((refusal, key, value)) => Err((refusal, key, Some(value))),
+            },
         }
-        let value = make();
-        let answer = value.clone()?;
-        self.set(key, value)?;
-        Ok(answer)
     }
 }
 
@@ -95,8 +125,9 @@ impl<K: Ord + Drop, V: Clone> SessionContext<K, V> {
     }
 
     /// `SessionMap::set` on the lent map.
-    pub fn set<R: Wait>(&self, rt: &R, key: K, value: V) -> Result<(), Error>
-        ensures only { IfErr result memory }
+    pub fn set<R: Wait>(&self, rt: &R, key: K, value: V) -> Result<(), (Error, K, V)>
+        ensures only { IfErr result (λ e. memory e.0) }
+        ensures back { IfErr result (λ e. (e.1 ≡ key) × (e.2 ≡ value)) }
     {
         let mut map = self.map.lock(rt);
         map.set(key, value)
@@ -108,9 +139,10 @@ impl<K: Ord + Drop, V: Clone> SessionContext<K, V> {
         rt: &R,
         key: K,
         make: F,
-    ) -> Result<V, Error>
+    ) -> Result<V, (Error, K, Option<V>)>
         requires { F.pre make }
-        ensures only { IfErr result memory }
+        ensures only { IfErr result (λ e. memory e.0) }
+        ensures back { IfErr result (λ e. (e.1 ≡ key) × IfSome e.2 (F.post make)) }
     {
         let mut map = self.map.lock(rt);
         map.get_or_insert_with(key, make)
