@@ -13,7 +13,7 @@ use Rattle.pagable_model.specs.Meaning.{Meaning, pair, plain}
 use Rattle.pagable_model.specs.Keys.{KeyOrder, code, same_key, ordered, optional_order, outcome_order, pair_order, list_order}
 use Rattle.pagable_model.specs.Codes.{one-meaning}
 use Rattle.pagable_model.specs.Carried.{of_option, of_result, of_list}
-use Rattle.pagable_model.specs.Shape.{Shape, optional, outcome, list, array, both}
+use Rattle.pagable_model.specs.Shape.{Shape, optional, outcome, list, array, both, sorted_map, sorted_set}
 use Rattle.pagable_model.specs.Canonical.{LiesIn}
 use Rattle.pagable_model.specs.Keyed.{RefersToNothing, same-by, throughout-over, throughout-two}
 
@@ -151,3 +151,11 @@ list_refers_to_nothing parts s t = throughout-over (LiesIn (λ node. ⊥) (λ pa
 pub array_refers_to_nothing : (parts : ℕ → Shape) (n : ℕ) (s : Shape) → RefersToNothing parts s → RefersToNothing parts (array n s)
 unfolding LiesIn
 array_refers_to_nothing parts n s t = throughout-over (LiesIn (λ node. ⊥) (λ part. Unit {0})) parts s (array n s) (λ h. h) (λ those h. h) t
+
+pub sorted_set_refers_to_nothing : (parts : ℕ → Shape) (order : KeyOrder) (s : Shape) → RefersToNothing parts s → RefersToNothing parts (sorted_set order s)
+unfolding LiesIn
+sorted_set_refers_to_nothing parts order s t = throughout-over (LiesIn (λ node. ⊥) (λ part. Unit {0})) parts s (sorted_set order s) (λ h. h) (λ those h. h) t
+
+pub sorted_map_refers_to_nothing : (parts : ℕ → Shape) (order : KeyOrder) (s t : Shape) → RefersToNothing parts s → RefersToNothing parts t → RefersToNothing parts (sorted_map order s t)
+unfolding LiesIn
+sorted_map_refers_to_nothing parts order s t u v = throughout-two (LiesIn (λ node. ⊥) (λ part. Unit {0})) parts s t (sorted_map order s t) (λ h k. (h, k)) (λ those h k. (h, k)) u v

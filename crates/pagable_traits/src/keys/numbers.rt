@@ -1,4 +1,4 @@
-//! Numbers, characters, flags and `()` as keys.
+//! Numbers, characters, flags, `()` and marks of a type as keys.
 
 ghost use Rattle.std.specs.Prelude.{refl};
 ghost use Rattle.std.specs.Int.{w8, w16, w32, w64, w128};
@@ -7,6 +7,7 @@ ghost use Rattle.pagable_model.specs.Keyed.{unsigned_refers_to_nothing, signed_r
 
 use crate::keys::{PagableKey, PagableOrdKey};
 use pagable_codec::env::Env;
+use std::marker::PhantomData;
 
 impl<E: Env> PagableKey<E> for u8 {
     ghost same = { number_is_same };
@@ -172,6 +173,18 @@ impl<E: Env> PagableKey<E> for () {
 }
 
 impl<E: Env> PagableOrdKey<E> for () {
+    ghost order = { nothing_order };
+
+    ghost is_order = { λ x y. refl };
+}
+
+impl<E: Env, T> PagableKey<E> for PhantomData<T> {
+    ghost same = { λ x y. nothing_is_same };
+
+    ghost refers_to_nothing = { λ e. nothing_refers_to_nothing (E.parts e) };
+}
+
+impl<E: Env, T> PagableOrdKey<E> for PhantomData<T> {
     ghost order = { nothing_order };
 
     ghost is_order = { λ x y. refl };

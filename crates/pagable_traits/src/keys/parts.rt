@@ -20,6 +20,18 @@ impl<E: Env, K: PagableOrdKey<E>> PagableOrdKey<E> for Option<K> {
     ghost is_order = { option_is_ordered K.order K.cmp K.meaning K.is_order };
 }
 
+impl<'a, E: Env, K: PagableKey<E>> PagableKey<E> for &'a K {
+    ghost same = { λ x y. K.same x.now y.now };
+
+    ghost refers_to_nothing = { λ e. K.refers_to_nothing e };
+}
+
+impl<'a, E: Env, K: PagableOrdKey<E>> PagableOrdKey<E> for &'a K {
+    ghost order = { K.order };
+
+    ghost is_order = { λ x y. K.is_order x.now y.now };
+}
+
 impl<E: Env, K: PagableKey<E>> PagableKey<E> for Box<K> {
     ghost same = { λ x y. K.same x.value y.value };
 
