@@ -1,18 +1,21 @@
 -- What the key law asks of a type, and why it holds of the types that may be keys.
-use Rattle.std.specs.Prelude.{◌≡◌, ℕ, zero, suc, Bool, true, List, nat_eq, refl}
+use mathlib.Core.Bool.{beq}
+use Rattle.std.specs.Prelude.{◌≡◌, ℕ, ℤ, zero, suc, Bool, true, false, List, nat_eq, refl}
 use Rattle.std.proofs.Common.{ap}
 use Rattle.std.proofs.lemmas.Bool.{eqb-true, eq-eqb}
+use Rattle.std.proofs.lemmas.Bool.Decides.{Decides-int_eq}
 use Rattle.std.proofs.lemmas.Slice.Eq.{bytes_eq-Decides}
-use Rattle.std.specs.Bool.{Decides}
 use Rattle.std.specs.Cmp.{both_ways}
 use Rattle.std.specs.Int.{Width}
 use Rattle.std.specs.Str.{bytes_eq}
-use Rattle.std.specs.Ordering.{nat_cmp}
+use Rattle.std.specs.Ordering.{nat_cmp, int_cmp, int_eq, bool_cmp}
 use Rattle.std.specs.Cmp.Lexicographic.{slice_cmp}
 use Rattle.pagable_model.specs.declared.numbers.ArcRef.{ArcRef}
-use Rattle.pagable_model.specs.Meaning.{Meaning, number, text, plain}
-use Rattle.pagable_model.specs.Keys.{code, same_key, ordered, number_order, text_order}
-use Rattle.pagable_model.specs.Shape.{Shape, unsigned}
+use Rattle.pagable_model.specs.Numbers.{zigzag}
+use Rattle.pagable_model.specs.Meaning.{Meaning, number, integer, text, none, flag, plain}
+use Rattle.pagable_model.specs.Keys.{code, same_key, ordered, number_order, integer_order, text_order, flag_order}
+use Rattle.pagable_model.specs.Codes.{same-integer}
+use Rattle.pagable_model.specs.Shape.{Shape, unsigned, signed}
 use Rattle.pagable_model.specs.Shape as shapes
 use Rattle.pagable_model.specs.Canonical.{LiesIn, Within, Throughout}
 
@@ -29,8 +32,27 @@ throughout-alone P parts s p lies = record { within = within }
     within zero = p
     within (suc steps) = (p, lies (λ n. Within P parts steps (parts n)))
 
+-- a shape over one other
+pub throughout-over : (P : Shape → Type 0) (parts : ℕ → Shape) (s whole : Shape) → (P s → P whole) → ((those : ℕ → Type 0) → LiesIn (λ n. Unit {0}) those s → LiesIn (λ n. Unit {0}) those whole) → Throughout P parts s → Throughout P parts whole
+unfolding Within
+throughout-over P parts s whole f lies t = record { within = within }
+  where
+    within : (steps : ℕ) → Within P parts steps whole
+    within zero = f (t.within zero)
+    within (suc steps) = (f (t.within (suc steps)).0, lies (λ n. Within P parts steps (parts n)) (t.within (suc steps)).1)
+
+-- a shape over two others
+pub throughout-two : (P : Shape → Type 0) (parts : ℕ → Shape) (s t whole : Shape) → (P s → P t → P whole) → ((those : ℕ → Type 0) → LiesIn (λ n. Unit {0}) those s → LiesIn (λ n. Unit {0}) those t → LiesIn (λ n. Unit {0}) those whole)
+    → Throughout P parts s → Throughout P parts t → Throughout P parts whole
+unfolding Within
+throughout-two P parts s t whole f lies u v = record { within = within }
+  where
+    within : (steps : ℕ) → Within P parts steps whole
+    within zero = f (u.within zero) (v.within zero)
+    within (suc steps) = (f (u.within (suc steps)).0 (v.within (suc steps)).0, lies (λ n. Within P parts steps (parts n)) (u.within (suc steps)).1 (v.within (suc steps)).1)
+
 -- a test that holds exactly where two meanings are one is the sameness of keys
-same-by : (test : Bool) (a b : Meaning ⊥) → (test ≡ true → a ≡ b) → (code a ≡ code b → test ≡ true) → test ≡ bytes_eq (code a) (code b)
+pub same-by : (test : Bool) (a b : Meaning ⊥) → (test ≡ true → a ≡ b) → (code a ≡ code b → test ≡ true) → test ≡ bytes_eq (code a) (code b)
 same-by test a b one told =
     let decides = bytes_eq-Decides (code a) (code b) in
     both_ways test (bytes_eq (code a) (code b)) (λ e. decides.1 (ap code (one e))) (λ e. told (decides.0 e))
@@ -62,3 +84,41 @@ text_is_ordered s t = refl
 pub letter_refers_to_nothing : (parts : ℕ → Shape) → RefersToNothing parts shapes.letter
 unfolding LiesIn
 letter_refers_to_nothing parts = throughout-alone (LiesIn (λ node. ⊥) (λ part. Unit {0})) parts shapes.letter tt (λ those. tt)
+
+pub integer_is_same : (y z : ℤ) → int_eq y z ≡ same_key {A = ArcRef} (integer y) (integer z)
+unfolding plain code
+integer_is_same y z = same-by (int_eq y z) (integer y) (integer z) (λ e. ap integer ((Decides-int_eq y z).0 e)) (λ e. let codes : zigzag y ≡ zigzag z = cc in (Decides-int_eq y z).1 (same-integer y z codes))
+
+pub integer_is_ordered : (y z : ℤ) → int_cmp y z ≡ ordered {A = ArcRef} integer_order (integer y) (integer z)
+unfolding plain
+integer_is_ordered y z = refl
+
+pub signed_refers_to_nothing : (parts : ℕ → Shape) (w : Width) → RefersToNothing parts (signed w)
+unfolding LiesIn
+signed_refers_to_nothing parts w = throughout-alone (LiesIn (λ node. ⊥) (λ part. Unit {0})) parts (signed w) tt (λ those. tt)
+
+pub flag_is_same : (x y : Bool) → beq x y ≡ same_key {A = ArcRef} (flag x) (flag y)
+unfolding plain code
+flag_is_same false false = refl
+flag_is_same false true = refl
+flag_is_same true false = refl
+flag_is_same true true = refl
+
+pub flag_is_ordered : (x y : Bool) → bool_cmp x y ≡ ordered {A = ArcRef} flag_order (flag x) (flag y)
+unfolding plain
+flag_is_ordered false false = refl
+flag_is_ordered false true = refl
+flag_is_ordered true false = refl
+flag_is_ordered true true = refl
+
+pub flag_refers_to_nothing : (parts : ℕ → Shape) → RefersToNothing parts shapes.flag
+unfolding LiesIn
+flag_refers_to_nothing parts = throughout-alone (LiesIn (λ node. ⊥) (λ part. Unit {0})) parts shapes.flag tt (λ those. tt)
+
+pub nothing_is_same : true ≡ same_key {A = ArcRef} none none
+unfolding plain code
+nothing_is_same = refl
+
+pub nothing_refers_to_nothing : (parts : ℕ → Shape) → RefersToNothing parts shapes.nothing
+unfolding LiesIn
+nothing_refers_to_nothing parts = throughout-alone (LiesIn (λ node. ⊥) (λ part. Unit {0})) parts shapes.nothing tt (λ those. tt)

@@ -1,8 +1,8 @@
 -- Which keys of maps and items of sets are the same, and in which order they stand.
-use Rattle.std.specs.Prelude.{◌≡◌, ℕ, List, [], ◌∷◌, ◌++◌, length, Bool, false, Option, Some, None, if◌then◌else◌}
+use Rattle.std.specs.Prelude.{◌≡◌, ℕ, zero, suc, List, [], ◌∷◌, ◌++◌, length, Bool, false, Option, Some, None, if◌then◌else◌}
 use Rattle.std.specs.declared.cmp.Ordering.{Ordering}
 use Rattle.std.specs.declared.cmp.Ordering.TheVariants as answers
-use Rattle.std.specs.Ordering.{nat_cmp, int_cmp}
+use Rattle.std.specs.Ordering.{nat_cmp, int_cmp, ordering_then}
 use Rattle.std.specs.Cmp.Lexicographic.{slice_cmp}
 use Rattle.std.specs.Str.{bytes_eq}
 use Rattle.std.specs.Option.{option_or}
@@ -51,6 +51,44 @@ number_order a b = answers.Equal
 abbrev pub integer_order : KeyOrder
 integer_order (integer y) (integer z) = int_cmp y z
 integer_order a b = answers.Equal
+
+-- where there is but one value
+abbrev pub nothing_order : KeyOrder
+nothing_order a b = answers.Equal
+
+-- no before yes
+abbrev pub flag_order : KeyOrder
+flag_order (variant m a) (variant n b) = nat_cmp m n
+flag_order a b = answers.Equal
+
+-- none before some, and two that are there by what they hold
+abbrev pub optional_order : KeyOrder → KeyOrder
+optional_order order (variant zero a) (variant zero b) = answers.Equal
+optional_order order (variant zero a) (variant (suc n) b) = answers.Less
+optional_order order (variant (suc m) a) (variant zero b) = answers.Greater
+optional_order order (variant (suc m) a) (variant (suc n) b) = order a b
+optional_order order a b = answers.Equal
+
+-- a success before a failure; two successes by the one order, and two failures by the other
+abbrev pub outcome_order : KeyOrder → KeyOrder → KeyOrder
+outcome_order good bad (variant zero a) (variant zero b) = bad a b
+outcome_order good bad (variant zero a) (variant (suc n) b) = answers.Greater
+outcome_order good bad (variant (suc m) a) (variant zero b) = answers.Less
+outcome_order good bad (variant (suc m) a) (variant (suc n) b) = good a b
+outcome_order good bad a b = answers.Equal
+
+-- by the first parts, and where these tell nothing by the others
+abbrev pub pair_order : KeyOrder → KeyOrder → KeyOrder
+pair_order first rest (pair a b) (pair c d) = ordering_then (first a c) (rest b d)
+pair_order first rest a b = answers.Equal
+
+-- lists by the first items that differ; a list that ends there stands before one that goes on
+abbrev pub list_order : KeyOrder → KeyOrder
+list_order order none none = answers.Equal
+list_order order none (pair b more) = answers.Less
+list_order order (pair a rest) none = answers.Greater
+list_order order (pair a rest) (pair b more) = ordering_then (order a b) (list_order order rest more)
+list_order order a b = answers.Equal
 
 -- items put in one after another
 unfoldable pub put_all : {X : Type 0} → (List X → X → List X) → List X → List X → List X

@@ -25,7 +25,9 @@ pub mod Merkle
 pub mod Json
 pub mod Causes
 pub mod Collected
+pub mod Codes
 pub mod Keyed
+pub mod KeyParts
 pub mod OneForm
 pub mod Statics
 pub mod Tagged

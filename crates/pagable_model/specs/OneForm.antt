@@ -5,30 +5,11 @@ use Rattle.pagable_model.specs.Keys.{KeyOrder}
 use Rattle.pagable_model.specs.Shape.{Shape, unsigned, signed, duration, optional, outcome, list, run, array, both, sorted_map, placed_map, sorted_set, placed_set}
 use Rattle.pagable_model.specs.Shape as shapes
 use Rattle.pagable_model.specs.Canonical.{IsCanonical, LiesIn, Within, Throughout}
-use Rattle.pagable_model.specs.Keyed.{throughout-alone}
+use Rattle.pagable_model.specs.Keyed.{throughout-alone, throughout-over, throughout-two}
 
 -- no meaning of the shape, or of any part of its values in one blob, has two forms
 abbrev pub HasOneFormThroughout : (ℕ → Shape) → Shape → Type 0
 HasOneFormThroughout parts s = Throughout IsCanonical parts s
-
--- a shape over one other
-throughout-over : (P : Shape → Type 0) (parts : ℕ → Shape) (s whole : Shape) → (P s → P whole) → ((those : ℕ → Type 0) → LiesIn (λ n. Unit {0}) those s → LiesIn (λ n. Unit {0}) those whole) → Throughout P parts s → Throughout P parts whole
-unfolding Within
-throughout-over P parts s whole f lies t = record { within = within }
-  where
-    within : (steps : ℕ) → Within P parts steps whole
-    within zero = f (t.within zero)
-    within (suc steps) = (f (t.within (suc steps)).0, lies (λ n. Within P parts steps (parts n)) (t.within (suc steps)).1)
-
--- a shape over two others
-throughout-two : (P : Shape → Type 0) (parts : ℕ → Shape) (s t whole : Shape) → (P s → P t → P whole) → ((those : ℕ → Type 0) → LiesIn (λ n. Unit {0}) those s → LiesIn (λ n. Unit {0}) those t → LiesIn (λ n. Unit {0}) those whole)
-    → Throughout P parts s → Throughout P parts t → Throughout P parts whole
-unfolding Within
-throughout-two P parts s t whole f lies u v = record { within = within }
-  where
-    within : (steps : ℕ) → Within P parts steps whole
-    within zero = f (u.within zero) (v.within zero)
-    within (suc steps) = (f (u.within (suc steps)).0 (v.within (suc steps)).0, lies (λ n. Within P parts steps (parts n)) (u.within (suc steps)).1 (v.within (suc steps)).1)
 
 pub nothing_has_one_form : (parts : ℕ → Shape) → HasOneFormThroughout parts shapes.nothing
 unfolding IsCanonical LiesIn

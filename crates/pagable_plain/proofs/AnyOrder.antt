@@ -1,5 +1,5 @@
--- Meanings are told apart by their codes, and a hash map means the same in whatever order its entries come.
-use Rattle.std.proofs.Common.{◌≡◌, ℕ, ℤ, Bool, true, false, cond, List, [], ◌∷◌, ◌++◌, length, map, Option, Some, None, refl, sym, ap, ◌∙◌, append_assoc}
+-- A hash map means the same in whatever order its entries come.
+use Rattle.std.proofs.Common.{◌≡◌, Bool, true, false, cond, List, [], ◌∷◌, map, Option, Some, None, refl, sym, ap, ◌∙◌}
 use Rattle.std.specs.Option.{option_or}
 use Rattle.std.specs.declared.cmp.Ordering.{Ordering}
 use Rattle.std.specs.declared.cmp.Ordering.TheVariants as answers
@@ -11,54 +11,11 @@ use Rattle.std.proofs.lemmas.Slice.Eq.{bytes_eq-Decides}
 use Rattle.std.proofs.lemmas.Map.Text.{is_eq-slice_cmp}
 use Rattle.std.proofs.lemmas.Map.Lookups.{exact_bytes}
 use Rattle.std.specs.FinMap.Entries.{by_order, put, find, is_sorted, is_sorted-put, find-put, same_entries}
-use Rattle.pagable_model.specs.Numbers.{zigzag, from_zigzag}
 use Rattle.pagable_model.specs.Meaning.{Meaning, number, integer, text, pattern, none, pair, variant, reference, followed, plain, rename, lifted}
 use Rattle.pagable_model.specs.Keys.{Entry, code, code_order, put_all, put_sorted, last_value}
+use Rattle.pagable_model.specs.Codes.{one-meaning}
 use Rattle.pagable_model.specs.Carried.{of_entries}
-use Rattle.pagable_plain.specs.KeyLaws.{IsOneMeaning, IsOneKeyMeaning, IsAnyOrder}
-use Rattle.pagable_plain.proofs.Wholes.{zigzag-again}
-use Rattle.pagable_plain.proofs.Preimages.{cut}
-
-same_integer : (y z : ℤ) → zigzag y ≡ zigzag z → y ≡ z
-same_integer y z e = sym (zigzag-again y) ∙ ap from_zigzag e ∙ zigzag-again z
-
--- no code begins another
-code_apart : (a b : Meaning ⊥) (x y : List ℕ) → code a ++ x ≡ code b ++ y → (a ≡ b) × (x ≡ y)
-unfolding code
-code_apart (number m) (number n) x y e = let same : m ≡ n = cc in let rest : x ≡ y = cc in (rw same refl, rest)
-code_apart (integer m) (integer n) x y e = let codes : zigzag m ≡ zigzag n = cc in let rest : x ≡ y = cc in (ap integer (same_integer m n codes), rest)
-code_apart (text s) (text t) x y e =
-    let long : length s ≡ length t = cc in
-    let both : s ++ x ≡ t ++ y = cc in
-    let parts = cut s t x y long both in
-    (ap text parts.0, parts.1)
-code_apart (pattern s) (pattern t) x y e =
-    let long : length s ≡ length t = cc in
-    let both : s ++ x ≡ t ++ y = cc in
-    let parts = cut s t x y long both in
-    (ap pattern parts.0, parts.1)
-code_apart none none x y e = let rest : x ≡ y = cc in (refl, rest)
-code_apart (pair a b) (pair c d) x y e =
-    let tails : (code a ++ code b) ++ x ≡ (code c ++ code d) ++ y = cc in
-    let first = code_apart a c (code b ++ x) (code d ++ y) (sym (append_assoc (code a) (code b) x) ∙ tails ∙ append_assoc (code c) (code d) y) in
-    let second = code_apart b d x y first.1 in
-    (rw (first.0, second.0) refl, second.1)
-code_apart (variant m a) (variant n b) x y e =
-    let same : m ≡ n = cc in
-    let tails : code a ++ x ≡ code b ++ y = cc in
-    let part = code_apart a b x y tails in
-    (rw (same, part.0) refl, part.1)
-code_apart (reference a) b x y e = absurd a
-code_apart (followed k a) (followed l b) x y e =
-    let kinds : k ≡ l = cc in
-    let tails : code a ++ x ≡ code b ++ y = cc in
-    let part = code_apart a b x y tails in
-    (rw (kinds, part.0) refl, part.1)
-code_apart a (reference b) x y e = absurd b
-code_apart a b x y e = absurd cc
-
-pub one-meaning : IsOneMeaning
-one-meaning a b e = (code_apart a b [] [] (ap (λ (c : List ℕ). c ++ []) e)).0
+use Rattle.pagable_plain.specs.KeyLaws.{IsOneKeyMeaning, IsAnyOrder}
 
 plain_lifted : (A : Type 0) (m : Meaning ⊥) → plain (let x : Meaning A = lifted m in x) ≡ m
 unfolding plain rename

@@ -1,10 +1,11 @@
 -- Different blobs have different preimages.
-use Rattle.std.proofs.Common.{◌≡◌, ℕ, zero, suc, ◌+◌, ◌*◌, ◌/◌, ◌%◌, ◌^◌, ◌<◌, ◌≤◌, List, [], ◌∷◌, ◌++◌, length, refl, sym, ap, ◌∙◌, arith}
+use Rattle.std.proofs.Common.{◌≡◌, ℕ, zero, suc, ◌+◌, ◌*◌, ◌/◌, ◌%◌, ◌^◌, ◌<◌, ◌≤◌, List, [], ◌∷◌, length, refl, sym, ap, ◌∙◌, arith}
 use Rattle.std.proofs.Math.Nat.{add-mul, add_assoc, div-add-mod', div-div-eq-div-mul, div-one, mod-eq_of_lt, mod-lt, mul-add-mod_self_right, mul-le-mul_right, mul_assoc, one-le-pow, pow-suc}
 use Rattle.std.proofs.lemmas.List.{length-append}
 use Rattle.std.specs.Int.{byte_at, bytes_low_first, to_le_bytes, w64, w128}
 use Rattle.std.specs.List.{flat_map, AllByRecursion}
 use Rattle.pagable_model.specs.Blob.{Blob, preimage}
+use Rattle.pagable_model.specs.Codes.{cut}
 use Rattle.pagable_plain.specs.Laws.{HasOnePreimage}
 
 -- the two low digits of n, to the bases c and then m
@@ -50,17 +51,6 @@ same-64 m n h g e = sym (low-again 8 m (omega arith)) ∙ ap low e ∙ low-again
 
 same-128 : (m n : ℕ) → m < 2 ^ 128 → n < 2 ^ 128 → to_le_bytes w128 m ≡ to_le_bytes w128 n → m ≡ n
 same-128 m n h g e = sym (low-again 16 m (omega arith)) ∙ ap low e ∙ low-again 16 n (omega arith)
-
--- fronts that are as long are the same, and so are the rests
-pub cut : (xs ys u v : List ℕ) → length xs ≡ length ys → xs ++ u ≡ ys ++ v → (xs ≡ ys) × (u ≡ v)
-cut [] [] u v l e = (refl, e)
-cut [] (y ∷ ys) u v l e = absurd (omega arith)
-cut (x ∷ xs) [] u v l e = absurd (omega arith)
-cut (x ∷ xs) (y ∷ ys) u v l e =
-    let tails : xs ++ u ≡ ys ++ v = cc in
-    let heads : x ≡ y = cc in
-    let rest = cut xs ys u v (omega arith) tails in
-    (rw (heads, rest.0) refl, rest.1)
 
 keys-length : (ks : List ℕ) → length (flat_map (to_le_bytes w128) ks) ≡ 16 * length ks
 keys-length [] = refl

@@ -8,6 +8,7 @@ ghost use Rattle.std.specs.Prelude.{String as Text, Option as Maybe, Box as Boxe
 ghost use Rattle.std.specs.Global.{Global as Heap};
 ghost use Rattle.pagable_model.specs.Gives.{never, memory, memory_or, either};
 ghost use Rattle.pagable_model.specs.Shape.{nothing, unsigned, signed, flag, text, letter, optional, list, run, both, sorted_map, placed_map, sorted_set, placed_set};
+ghost use Rattle.pagable_model.specs.Keys.{number_order, integer_order, flag_order, nothing_order, text_order, optional_order, outcome_order, pair_order, list_order};
 ghost use Rattle.pagable_model.specs.Meaning.{Meaning, number, integer, none};
 ghost use Rattle.pagable_model.specs.Meaning as meanings;
 ghost use Rattle.pagable_model.specs.Lifted.{MeansOption, MeansList, MeansPair, MeansResult};
@@ -407,4 +408,70 @@ pub fn thin_is_carried<
     ensures means { (x : _) (m : Meaning Reference) → ⟦<Thin<H, T> as Carried<E>>⟧.means x m ↔ MeansPair H.Carried.means (MeansList T.Carried.means) (x.header, x.items.items) m }
     ensures writes { (e : Refusal) → ⟦<Thin<H, T> as PagableSerialize<E>>⟧.write_causes e ↔ either H.write_causes (memory_or T.write_causes) e }
     ensures reads { (e : Refusal) → ⟦<Thin<H, T> as PagableDeserialize<'static, E>>⟧.read_causes e ↔ either H.read_causes (memory_or T.read_causes) e }
+{}
+
+/// Numbers without a sign and characters, as keys, stand in the order of whole numbers.
+pub fn numbers_are_ordered<E: Env>()
+    ensures u8 { ⟦<u8 as PagableOrdKey<E>>⟧.order ≡ number_order }
+    ensures u16 { ⟦<u16 as PagableOrdKey<E>>⟧.order ≡ number_order }
+    ensures u32 { ⟦<u32 as PagableOrdKey<E>>⟧.order ≡ number_order }
+    ensures u64 { ⟦<u64 as PagableOrdKey<E>>⟧.order ≡ number_order }
+    ensures u128 { ⟦<u128 as PagableOrdKey<E>>⟧.order ≡ number_order }
+    ensures usize { ⟦<usize as PagableOrdKey<E>>⟧.order ≡ number_order }
+    ensures char { ⟦<char as PagableOrdKey<E>>⟧.order ≡ number_order }
+{}
+
+/// Numbers with a sign stand in the order of these, `false` stands before `true`, and `()` and marks of a type have no
+/// order.
+pub fn integers_are_ordered<E: Env, T>()
+    ensures i8 { ⟦<i8 as PagableOrdKey<E>>⟧.order ≡ integer_order }
+    ensures i16 { ⟦<i16 as PagableOrdKey<E>>⟧.order ≡ integer_order }
+    ensures i32 { ⟦<i32 as PagableOrdKey<E>>⟧.order ≡ integer_order }
+    ensures i64 { ⟦<i64 as PagableOrdKey<E>>⟧.order ≡ integer_order }
+    ensures i128 { ⟦<i128 as PagableOrdKey<E>>⟧.order ≡ integer_order }
+    ensures flag { ⟦<bool as PagableOrdKey<E>>⟧.order ≡ flag_order }
+    ensures nothing { ⟦<() as PagableOrdKey<E>>⟧.order ≡ nothing_order }
+    ensures mark { ⟦<PhantomData<T> as PagableOrdKey<E>>⟧.order ≡ nothing_order }
+{}
+
+/// Texts stand in the order of their bytes.
+pub fn texts_are_ordered<E: Env>()
+    ensures string { ⟦<String as PagableOrdKey<E>>⟧.order ≡ text_order }
+    ensures boxed { ⟦<BoxedStr as PagableOrdKey<E>>⟧.order ≡ text_order }
+    ensures path { ⟦<PathText as PagableOrdKey<E>>⟧.order ≡ text_order }
+{}
+
+/// None stands before some, and a success before a failure; what is held decides else. A `Box` and a lent key stand as
+/// what they hold.
+pub fn held_keys_are_ordered<'a, E: Env, K: PagableOrdKey<E> + 'a, L: PagableOrdKey<E>>()
+    ensures option { ⟦<Option<K> as PagableOrdKey<E>>⟧.order ≡ optional_order K.PagableOrdKey.order }
+    ensures result { ⟦<Result<K, L> as PagableOrdKey<E>>⟧.order ≡ outcome_order K.PagableOrdKey.order L.PagableOrdKey.order }
+    ensures boxed { ⟦<Box<K> as PagableOrdKey<E>>⟧.order ≡ K.PagableOrdKey.order }
+    ensures lent { ⟦<&'a K as PagableOrdKey<E>>⟧.order ≡ K.PagableOrdKey.order }
+{}
+
+/// A tuple stands in the order of its first part, and where that tells nothing in that of the others.
+pub fn tuples_are_ordered<
+    E: Env,
+    A: PagableOrdKey<E>,
+    B: PagableOrdKey<E>,
+    C: PagableOrdKey<E>,
+    D: PagableOrdKey<E>,
+    F: PagableOrdKey<E>,
+>()
+    ensures pair { ⟦<(A, B) as PagableOrdKey<E>>⟧.order ≡ pair_order A.PagableOrdKey.order B.PagableOrdKey.order }
+    ensures triple { ⟦<(A, B, C) as PagableOrdKey<E>>⟧.order ≡ pair_order A.PagableOrdKey.order (pair_order B.PagableOrdKey.order C.PagableOrdKey.order) }
+    ensures quadruple { ⟦<(A, B, C, D) as PagableOrdKey<E>>⟧.order ≡ pair_order A.PagableOrdKey.order (pair_order B.PagableOrdKey.order (pair_order C.PagableOrdKey.order D.PagableOrdKey.order)) }
+    ensures quintuple { ⟦<(A, B, C, D, F) as PagableOrdKey<E>>⟧.order ≡ pair_order A.PagableOrdKey.order (pair_order B.PagableOrdKey.order (pair_order C.PagableOrdKey.order (pair_order D.PagableOrdKey.order F.PagableOrdKey.order))) }
+{}
+
+/// Lists, sets and maps stand in the order of the first items that differ, and one that ends there before one that goes
+/// on.
+pub fn lists_are_ordered<E: Env, K: PagableOrdKey<E>, V: PagableOrdKey<E>, const N: usize>()
+    ensures list { ⟦<Vec<K> as PagableOrdKey<E>>⟧.order ≡ list_order K.PagableOrdKey.order }
+    ensures boxed { ⟦<BoxedSlice<K> as PagableOrdKey<E>>⟧.order ≡ list_order K.PagableOrdKey.order }
+    ensures small { ⟦<SmallVec<K, N> as PagableOrdKey<E>>⟧.order ≡ list_order K.PagableOrdKey.order }
+    ensures array { ⟦<[K; N] as PagableOrdKey<E>>⟧.order ≡ list_order K.PagableOrdKey.order }
+    ensures set { ⟦<BTreeSet<K> as PagableOrdKey<E>>⟧.order ≡ list_order K.PagableOrdKey.order }
+    ensures entries { ⟦<BTreeMap<K, V> as PagableOrdKey<E>>⟧.order ≡ list_order (pair_order K.PagableOrdKey.order V.PagableOrdKey.order) }
 {}

@@ -17,7 +17,7 @@ use pagable_flavors::Error;
 use std::alloc::Global;
 
 /// A path as its text, which is written as a `String` is. Nothing is asked of the text.
-#[derive(Debug, Drop)]
+#[derive(Debug, PartialEq, Eq, PartialOrd, Ord, Hash, Drop)]
 pub struct PathText {
     pub text: String,
 }

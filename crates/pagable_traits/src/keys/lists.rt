@@ -1,0 +1,87 @@
+//! Lists, and maps and sets in the order of their keys, as keys: they stand in the order of the first items that differ,
+//! and a list stands before one that goes on. Maps and sets in order of arrival are none, since these are equal in any order.
+
+ghost use Rattle.std.specs.Prelude.{◌&&◌};
+ghost use Rattle.std.specs.Ordering.{ordering_then};
+ghost use Rattle.std.specs.Box.{boxed_slice_items};
+ghost use Rattle.pagable_model.specs.Meaning.{pair};
+ghost use Rattle.pagable_model.specs.Keys.{list_order, pair_order};
+ghost use Rattle.pagable_model.specs.KeyParts.{list_is_same, list_is_ordered, list_refers_to_nothing, array_refers_to_nothing, pair_is_same, pair_is_ordered, sorted_map_refers_to_nothing, sorted_set_refers_to_nothing};
+
+use crate::keys::{PagableKey, PagableOrdKey};
+use pagable_codec::env::Env;
+use smallvec::SmallVec;
+use std::boxed::BoxedSlice;
+use std::collections::{BTreeMap, BTreeSet};
+
+impl<E: Env, K: PagableKey<E>> PagableKey<E> for Vec<K> {
+    ghost same = { λ x y. list_is_same K.eq K.meaning K.same x.items y.items };
+
+    ghost refers_to_nothing = { λ e. list_refers_to_nothing (E.parts e) (K.shape e) (K.refers_to_nothing e) };
+}
+
+impl<E: Env, K: PagableOrdKey<E>> PagableOrdKey<E> for Vec<K> {
+    ghost order = { list_order K.order };
+
+    ghost is_order = { λ x y. list_is_ordered K.order K.cmp K.meaning K.is_order x.items y.items };
+}
+
+impl<E: Env, K: PagableKey<E>> PagableKey<E> for BoxedSlice<K> {
+    ghost same = { λ x y. list_is_same K.eq K.meaning K.same (boxed_slice_items x) (boxed_slice_items y) };
+
+    ghost refers_to_nothing = { λ e. list_refers_to_nothing (E.parts e) (K.shape e) (K.refers_to_nothing e) };
+}
+
+impl<E: Env, K: PagableOrdKey<E>> PagableOrdKey<E> for BoxedSlice<K> {
+    ghost order = { list_order K.order };
+
+    ghost is_order = { λ x y. list_is_ordered K.order K.cmp K.meaning K.is_order (boxed_slice_items x) (boxed_slice_items y) };
+}
+
+impl<E: Env, K: PagableKey<E>, const N: usize> PagableKey<E> for [K; N] {
+    ghost same = { λ x y. list_is_same K.eq K.meaning K.same x y };
+
+    ghost refers_to_nothing = { λ e. array_refers_to_nothing (E.parts e) N (K.shape e) (K.refers_to_nothing e) };
+}
+
+impl<E: Env, K: PagableOrdKey<E>, const N: usize> PagableOrdKey<E> for [K; N] {
+    ghost order = { list_order K.order };
+
+    ghost is_order = { λ x y. list_is_ordered K.order K.cmp K.meaning K.is_order x y };
+}
+
+impl<E: Env, K: PagableKey<E>, const N: usize> PagableKey<E> for SmallVec<K, N> {
+    ghost same = { λ x y. list_is_same K.eq K.meaning K.same x.items y.items };
+
+    ghost refers_to_nothing = { λ e. list_refers_to_nothing (E.parts e) (K.shape e) (K.refers_to_nothing e) };
+}
+
+impl<E: Env, K: PagableOrdKey<E>, const N: usize> PagableOrdKey<E> for SmallVec<K, N> {
+    ghost order = { list_order K.order };
+
+    ghost is_order = { λ x y. list_is_ordered K.order K.cmp K.meaning K.is_order x.items y.items };
+}
+
+impl<E: Env, K: PagableOrdKey<E>> PagableKey<E> for BTreeSet<K> {
+    ghost same = { λ x y. list_is_same K.eq K.meaning K.same x.keys y.keys };
+
+    ghost refers_to_nothing = { λ e. sorted_set_refers_to_nothing (E.parts e) K.order (K.shape e) (K.refers_to_nothing e) };
+}
+
+impl<E: Env, K: PagableOrdKey<E>> PagableOrdKey<E> for BTreeSet<K> {
+    ghost order = { list_order K.order };
+
+    ghost is_order = { λ x y. list_is_ordered K.order K.cmp K.meaning K.is_order x.keys y.keys };
+}
+
+impl<E: Env, K: PagableOrdKey<E>, V: PagableKey<E>> PagableKey<E> for BTreeMap<K, V> {
+    ghost same = { λ x y. list_is_same (λ e f. K.eq e.0 f.0 && V.eq e.1 f.1) (λ e. pair (K.meaning e.0) (V.meaning e.1)) (λ e f. pair_is_same (K.eq e.0 f.0) (V.eq e.1 f.1) (K.meaning e.0) (V.meaning e.1) (K.meaning f.0) (V.meaning f.1) (K.same e.0 f.0) (V.same e.1 f.1)) x.entries y.entries };
+
+    ghost refers_to_nothing = { λ e. sorted_map_refers_to_nothing (E.parts e) K.order (K.shape e) (V.shape e) (K.refers_to_nothing e) (V.refers_to_nothing e) };
+}
+
+impl<E: Env, K: PagableOrdKey<E>, V: PagableOrdKey<E>> PagableOrdKey<E> for BTreeMap<K, V> {
+    ghost order = { list_order (pair_order K.order V.order) };
+
+    ghost is_order = { λ x y. list_is_ordered (pair_order K.order V.order) (λ e f. ordering_then (K.cmp e.0 f.0) (V.cmp e.1 f.1)) (λ e. pair (K.meaning e.0) (V.meaning e.1)) (λ e f. pair_is_ordered K.order V.order (K.cmp e.0 f.0) (V.cmp e.1 f.1) (K.meaning e.0) (V.meaning e.1) (K.meaning f.0) (V.meaning f.1) (K.is_order e.0 f.0) (V.is_order e.1 f.1)) x.entries y.entries };
+}

@@ -1,0 +1,191 @@
+//! Numbers, characters, flags, `()` and marks of a type as keys.
+
+ghost use Rattle.std.specs.Prelude.{refl};
+ghost use Rattle.std.specs.Int.{w8, w16, w32, w64, w128};
+ghost use Rattle.pagable_model.specs.Keys.{number_order, integer_order, flag_order, nothing_order};
+ghost use Rattle.pagable_model.specs.Keyed.{unsigned_refers_to_nothing, signed_refers_to_nothing, letter_refers_to_nothing, flag_refers_to_nothing, nothing_refers_to_nothing, number_is_same, integer_is_same, flag_is_same, nothing_is_same, number_is_ordered, integer_is_ordered, flag_is_ordered};
+
+use crate::keys::{PagableKey, PagableOrdKey};
+use pagable_codec::env::Env;
+use std::marker::PhantomData;
+
+impl<E: Env> PagableKey<E> for u8 {
+    ghost same = { number_is_same };
+
+    ghost refers_to_nothing = { λ e. unsigned_refers_to_nothing (E.parts e) w8 };
+}
+
+impl<E: Env> PagableOrdKey<E> for u8 {
+    ghost order = { number_order };
+
+    ghost is_order = { number_is_ordered };
+}
+
+impl<E: Env> PagableKey<E> for u16 {
+    ghost same = { number_is_same };
+
+    ghost refers_to_nothing = { λ e. unsigned_refers_to_nothing (E.parts e) w16 };
+}
+
+impl<E: Env> PagableOrdKey<E> for u16 {
+    ghost order = { number_order };
+
+    ghost is_order = { number_is_ordered };
+}
+
+impl<E: Env> PagableKey<E> for u32 {
+    ghost same = { number_is_same };
+
+    ghost refers_to_nothing = { λ e. unsigned_refers_to_nothing (E.parts e) w32 };
+}
+
+impl<E: Env> PagableOrdKey<E> for u32 {
+    ghost order = { number_order };
+
+    ghost is_order = { number_is_ordered };
+}
+
+impl<E: Env> PagableKey<E> for u64 {
+    ghost same = { number_is_same };
+
+    ghost refers_to_nothing = { λ e. unsigned_refers_to_nothing (E.parts e) w64 };
+}
+
+impl<E: Env> PagableOrdKey<E> for u64 {
+    ghost order = { number_order };
+
+    ghost is_order = { number_is_ordered };
+}
+
+impl<E: Env> PagableKey<E> for u128 {
+    ghost same = { number_is_same };
+
+    ghost refers_to_nothing = { λ e. unsigned_refers_to_nothing (E.parts e) w128 };
+}
+
+impl<E: Env> PagableOrdKey<E> for u128 {
+    ghost order = { number_order };
+
+    ghost is_order = { number_is_ordered };
+}
+
+impl<E: Env> PagableKey<E> for usize {
+    ghost same = { number_is_same };
+
+    ghost refers_to_nothing = { λ e. unsigned_refers_to_nothing (E.parts e) w64 };
+}
+
+impl<E: Env> PagableOrdKey<E> for usize {
+    ghost order = { number_order };
+
+    ghost is_order = { number_is_ordered };
+}
+
+impl<E: Env> PagableKey<E> for i8 {
+    ghost same = { integer_is_same };
+
+    ghost refers_to_nothing = { λ e. signed_refers_to_nothing (E.parts e) w8 };
+}
+
+impl<E: Env> PagableOrdKey<E> for i8 {
+    ghost order = { integer_order };
+
+    ghost is_order = { integer_is_ordered };
+}
+
+impl<E: Env> PagableKey<E> for i16 {
+    ghost same = { integer_is_same };
+
+    ghost refers_to_nothing = { λ e. signed_refers_to_nothing (E.parts e) w16 };
+}
+
+impl<E: Env> PagableOrdKey<E> for i16 {
+    ghost order = { integer_order };
+
+    ghost is_order = { integer_is_ordered };
+}
+
+impl<E: Env> PagableKey<E> for i32 {
+    ghost same = { integer_is_same };
+
+    ghost refers_to_nothing = { λ e. signed_refers_to_nothing (E.parts e) w32 };
+}
+
+impl<E: Env> PagableOrdKey<E> for i32 {
+    ghost order = { integer_order };
+
+    ghost is_order = { integer_is_ordered };
+}
+
+impl<E: Env> PagableKey<E> for i64 {
+    ghost same = { integer_is_same };
+
+    ghost refers_to_nothing = { λ e. signed_refers_to_nothing (E.parts e) w64 };
+}
+
+impl<E: Env> PagableOrdKey<E> for i64 {
+    ghost order = { integer_order };
+
+    ghost is_order = { integer_is_ordered };
+}
+
+impl<E: Env> PagableKey<E> for i128 {
+    ghost same = { integer_is_same };
+
+    ghost refers_to_nothing = { λ e. signed_refers_to_nothing (E.parts e) w128 };
+}
+
+impl<E: Env> PagableOrdKey<E> for i128 {
+    ghost order = { integer_order };
+
+    ghost is_order = { integer_is_ordered };
+}
+
+impl<E: Env> PagableKey<E> for char {
+    ghost same = { number_is_same };
+
+    ghost refers_to_nothing = { λ e. letter_refers_to_nothing (E.parts e) };
+}
+
+impl<E: Env> PagableOrdKey<E> for char {
+    ghost order = { number_order };
+
+    ghost is_order = { number_is_ordered };
+}
+
+/// `false` stands before `true`.
+impl<E: Env> PagableKey<E> for bool {
+    ghost same = { flag_is_same };
+
+    ghost refers_to_nothing = { λ e. flag_refers_to_nothing (E.parts e) };
+}
+
+impl<E: Env> PagableOrdKey<E> for bool {
+    ghost order = { flag_order };
+
+    ghost is_order = { flag_is_ordered };
+}
+
+impl<E: Env> PagableKey<E> for () {
+    ghost same = { λ x y. nothing_is_same };
+
+    ghost refers_to_nothing = { λ e. nothing_refers_to_nothing (E.parts e) };
+}
+
+impl<E: Env> PagableOrdKey<E> for () {
+    ghost order = { nothing_order };
+
+    ghost is_order = { λ x y. refl };
+}
+
+impl<E: Env, T> PagableKey<E> for PhantomData<T> {
+    ghost same = { λ x y. nothing_is_same };
+
+    ghost refers_to_nothing = { λ e. nothing_refers_to_nothing (E.parts e) };
+}
+
+impl<E: Env, T> PagableOrdKey<E> for PhantomData<T> {
+    ghost order = { nothing_order };
+
+    ghost is_order = { λ x y. refl };
+}
