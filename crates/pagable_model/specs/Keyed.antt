@@ -30,7 +30,7 @@ throughout-alone P parts s p lies = record { within = within }
     within (suc steps) = (p, lies (λ n. Within P parts steps (parts n)))
 
 -- a test that holds exactly where two meanings are one is the sameness of keys
-same-by : (test : Bool) (a b : Meaning ⊥) → (test ≡ true → a ≡ b) → (code a ≡ code b → test ≡ true) → test ≡ bytes_eq (code a) (code b)
+pub same-by : (test : Bool) (a b : Meaning ⊥) → (test ≡ true → a ≡ b) → (code a ≡ code b → test ≡ true) → test ≡ bytes_eq (code a) (code b)
 same-by test a b one told =
     let decides = bytes_eq-Decides (code a) (code b) in
     both_ways test (bytes_eq (code a) (code b)) (λ e. decides.1 (ap code (one e))) (λ e. told (decides.0 e))
