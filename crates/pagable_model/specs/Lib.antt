@@ -35,3 +35,5 @@ pub mod Session
 pub mod References
 pub mod ByteArrays
 pub mod Spans
+pub mod Cells
+pub mod Patterns

@@ -9,3 +9,4 @@ pub mod Sets
 pub mod Held
 pub mod Times
 pub mod Joined
+pub mod Cells

@@ -3,6 +3,7 @@
 pub mod arrays;
 pub mod basic;
 pub mod boxed_texts;
+pub mod cells;
 pub mod collecting;
 pub mod holders;
 pub mod lists;

@@ -18,6 +18,7 @@ ghost use Rattle.std.specs.Duration.{as_nanos};
 ghost use Rattle.std.specs.Prelude.{◌/◌, ◌%◌, Result as Either};
 ghost use Rattle.std.specs.declared.time.Duration.{Duration as Span};
 ghost use Rattle.pagable_model.specs.Carried.{of_duration};
+ghost use Rattle.pagable_model.specs.Cells.{MeansAtomic, MeansOnce};
 ghost use Rattle.pagable_model.specs.Shape.{duration, outcome, array};
 ghost use Rattle.pagable_model.specs.declared.error.Error.{Error as Refusal};
 ghost use Rattle.pagable_model.specs.declared.numbers.ArcRef.{ArcRef as Reference};
@@ -35,6 +36,8 @@ use std::collections::{BTreeMap, BTreeSet};
 use std::default::MadeWith;
 use std::hash::Hash;
 use std::marker::PhantomData;
+use std::sync::OnceLock;
+use std::sync::atomic::AtomicI64;
 use std::time::Duration;
 
 /// A `bool` is spelled as a flag and means itself. Writing wants memory at most;
@@ -474,4 +477,20 @@ pub fn lists_are_ordered<E: Env, K: PagableOrdKey<E>, V: PagableOrdKey<E>, const
     ensures array { ⟦<[K; N] as PagableOrdKey<E>>⟧.order ≡ list_order K.PagableOrdKey.order }
     ensures set { ⟦<BTreeSet<K> as PagableOrdKey<E>>⟧.order ≡ list_order K.PagableOrdKey.order }
     ensures entries { ⟦<BTreeMap<K, V> as PagableOrdKey<E>>⟧.order ≡ list_order (pair_order K.PagableOrdKey.order V.PagableOrdKey.order) }
+/// An atomic number is spelled as an `i64`, and may mean each, since no contract knows what it holds. Writing wants memory at
+/// most; reading has no cause of its own.
+pub fn atomic_is_carried<E: Env>()
+    ensures shape { (e : E) → ⟦<AtomicI64 as Carried<E>>⟧.shape e ≡ signed w64 }
+    ensures means { (x : _) (m : Meaning Reference) → ⟦<AtomicI64 as Carried<E>>⟧.means x m ↔ MeansAtomic m }
+    ensures writes { (e : Refusal) → ⟦<AtomicI64 as PagableSerialize<E>>⟧.write_causes e ↔ memory e }
+    ensures reads { (e : Refusal) → ⟦<AtomicI64 as PagableDeserialize<'static, E>>⟧.read_causes e ↔ never e }
+{}
+
+/// A value that is written once is spelled as an optional one, and may mean nothing or what a value of its type may mean, since no
+/// contract knows whether it is there. It is refused as the value is; beside that, writing wants memory at most.
+pub fn once_is_carried<E: Env, T: PagableSerialize<E> + PagableDeserialize<'static, E> + Drop>()
+    ensures shape { (e : E) → ⟦<OnceLock<T> as Carried<E>>⟧.shape e ≡ optional (T.Carried.shape e) }
+    ensures means { (x : _) (m : Meaning Reference) → ⟦<OnceLock<T> as Carried<E>>⟧.means x m ↔ MeansOnce T.Carried.means m }
+    ensures writes { (e : Refusal) → ⟦<OnceLock<T> as PagableSerialize<E>>⟧.write_causes e ↔ memory_or T.write_causes e }
+    ensures reads { (e : Refusal) → ⟦<OnceLock<T> as PagableDeserialize<'static, E>>⟧.read_causes e ↔ T.read_causes e }
 {}

@@ -1,0 +1,96 @@
+//! Cells: an atomic number, and a value that is written once. Another thread may write to a cell while it is looked at, so no
+//! contract knows what one holds, and each means whatever it may hold.
+
+ghost use Rattle.pagable_model.specs.Carried.{atomic_i64, once_lock};
+ghost use Rattle.pagable_model.specs.Cells.{MeansAtomic, MeansOnce, atomic_has_meaning, once_has_meaning};
+ghost use Rattle.pagable_model.specs.Gives.{never, memory, memory_or};
+ghost use Rattle.pagable_model.specs.Causes.{never_is_own_reading, memory_is_own_writing, memory_or_is_own_writing};
+
+use crate::traits::{Carried, PagableDeserialize, PagableSerialize};
+use pagable_codec::deserializer::PagableDeserializer;
+use pagable_codec::env::Env;
+use pagable_codec::serializer::PagableSerializer;
+use pagable_flavors::Error;
+use std::alloc::Global;
+use std::sync::OnceLock;
+use std::sync::atomic::{AtomicI64, Ordering};
+
+impl<E: Env> Carried<E> for AtomicI64 {
+    ghost shape = { λ e. atomic_i64 };
+
+    ghost means = { λ x. MeansAtomic };
+
+    ghost has_meaning = { λ x. atomic_has_meaning };
+}
+
+impl<E: Env> PagableSerialize<E> for AtomicI64 {
+    ghost write_causes = { memory };
+
+    ghost write_causes_are_own = { memory_is_own_writing };
+
+    /// Appends the number that it holds when it is looked at, as an `i64`.
+    fn pagable_serialize<S: PagableSerializer<E>>(&self, serializer: &mut S) -> Result<(), Error> {
+        let held = self.load(Ordering::SeqCst);
+        PagableSerialize::<E>::pagable_serialize(&held, serializer)
+    }
+}
+
+impl<'de, E: Env> PagableDeserialize<'de, E> for AtomicI64 {
+    ghost read_causes = { never };
+
+    ghost read_causes_are_own = { never_is_own_reading };
+
+    fn pagable_deserialize<D: PagableDeserializer<E>>(
+        alloc: Global,
+        deserializer: &mut D,
+    ) -> Result<Self, Error> {
+        let held: i64 = PagableDeserialize::<E>::pagable_deserialize(alloc, deserializer)?;
+        Ok(AtomicI64::new(held))
+    }
+}
+
+/// A handle that is put into such a lock after the lock's node was made is no reference of that node's value: the pager
+/// knows the references that a value had when it came.
+impl<E: Env, T: Carried<E>> Carried<E> for OnceLock<T> {
+    ghost shape = { λ e. once_lock (T.shape e) };
+
+    ghost means = { λ x. MeansOnce T.means };
+
+    ghost has_meaning = { λ x. once_has_meaning T.means };
+}
+
+impl<E: Env, T: PagableSerialize<E>> PagableSerialize<E> for OnceLock<T> {
+    ghost write_causes = { memory_or T.write_causes };
+
+    ghost write_causes_are_own = { memory_or_is_own_writing T.write_causes T.write_causes_are_own };
+
+    /// Appends the value that it holds when it is looked at, or that it holds none, as an `Option`. It doesn't wait for a
+    /// thread that is writing: until that is done the lock holds none.
+    fn pagable_serialize<S: PagableSerializer<E>>(&self, serializer: &mut S) -> Result<(), Error> {
+        let held = self.get();
+        PagableSerialize::<E>::pagable_serialize(&held, serializer)
+    }
+}
+
+/// The lock that holds this value, or none.
+fn lock_of<T: Drop>(held: Option<T>) -> OnceLock<T> {
+    match held {
+        Some(value) => OnceLock::from(value),
+        None => OnceLock::new(),
+    }
+}
+
+impl<'de, E: Env, T: PagableDeserialize<'de, E> + Drop> PagableDeserialize<'de, E> for OnceLock<T> {
+    ghost read_causes = { T.read_causes };
+
+    ghost read_causes_are_own = { T.read_causes_are_own };
+
+    /// Reads an `Option`. The lock is set exactly where there was a value, and no thread has seen it yet.
+    fn pagable_deserialize<D: PagableDeserializer<E>>(
+        alloc: Global,
+        deserializer: &mut D,
+    ) -> Result<Self, Error> {
+        let held: Option<T> = PagableDeserialize::<E>::pagable_deserialize(alloc, deserializer)?;
+        Ok(lock_of(held))
+    }
+}
