@@ -477,6 +477,8 @@ pub fn lists_are_ordered<E: Env, K: PagableOrdKey<E>, V: PagableOrdKey<E>, const
     ensures array { ⟦<[K; N] as PagableOrdKey<E>>⟧.order ≡ list_order K.PagableOrdKey.order }
     ensures set { ⟦<BTreeSet<K> as PagableOrdKey<E>>⟧.order ≡ list_order K.PagableOrdKey.order }
     ensures entries { ⟦<BTreeMap<K, V> as PagableOrdKey<E>>⟧.order ≡ list_order (pair_order K.PagableOrdKey.order V.PagableOrdKey.order) }
+{}
+
 /// An atomic number is spelled as an `i64`, and may mean each, since no contract knows what it holds. Writing wants memory at
 /// most; reading has no cause of its own.
 pub fn atomic_is_carried<E: Env>()
