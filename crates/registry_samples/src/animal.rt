@@ -1,6 +1,6 @@
 //! Animals, which are written as a tag and a body, and the readers of the bodies.
 
-ghost use Rattle.std.specs.Prelude.{refl};
+ghost use Rattle.std.specs.Prelude.{◌≡◌, refl};
 ghost use Rattle.pagable_model.specs.Carried.{tagged_by};
 ghost use Rattle.pagable_model.specs.Causes.{memory_or_is_own_reading, memory_or_is_own_writing, never_is_own_reading};
 ghost use Rattle.pagable_model.specs.Gives.{memory_or, never};
@@ -32,6 +32,19 @@ pub enum AnimalReader {
     Cat,
     OldCat,
     Dog,
+}
+
+impl AnimalReader {
+    /// The tag of the animals that it reads.
+    pub fn tag(self) -> &'static str
+        ensures { result.now ≡ tag_read self }
+    {
+        match self {
+            AnimalReader::Cat => "Cat",
+            AnimalReader::OldCat => "Cat",
+            AnimalReader::Dog => "Dog",
+        }
+    }
 }
 
 impl PagableRegisteredFor<Animal> for AnimalReader {}

@@ -4,9 +4,10 @@ ghost use Rattle.registry_samples.specs.Words.{word, bytes_of, word_meets_equal,
 
 use crate::animal::{Animal, AnimalReader};
 use pagable::{
-    Env, HasStaticValueRegistry, HasTypetagRegistry, StaticValueRegistry, TypetagRegistry,
-    WeighHash,
+    Env, Error, HasStaticValueRegistry, HasTypetagRegistry, StaticValueEntry, StaticValueRegistry,
+    TypetagRegistration, TypetagRegistry, WeighHash,
 };
+use std::alloc::{AllocError, Global};
 
 /// An environment without nodes, whose fields are its registries.
 #[derive(Drop)]
@@ -14,6 +15,54 @@ pub struct Zoo {
     pub words: StaticValueRegistry<&'static str>,
     pub blobs: StaticValueRegistry<&'static [u8]>,
     pub animals: TypetagRegistry<Animal, AnimalReader>,
+}
+
+/// The entries of these values. Their indices don't count yet.
+fn entries_of<T: Copy>(
+    alloc: Global,
+    values: &[T],
+) -> Result<Vec<StaticValueEntry<T>>, AllocError> {
+    let mut entries = Vec::new(alloc);
+    for value in values {
+        entries.push(StaticValueEntry {
+            value: *value,
+            index: 0,
+        })?;
+    }
+    Ok(entries)
+}
+
+/// A registration of each reader under its own tag, in their order.
+fn registrations_of(
+    alloc: Global,
+    readers: &[AnimalReader],
+) -> Result<Vec<TypetagRegistration<Animal, AnimalReader>>, AllocError> {
+    let mut registrations = Vec::new(alloc);
+    for reader in readers {
+        let tag = String::from_str(alloc, reader.tag())?;
+        registrations.push(TypetagRegistration::new(tag, *reader))?;
+    }
+    Ok(registrations)
+}
+
+impl Zoo {
+    /// An environment with these static texts and bytes, in which these readers are registered in their order. Refused by
+    /// want of memory, or with TooLong above 4,294,967,295 texts or lists of bytes.
+    pub fn new(
+        alloc: Global,
+        words: &[&'static str],
+        blobs: &[&'static [u8]],
+        readers: &[AnimalReader],
+    ) -> Result<Zoo, Error> {
+        let words = entries_of(alloc, words)?;
+        let blobs = entries_of(alloc, blobs)?;
+        let readers = registrations_of(alloc, readers)?;
+        Ok(Zoo {
+            words: StaticValueRegistry::from_entries(alloc, words)?,
+            blobs: StaticValueRegistry::from_entries(alloc, blobs)?,
+            animals: TypetagRegistry::from_registrations(readers),
+        })
+    }
 }
 
 /// No node.
