@@ -1,7 +1,6 @@
 -- Values that are written as an index: the registry that they stand in, as the list of its values by their index.
 use Rattle.std.specs.Prelude.{◌≡◌, refl, ℕ, ◌<◌, List, map, Bool, false, Some, Ok, IsTrue}
 use Rattle.std.proofs.Common.{subst, sym}
-use Rattle.std.specs.Borrow.{Bor}
 use Rattle.std.specs.List.{slice_get}
 use Rattle.pagable_model.specs.declared.error.Error.{Error}
 use Rattle.pagable_model.specs.declared.error.Error.TheVariants as errors
@@ -10,21 +9,21 @@ use Rattle.pagable_model.specs.Meaning.{Meaning}
 use Rattle.pagable_model.specs.Reading.{registered}
 
 -- what the values mean, by their index
-abbrev pub meanings_of : {T : Type 0} → (T → Meaning ⊥) → List (Bor T) → List (Meaning ⊥)
-meanings_of plain registry = map (λ v. plain v.now) registry
+abbrev pub meanings_of : {T : Type 0} → (T → Meaning ⊥) → List T → List (Meaning ⊥)
+meanings_of plain registry = map plain registry
 
 -- an equal value stands under this index
-pub record HasEqual {T : Type 0} (same : T → T → Bool) (value : T) (registry : List (Bor T)) (i : ℕ) : Type 0 where
-  pub known : Bor T
+pub record HasEqual {T : Type 0} (same : T → T → Bool) (value : T) (registry : List T) (i : ℕ) : Type 0 where
+  pub known : T
   pub stands : slice_get registry i ≡ Some known
-  pub equal : IsTrue (same value known.now)
+  pub equal : IsTrue (same value known)
 
 -- no equal value stands below this index
-abbrev pub NoEqualBelow : {T : Type 0} → (T → T → Bool) → T → List (Bor T) → ℕ → Type 0
-NoEqualBelow {T} same value registry i = (j : ℕ) (known : Bor T) → j < i → slice_get registry j ≡ Some known → same value known.now ≡ false
+abbrev pub NoEqualBelow : {T : Type 0} → (T → T → Bool) → T → List T → ℕ → Type 0
+NoEqualBelow {T} same value registry i = (j : ℕ) (known : T) → j < i → slice_get registry j ≡ Some known → same value known ≡ false
 
 -- a value of this meaning stands under this index
-abbrev pub StandsAt : {T : Type 0} → (T → Meaning ⊥) → List (Bor T) → T → ℕ → Type 0
+abbrev pub StandsAt : {T : Type 0} → (T → Meaning ⊥) → List T → T → ℕ → Type 0
 StandsAt plain registry value i = registered (meanings_of plain registry) i ≡ Ok (plain value)
 
 -- the refusal of a value that doesn't stand there

@@ -3,7 +3,6 @@ use Rattle.std.proofs.Common.{◌≡◌, ℕ, zero, suc, ◌+◌, ◌<◌, ◌�
 use Rattle.std.specs.Prelude.{IsTrue, ◌⊎◌, take}
 use Rattle.std.proofs.lemmas.List.{take_more, map-append}
 use Rattle.std.specs.Int.{w32}
-use Rattle.std.specs.Borrow.{Bor}
 use Rattle.std.specs.List.{slice_get, AllByRecursion}
 use Rattle.std.proofs.lemmas.Bool.{cases_lt}
 use Rattle.std.proofs.lemmas.Option.{slice_get_read, get_or_from_slice_get}
@@ -33,25 +32,25 @@ pub ruleset values = (values_more)
 
 -- ---- the least index of an equal value
 
-pub none_below : {T : Type 0} (same : T → T → Bool) (value : T) (xs : List (Bor T)) → NoEqualBelow same value xs 0
+pub none_below : {T : Type 0} (same : T → T → Bool) (value : T) (xs : List T) → NoEqualBelow same value xs 0
 none_below same value xs j known lt stands = absurd (omega (arith, lt))
 
-pub below_more : {T : Type 0} (same : T → T → Bool) (value : T) (xs : List (Bor T)) (i : ℕ) (x : Bor T) → x ≡ get_or xs i x → same value x.now ≡ false → NoEqualBelow same value xs i → NoEqualBelow same value xs (i + 1)
+pub below_more : {T : Type 0} (same : T → T → Bool) (value : T) (xs : List T) (i : ℕ) (x : T) → x ≡ get_or xs i x → same value x ≡ false → NoEqualBelow same value xs i → NoEqualBelow same value xs (i + 1)
 below_more {T} same value xs i x e differs below j known lt stands = go (cases_lt j i)
   where
-    go : (j < i) ⊎ (i ≤ j) → same value known.now ≡ false
+    go : (j < i) ⊎ (i ≤ j) → same value known ≡ false
     go (inl less) = below j known less stands
     go (inr le) =
         let here : j ≡ i = omega (arith, lt, le) in
         let at_i : slice_get xs i ≡ Some known = rw (sym here) stands in
         let is : x ≡ known = e ∙ get_or_from_slice_get xs i known x at_i in
-        let P : Bor T → Type 0 = λ y. same value y.now ≡ false in
+        let P : T → Type 0 = λ y. same value y ≡ false in
         subst P is differs
 
-pub is_equal : {T : Type 0} (same : T → T → Bool) (value : T) (xs : List (Bor T)) (i : ℕ) (x : Bor T) → i < length xs → x ≡ get_or xs i x → IsTrue (same value x.now) → HasEqual same value xs i
+pub is_equal : {T : Type 0} (same : T → T → Bool) (value : T) (xs : List T) (i : ℕ) (x : T) → i < length xs → x ≡ get_or xs i x → IsTrue (same value x) → HasEqual same value xs i
 is_equal same value xs i x lt e equal = record { known = x; stands = slice_get_read xs (length xs) i x refl lt e; equal = equal }
 
-pub none_at_all : {T : Type 0} (same : T → T → Bool) (value : T) (xs : List (Bor T)) (i : ℕ) → length xs ≤ i → NoEqualBelow same value xs i → NoEqualBelow same value xs (length xs)
+pub none_at_all : {T : Type 0} (same : T → T → Bool) (value : T) (xs : List T) (i : ℕ) → length xs ≤ i → NoEqualBelow same value xs i → NoEqualBelow same value xs (length xs)
 none_at_all same value xs i le below j known lt stands = below j known (omega (arith, lt, le)) stands
 
 pub ruleset finding = (none_below, below_more, is_equal, none_at_all)
@@ -97,10 +96,10 @@ static_read meaning context registry x m rest last bytes after i f l h g is = re
 
 -- ---- reading again
 
-all-plain : {T : Type 0} (plain : T → Meaning ⊥) → ((x : T) → HasNoReference (plain x)) → (registry : List (Bor T)) → AllByRecursion HasNoReference (meanings_of plain registry)
+all-plain : {T : Type 0} (plain : T → Meaning ⊥) → ((x : T) → HasNoReference (plain x)) → (registry : List T) → AllByRecursion HasNoReference (meanings_of plain registry)
 all-plain plain none [] = tt
-all-plain plain none (v ∷ vs) = (none v.now, all-plain plain none vs)
+all-plain plain none (v ∷ vs) = (none v, all-plain plain none vs)
 
-pub static_is_readable : {T : Type 0} (plain : T → Meaning ⊥) → ((x : T) → HasNoReference (plain x)) → (registry : List (Bor T)) → IsReadable (static_value (meanings_of plain registry))
+pub static_is_readable : {T : Type 0} (plain : T → Meaning ⊥) → ((x : T) → HasNoReference (plain x)) → (registry : List T) → IsReadable (static_value (meanings_of plain registry))
 unfolding IsReadable
 static_is_readable plain none registry = all-plain plain none registry

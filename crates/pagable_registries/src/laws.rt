@@ -2,7 +2,6 @@
 //! nothing, whose contract holds for every environment and every value.
 
 ghost use Rattle.std.specs.Prelude.{◌≡◌, ◌↔◌, ℕ, Some, Ok};
-ghost use Rattle.std.specs.Borrow.{Bor};
 ghost use Rattle.std.specs.List.{slice_get};
 ghost use Rattle.pagable_model.specs.Canonical.{IsReadable};
 ghost use Rattle.pagable_model.specs.Gives.{never, memory_or};
@@ -23,17 +22,17 @@ use pagable_traits::{Carried, PagableDeserialize, PagableSerialize};
 
 /// A static value is spelled as an index into the environment's registry, means its value whatever its index, and is
 /// refused by want of memory or where it isn't registered; reading it is never refused for a cause of its own.
-pub fn static_value_is_carried<E: Env, T: HasStaticValueRegistry<'static, E> + 'static>()
-    ensures shape { (e : E) → ⟦<StaticValue<'static, T> as Carried<E>>⟧.shape e ≡ static_value (meanings_of T.plain (T.known e)) }
-    ensures means { (v : Static T) (m : Meaning Reference) → ⟦<StaticValue<'static, T> as Carried<E>>⟧.means v m ↔ (m ≡ lifted (T.plain v.0.value.now)) }
-    ensures writes { (e : Refusal) → ⟦<StaticValue<'static, T> as PagableSerialize<E>>⟧.write_causes e ↔ memory_or unregistered e }
-    ensures reads { (e : Refusal) → ⟦<StaticValue<'static, T> as PagableDeserialize<'static, E>>⟧.read_causes e ↔ never e }
+pub fn static_value_is_carried<E: Env, T: HasStaticValueRegistry<E>>()
+    ensures shape { (e : E) → ⟦<StaticValue<T> as Carried<E>>⟧.shape e ≡ static_value (meanings_of T.plain (T.known e)) }
+    ensures means { (v : Static T) (m : Meaning Reference) → ⟦<StaticValue<T> as Carried<E>>⟧.means v m ↔ (m ≡ lifted (T.plain v.0.value)) }
+    ensures writes { (e : Refusal) → ⟦<StaticValue<T> as PagableSerialize<E>>⟧.write_causes e ↔ memory_or unregistered e }
+    ensures reads { (e : Refusal) → ⟦<StaticValue<T> as PagableDeserialize<'static, E>>⟧.read_causes e ↔ never e }
 {}
 
 /// The forms of static values are read again: each index of a registered value as that value.
-pub fn static_values_are_read_again<E: Env, T: HasStaticValueRegistry<'static, E> + 'static>()
+pub fn static_values_are_read_again<E: Env, T: HasStaticValueRegistry<E>>()
     ensures readable { (e : E) → IsReadable (static_value (meanings_of T.plain (T.known e))) }
-    ensures value { (e : E) (i : ℕ) (known : Bor T) → slice_get (T.known e) i ≡ Some known → registered (meanings_of T.plain (T.known e)) i ≡ Ok (T.plain known.now) }
+    ensures value { (e : E) (i : ℕ) (known : T) → slice_get (T.known e) i ≡ Some known → registered (meanings_of T.plain (T.known e)) i ≡ Ok (T.plain known) }
 {}
 
 /// A tagged value means its tag with something that its body means: what its type owes as the law `has_meaning` of `Carried`.

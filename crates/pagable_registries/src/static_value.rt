@@ -1,9 +1,9 @@
-//! Static values: they stand in a registry that the environment holds, and are written as their index there.
+//! Static values: they stand in a registry that the environment holds, and are written as their index there. `T` is the
+//! reference to what is static, as `&'static str`: nothing is proved yet of a `&'static T` with a type parameter `T`.
 
 ghost use Rattle.std.specs.Prelude.{◌≡◌, ◌<◌, ◌≤◌, ◌↔◌, ⊤, refl, List, length, map, Option, Some, Err, OnOk, IfOk, IfErr, IfSome, IfNone, IsTrue, vec_len};
-ghost use Rattle.std.specs.Borrow.{Bor};
 ghost use Rattle.std.specs.List.{slice_get};
-ghost use Rattle.std.specs.List.Sorted.{IsPermutation, IsSortedByKey, IsStableByKey};
+ghost use Rattle.std.specs.List.Sorted.{IsPermutation, IsSorted, IsStable};
 ghost use Rattle.std.proofs.Common.{rules};
 ghost use Rattle.std.specs.Cmp.Rules.{comparing, hashing};
 ghost use Rattle.pagable_model.specs.Basic.{longest};
@@ -34,12 +34,12 @@ use std::ops::Deref;
 const MOST_ENTRIES: usize = 4_294_967_295;
 
 /// A value, and its index in the registry that it stands in. Two entries are equal where their values are.
-pub struct StaticValueEntry<'a, T> {
-    pub value: &'a T,
+pub struct StaticValueEntry<T> {
+    pub value: T,
     pub index: u32,
 }
 
-impl<'a, T> Clone for StaticValueEntry<'a, T> {
+impl<T: Copy> Clone for StaticValueEntry<T> {
     ghost is_clone = { λ x y. y ≡ x };
 
     ghost is_infallible = { λ _. ⊤ };
@@ -49,24 +49,24 @@ impl<'a, T> Clone for StaticValueEntry<'a, T> {
     }
 }
 
-impl<'a, T> Copy for StaticValueEntry<'a, T> {}
+impl<T: Copy> Copy for StaticValueEntry<T> {}
 
-impl<'a, T: PartialEq> PartialEq for StaticValueEntry<'a, T> {
-    ghost eq = { λ x y. T.eq x.value.now y.value.now };
+impl<T: PartialEq> PartialEq for StaticValueEntry<T> {
+    ghost eq = { λ x y. T.eq x.value y.value };
 
     ghost laws = { Prim.search (comparing, rules) };
 
     fn eq(&self, other: &Self) -> bool {
-        *self.value == *other.value
+        self.value == other.value
     }
 }
 
-impl<'a, T: Eq> Eq for StaticValueEntry<'a, T> {
+impl<T: Eq> Eq for StaticValueEntry<T> {
     ghost laws = { Prim.search (comparing, rules) };
 }
 
-impl<'a, T: Hash> Hash for StaticValueEntry<'a, T> {
-    ghost hash_input = { λ x. T.hash_input x.value.now };
+impl<T: Hash> Hash for StaticValueEntry<T> {
+    ghost hash_input = { λ x. T.hash_input x.value };
 
     ghost respects_eq = { Prim.search (hashing, rules) };
 
@@ -76,18 +76,18 @@ impl<'a, T: Hash> Hash for StaticValueEntry<'a, T> {
 }
 
 /// A value that is written as its index. Two are equal where their values are, whatever their indices.
-pub struct StaticValue<'a, T>(pub StaticValueEntry<'a, T>);
+pub struct StaticValue<T>(pub StaticValueEntry<T>);
 
-impl<'a, T> StaticValue<'a, T> {
+impl<T: Copy> StaticValue<T> {
     /// The value.
-    pub fn value(self) -> &'a T
-        ensures { result ≡ self.entry.0.value }
+    pub fn value(self) -> T
+        ensures { result ≡ self.0.value }
     {
         self.0.value
     }
 }
 
-impl<'a, T> Clone for StaticValue<'a, T> {
+impl<T: Copy> Clone for StaticValue<T> {
     ghost is_clone = { λ x y. y ≡ x };
 
     ghost is_infallible = { λ _. ⊤ };
@@ -97,10 +97,10 @@ impl<'a, T> Clone for StaticValue<'a, T> {
     }
 }
 
-impl<'a, T> Copy for StaticValue<'a, T> {}
+impl<T: Copy> Copy for StaticValue<T> {}
 
-impl<'a, T: PartialEq> PartialEq for StaticValue<'a, T> {
-    ghost eq = { λ x y. T.eq x.0.value.now y.0.value.now };
+impl<T: PartialEq> PartialEq for StaticValue<T> {
+    ghost eq = { λ x y. T.eq x.0.value y.0.value };
 
     ghost laws = { Prim.search (comparing, rules) };
 
@@ -109,12 +109,12 @@ impl<'a, T: PartialEq> PartialEq for StaticValue<'a, T> {
     }
 }
 
-impl<'a, T: Eq> Eq for StaticValue<'a, T> {
+impl<T: Eq> Eq for StaticValue<T> {
     ghost laws = { Prim.search (comparing, rules) };
 }
 
-impl<'a, T: Hash> Hash for StaticValue<'a, T> {
-    ghost hash_input = { λ x. T.hash_input x.0.value.now };
+impl<T: Hash> Hash for StaticValue<T> {
+    ghost hash_input = { λ x. T.hash_input x.0.value };
 
     ghost respects_eq = { Prim.search (hashing, rules) };
 
@@ -123,78 +123,69 @@ impl<'a, T: Hash> Hash for StaticValue<'a, T> {
     }
 }
 
-impl<'a, T> Deref for StaticValue<'a, T> {
+impl<T> Deref for StaticValue<T> {
     type Target = T;
 
-    ghost deref_gives = { λ x t. t ≡ x.0.value.now };
+    ghost deref_gives = { λ x t. t ≡ x.0.value };
 
     fn deref(&self) -> &T {
-        self.0.value
+        &self.0.value
     }
 }
 
-impl<'a, T: fmt::Display> fmt::Display for StaticValue<'a, T> {
+impl<T: fmt::Display> fmt::Display for StaticValue<T> {
     fn fmt<W: fmt::Write>(&self, f: &mut fmt::Formatter<W>) -> fmt::Result {
-        fmt::Display::fmt(self.0.value, f)
+        fmt::Display::fmt(&self.0.value, f)
     }
 }
 
-impl<'a, T: fmt::Debug> fmt::Debug for StaticValue<'a, T> {
+impl<T: fmt::Debug> fmt::Debug for StaticValue<T> {
     fn fmt<W: fmt::Write>(&self, f: &mut fmt::Formatter<W>) -> fmt::Result {
-        fmt::Debug::fmt(self.0.value, f)
+        fmt::Debug::fmt(&self.0.value, f)
     }
 }
 
 /// A static text.
-pub type StaticStr = StaticValue<'static, &'static str>;
+pub type StaticStr = StaticValue<&'static str>;
 
 impl StaticStr {
     /// The text.
     pub fn as_str(self) -> &'static str
-        ensures { result ≡ self.entry.0.value.now }
+        ensures { result ≡ self.entry.0.value }
     {
-        *self.0.value
+        self.0.value
     }
 }
 
 /// Static bytes.
-pub type StaticBytes = StaticValue<'static, &'static [u8]>;
+pub type StaticBytes = StaticValue<&'static [u8]>;
 
 impl StaticBytes {
     /// The bytes.
     pub fn as_bytes(self) -> &'static [u8]
-        ensures { result ≡ self.entry.0.value.now }
+        ensures { result ≡ self.entry.0.value }
     {
-        *self.0.value
+        self.0.value
     }
 }
 
 /// The static values of a type in their order, each under its index from 0 on.
-pub struct StaticValueRegistry<'a, T> {
-    values: Vec<&'a T>,
+#[derive(Drop)]
+pub struct StaticValueRegistry<T> {
+    values: Vec<T>,
 }
 
-impl<'a, T> Model for StaticValueRegistry<'a, T> {
-    ghost Value = { List (Bor T) };
+impl<T> Model for StaticValueRegistry<T> {
+    ghost Value = { List T };
 
     ghost view = { λ r. r.values.items };
 
     ghost invariant = { λ r. vec_len r.values ≤ longest };
 }
 
-impl<'a, T> Drop for StaticValueRegistry<'a, T> {
-    fn drop(self) {
-        let StaticValueRegistry { values } = self;
-        drop(values);
-    }
-}
-
 /// The values of the entries, in their order.
 #[tactic(auto, using(crate::proofs::Statics::values))]
-fn values_of<'a, T>(
-    alloc: Global,
-    entries: &[StaticValueEntry<'a, T>],
-) -> Result<Vec<&'a T>, AllocError>
+fn values_of<T: Copy>(alloc: Global, entries: &[StaticValueEntry<T>]) -> Result<Vec<T>, AllocError>
     ensures { IfOk result (λ v. v.items ≡ map (λ e. e.value) entries.now) }
 {
     let mut values = Vec::with_capacity(alloc, entries.len())?;
@@ -204,18 +195,18 @@ fn values_of<'a, T>(
     Ok(values)
 }
 
-impl<'a, T> StaticValueRegistry<'a, T> {
+impl<T: Copy> StaticValueRegistry<T> {
     /// The registry of these values in ascending order, equal ones in the order in which they were given; each value's
     /// index is its place there, from 0 on, whatever index its entry brought. TooLong above 4,294,967,295 entries, else
     /// refused by want of memory alone.
-    pub fn from_entries(alloc: Global, entries: Vec<StaticValueEntry<'a, T>>) -> Result<Self, Error>
+    pub fn from_entries(alloc: Global, entries: Vec<StaticValueEntry<T>>) -> Result<Self, Error>
     where
         T: Ord,
-        ensures values { IfOk result (λ r. IsPermutation (map (λ e. e.value) entries.entry.items) r) }
-        ensures sorted { IfOk result (λ r. IsSortedByKey (λ v. v.now) T.cmp r) }
-        ensures stable { IfOk result (λ r. IsStableByKey (λ v. v.now) T.cmp (map (λ e. e.value) entries.entry.items) r) }
+        ensures values { IfOk result (λ r. IsPermutation (map (λ e. e.value) entries.items) r) }
+        ensures sorted { IfOk result (λ r. IsSorted T.cmp r) }
+        ensures stable { IfOk result (λ r. IsStable T.cmp (map (λ e. e.value) entries.items) r) }
         ensures few { IfOk result (λ r. length r ≤ longest) }
-        ensures only { IfErr result (long_or_memory (vec_len entries.entry)) }
+        ensures only { IfErr result (long_or_memory (vec_len entries)) }
     {
         if entries.len() > MOST_ENTRIES {
             return Err(Error::TooLong);
@@ -226,7 +217,7 @@ impl<'a, T> StaticValueRegistry<'a, T> {
     }
 
     /// The value under this index with the index, or None where no value stands there.
-    pub fn get(&self, index: u32) -> Option<StaticValue<'a, T>>
+    pub fn get(&self, index: u32) -> Option<StaticValue<T>>
         ensures found { IfSome result (λ v. (v.0.index ≡ index) × (slice_get self.now index ≡ Some v.0.value)) }
         ensures missing { IfNone result (length self.now ≤ index) }
     {
@@ -253,14 +244,14 @@ impl<'a, T> StaticValueRegistry<'a, T> {
 
 /// The first place of an equal value, or None where there is none.
 #[tactic(auto, using(crate::proofs::Statics::finding))]
-fn first_equal<'a, T: PartialEq>(values: &[&'a T], value: &T) -> Option<usize>
+fn first_equal<T: PartialEq>(values: &[T], value: &T) -> Option<usize>
     ensures within { IfSome result (λ i. i < length values.now) }
     ensures equal { IfSome result (HasEqual T.eq value.now values.now) }
     ensures least { IfSome result (NoEqualBelow T.eq value.now values.now) }
     ensures missing { IfNone result (NoEqualBelow T.eq value.now values.now (length values.now)) }
 {
     for place in 0..values.len() {
-        if *value == *values[place] {
+        if *value == values[place] {
             return Some(place);
         }
     }
@@ -268,15 +259,15 @@ fn first_equal<'a, T: PartialEq>(values: &[&'a T], value: &T) -> Option<usize>
 }
 
 /// A type whose values stand in a registry of the environment.
-pub trait HasStaticValueRegistry<'a, E: Env>: Ord + Sized {
+pub trait HasStaticValueRegistry<E: Env>: Ord + Copy + Sized {
     // What a value means; no references are in it.
     ghost plain: { Self → Meaning ⊥ };
 
     // The values that are registered, by their index.
-    ghost known: { E → List (Bor Self) };
+    ghost known: { E → List Self };
 
     /// The registry of this type in the environment.
-    fn registry<'e>(env: &'e E) -> &'e StaticValueRegistry<'a, Self>
+    fn registry(env: &E) -> &StaticValueRegistry<Self>
         ensures { result.now ≡ known env.now };
 
     // Values are equal exactly where they mean the same.
@@ -289,11 +280,11 @@ pub trait HasStaticValueRegistry<'a, E: Env>: Ord + Sized {
 
 /// The value that the environment's registry has under this index: BadStaticIndex where there is none.
 #[tactic(auto, using(crate::proofs::Statics::steps))]
-pub fn registered_value<'a, E: Env, T: HasStaticValueRegistry<'a, E>>(
+pub fn registered_value<E: Env, T: HasStaticValueRegistry<E>>(
     index: u32,
     env: &E,
-) -> Result<StaticValue<'a, T>, Error>
-    ensures gives { Gives never (λ v. T.plain v.0.value.now) result (registered (meanings_of T.plain (T.known env.now)) index) }
+) -> Result<StaticValue<T>, Error>
+    ensures gives { Gives never (λ v. T.plain v.0.value) result (registered (meanings_of T.plain (T.known env.now)) index) }
     ensures same_index { IfOk result (λ v. v.0.index ≡ index) }
 {
     match T::registry(env).get(index) {
@@ -305,11 +296,8 @@ pub fn registered_value<'a, E: Env, T: HasStaticValueRegistry<'a, E>>(
 /// Whether the environment's registry has an equal value under the value's own index. An equal value under another
 /// index doesn't do.
 #[tactic(auto, using(crate::proofs::Statics::steps))]
-pub fn is_registered<'a, E: Env, T: HasStaticValueRegistry<'a, E>>(
-    value: &StaticValue<'a, T>,
-    env: &E,
-) -> bool
-    ensures { IsTrue result ↔ StandsAt T.plain (T.known env.now) value.now.0.value.now value.now.0.index }
+pub fn is_registered<E: Env, T: HasStaticValueRegistry<E>>(value: &StaticValue<T>, env: &E) -> bool
+    ensures { IsTrue result ↔ StandsAt T.plain (T.known env.now) value.now.0.value value.now.0.index }
 {
     match T::registry(env).get(value.0.index) {
         None => false,
@@ -317,23 +305,23 @@ pub fn is_registered<'a, E: Env, T: HasStaticValueRegistry<'a, E>>(
     }
 }
 
-impl<'a, E: Env, T: HasStaticValueRegistry<'a, E>> Carried<E> for StaticValue<'a, T> {
+impl<E: Env, T: HasStaticValueRegistry<E>> Carried<E> for StaticValue<T> {
     ghost shape = { λ e. static_value (meanings_of T.plain (T.known e)) };
 
-    ghost means = { Is (λ v. lifted (T.plain v.0.value.now)) };
+    ghost means = { Is (λ v. lifted (T.plain v.0.value)) };
 
-    ghost has_meaning = { λ v. (lifted (T.plain v.0.value.now), refl) };
+    ghost has_meaning = { λ v. (lifted (T.plain v.0.value), refl) };
 }
 
-impl<'a, E: Env, T: HasStaticValueRegistry<'a, E>> OneMeaning<E> for StaticValue<'a, T> {
-    ghost meaning = { λ v. lifted (T.plain v.0.value.now) };
+impl<E: Env, T: HasStaticValueRegistry<E>> OneMeaning<E> for StaticValue<T> {
+    ghost meaning = { λ v. lifted (T.plain v.0.value) };
 
     ghost is_meaning = { λ v. refl };
 
     ghost single = { λ v m is. is };
 }
 
-impl<'a, E: Env, T: HasStaticValueRegistry<'a, E>> PagableSerialize<E> for StaticValue<'a, T> {
+impl<E: Env, T: HasStaticValueRegistry<E>> PagableSerialize<E> for StaticValue<T> {
     ghost write_causes = { memory_or unregistered };
 
     ghost write_causes_are_own = { memory_or_is_own_writing unregistered unregistered_is_own_writing };
@@ -342,14 +330,14 @@ impl<'a, E: Env, T: HasStaticValueRegistry<'a, E>> PagableSerialize<E> for Stati
     /// refused by want of memory alone.
     #[tactic(auto, using(pagable_codec::proofs::Writing::parts, crate::proofs::Statics::writing))]
     fn pagable_serialize<S: PagableSerializer<E>>(&self, serializer: &mut S) -> Result<(), Error>
-        ensures ok { OnOk result (WritesSome (Is (λ v. lifted (T.plain v.0.value.now)) self.now) (nesting (S.levels serializer.old) (E.parts (S.environment serializer.old))) (static_value (meanings_of T.plain (T.known (S.environment serializer.old)))) (S.out serializer.old) (S.out serializer.new)) }
-        ensures refused { IfErr result (Refused (Is (λ v. lifted (T.plain v.0.value.now)) self.now) (nesting (S.levels serializer.old) (E.parts (S.environment serializer.old))) (static_value (meanings_of T.plain (T.known (S.environment serializer.old))))) }
+        ensures ok { OnOk result (WritesSome (Is (λ v. lifted (T.plain v.0.value)) self.now) (nesting (S.levels serializer.old) (E.parts (S.environment serializer.old))) (static_value (meanings_of T.plain (T.known (S.environment serializer.old)))) (S.out serializer.old) (S.out serializer.new)) }
+        ensures refused { IfErr result (Refused (Is (λ v. lifted (T.plain v.0.value)) self.now) (nesting (S.levels serializer.old) (E.parts (S.environment serializer.old))) (static_value (meanings_of T.plain (T.known (S.environment serializer.old))))) }
         ensures only { IfErr result (IsRefusal (memory_or unregistered)) }
         ensures err { Grows (S.out serializer.old) (S.out serializer.new) }
         ensures same_env { S.environment serializer.new ≡ S.environment serializer.old }
         ensures same_levels { S.levels serializer.new ≡ S.levels serializer.old }
-        ensures unregistered { IfErr result (λ e. e ≡ Error.Unregistered → ¬ StandsAt T.plain (T.known (S.environment serializer.old)) self.now.0.value.now self.now.0.index) }
-        ensures missing { ¬ StandsAt T.plain (T.known (S.environment serializer.old)) self.now.0.value.now self.now.0.index → result ≡ Err Error.Unregistered }
+        ensures unregistered { IfErr result (λ e. e ≡ Error.Unregistered → ¬ StandsAt T.plain (T.known (S.environment serializer.old)) self.now.0.value self.now.0.index) }
+        ensures missing { ¬ StandsAt T.plain (T.known (S.environment serializer.old)) self.now.0.value self.now.0.index → result ≡ Err Error.Unregistered }
     {
         if !is_registered(self, serializer.env()) {
             return Err(Error::Unregistered);
@@ -358,8 +346,7 @@ impl<'a, E: Env, T: HasStaticValueRegistry<'a, E>> PagableSerialize<E> for Stati
     }
 }
 
-impl<'de, 'a, E: Env, T: HasStaticValueRegistry<'a, E>> PagableDeserialize<'de, E>
-    for StaticValue<'a, T> {
+impl<'de, E: Env, T: HasStaticValueRegistry<E>> PagableDeserialize<'de, E> for StaticValue<T> {
     ghost read_causes = { never };
 
     ghost read_causes_are_own = { never_is_own_reading };

@@ -1,19 +1,30 @@
 //! Runs the worked rows, and prints a line for each.
 #![tactic(auto)]
 
+pub mod blobs;
+pub mod carried;
+pub mod cells;
+pub mod numbers;
 pub mod rows;
+pub mod values;
 
 use crate::rows::{Row, run_row};
 use std::io;
 use std::process::ExitCode;
 
 /// The rows that are whole, in order.
-const ROWS: [Row; 5] = [
+const ROWS: [Row; 11] = [
+    Row::WriteNumbers,
     Row::ReadU16,
+    Row::OptionsAndResults,
+    Row::Lists,
+    Row::MapInOrder,
     Row::KeyWithChild,
     Row::KeyOfNothing,
     Row::TextOutAndBack,
     Row::KeyTaken,
+    Row::Texts,
+    Row::OverwrittenAndRefused,
 ];
 
 fn run(rt: &HostRuntime) -> io::Result<ExitCode> {

@@ -51,7 +51,7 @@ returns-clause-gives g c =
     let env = g.D.PagableDeserializer.environment start in
     let context = handles_at (g.D.PagableDeserializer.levels start) (g.E.Env.parts env) in
     let known = meanings_of g.T.HasStaticValueRegistry.plain (g.T.HasStaticValueRegistry.known env) in
-    static_read (λ v. lifted (g.T.HasStaticValueRegistry.plain v.0.value.now)) context known c.in_ok-value.value _ (g.D.PagableDeserializer.rest start) _ _ _ _ (law.bytes_are start) (law.rest_of_with start c.read_u32.new.self) (rw c.serde.ensures.value at c.in_ok-index.ensures.gives) (rw (c.env.ensures, law.environment_of_with start c.read_u32.new.self) at c.in_ok-value.ensures.gives) refl
+    static_read (λ v. lifted (g.T.HasStaticValueRegistry.plain v.0.value)) context known c.in_ok-value.value _ (g.D.PagableDeserializer.rest start) _ _ _ _ (law.bytes_are start) (law.rest_of_with start c.read_u32.new.self) (rw c.serde.ensures.value at c.in_ok-index.ensures.gives) (rw (c.env.ensures, law.environment_of_with start c.read_u32.new.self) at c.in_ok-value.ensures.gives) refl
 
 pub returns-clause-moves : goal.returns-clause-moves
 returns-clause-moves g c = g.met.D.PagableDeserializer.moves_of_with c.args.deserializer.now c.read_u32.new.self (rw c.serde.ensures.value at c.read_u32.ensures.goes)
