@@ -19,11 +19,11 @@ CARRIED = [
     "(bool,String)", "Vec<()>", "Vec<bool>", "Vec<u8>", "Vec<i32>", "Vec<u64>", "Vec<String>", "Vec<Option<u8>>",
     "Vec<Vec<u16>>", "Vec<(String,i64)>", "Box<[u32]>", "Box<[String]>", "SmallVec<[u8;4]>", "SmallVec<[String;4]>", "Duration", "Result<String,String>",
     "Result<u16,bool>", "[u16;2]", "[String;3]", "[u8;31]", "(u8,u16,i32)", "(u8,String,Vec<u64>,Option<i8>)",
-    "(u128,i128,char,bool,())", "Box<str>", "PathBuf", "PhantomData",
+    "(u128,i128,char,bool,())", "Box<str>", "PathBuf", "PhantomData", "AtomicI64", "OnceLock<u16>", "Regex",
 ]
 
 # Texts, with a length in bytes.
-TEXTS = ("char", "String", "Box<str>", "PathBuf")
+TEXTS = ("char", "String", "Box<str>", "PathBuf", "Regex")
 
 # The greatest length of a text or a list; the original has no such limit below 64 bits.
 LONGEST = 2**32 - 1
@@ -86,7 +86,7 @@ def form(name, value):
         return bytes([int(value) % 256])
     if name in ("u16", "u32", "u64", "u128", "usize"):
         return varint(int(value))
-    if name in ("i16", "i32", "i64", "i128"):
+    if name in ("i16", "i32", "i64", "i128", "AtomicI64"):
         number = int(value)
         return varint(2 * number if number >= 0 else -2 * number - 1)
     if name == "bool":
@@ -97,7 +97,7 @@ def form(name, value):
         return b""
     if name == "Duration":
         return varint(int(value["secs"])) + varint(int(value["nanos"]))
-    if part := inside(name, "Option"):
+    if part := inside(name, "Option") or inside(name, "OnceLock"):
         return b"\x00" if value is None else b"\x01" + form(part[0], value["some"])
     if parts := inside(name, "Result"):
         return b"\x01" + form(parts[0], value["ok"]) if "ok" in value else b"\x00" + form(parts[1], value["err"])
@@ -116,12 +116,13 @@ def shown(name, value):
     """The value as Rust's `{:?}` prints it, or None where that isn't compared."""
     if name in ("bool",):
         return "true" if value else "false"
-    if name[0] in "ui" and name[1:].isdigit() or name == "usize":
+    if name[0] in "ui" and name[1:].isdigit() or name in ("usize", "AtomicI64"):
         return str(int(value))
     if name in TEXTS and name != "PathBuf":
         if not all(" " <= sign <= "~" and sign not in "\\'\"" for sign in value):
             return None
-        return f"'{value}'" if name == "char" else f'"{value}"'
+        text = f"'{value}'" if name == "char" else f'"{value}"'
+        return f"SavedRegex({text})" if name == "Regex" else text
     if name == "()":
         return "()"
     if part := inside(name, "Option"):
@@ -129,6 +130,8 @@ def shown(name, value):
             return "None"
         some = shown(part[0], value["some"])
         return None if some is None else f"Some({some})"
+    if part := inside(name, "OnceLock"):
+        return "OnceLock(<uninit>)" if value is None else f"OnceLock({shown(part[0], value['some'])})"
     if parts := inside(name, "Result"):
         case, part = ("Ok", parts[0]) if "ok" in value else ("Err", parts[1])
         of = shown(part, value[case.lower()])

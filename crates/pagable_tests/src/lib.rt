@@ -1,5 +1,5 @@
 //! Tests of the crates below that are no data: cursors of readers and writers, byte arrays, second readings,
-//! references, JSON values that are written, laws, the pager's calls, and lists of events on the machine.
+//! references, JSON values that are written, regular expressions, laws, the pager's calls, and lists of events on the machine.
 #![tactic(auto)]
 
 #[cfg(test)]
@@ -22,6 +22,8 @@ mod levels;
 mod machine;
 #[cfg(test)]
 mod pager;
+#[cfg(test)]
+mod patterns;
 #[cfg(test)]
 mod references;
 #[cfg(test)]

@@ -5,7 +5,7 @@ use anyhow::ensure;
 use indexmap::{IndexMap, IndexSet};
 use pagable::{
     Env, NoReferences, PagableDeserialize, PagableDeserializer, PagableDeserializerImpl,
-    PagableSerialize, PagableSerializerImpl, PathText, SessionContext, Thin, WeighHash,
+    PagableSerialize, PagableSerializerImpl, PathText, SavedRegex, SessionContext, Thin, WeighHash,
 };
 use pagable_samples::{Nested, NestedEnv, TextEnv};
 use smallvec::SmallVec;
@@ -14,6 +14,8 @@ use std::boxed::{BoxedSlice, BoxedStr};
 use std::collections::{BTreeMap, BTreeSet};
 use std::fmt::Debug;
 use std::marker::PhantomData;
+use std::sync::OnceLock;
+use std::sync::atomic::AtomicI64;
 use std::time::Duration;
 
 /// The values hold no references, so any environment will do.
@@ -168,6 +170,16 @@ fn array(alloc: Global, name: &str, input: &[u8]) -> anyhow::Result<Option<Answe
     }
 }
 
+/// Cells and regular expressions, and what comes after them.
+fn cell(alloc: Global, name: &str, input: &[u8]) -> anyhow::Result<Option<Answer>> {
+    match name {
+        "AtomicI64" => replay_as::<AtomicI64>(alloc, input),
+        "OnceLock<u16>" => replay_as::<OnceLock<u16>>(alloc, input),
+        "Regex" => replay_as::<SavedRegex>(alloc, input),
+        _ => joined(alloc, name, input),
+    }
+}
+
 /// Durations, texts that are no `String`, and marks, and what comes after them.
 fn small(alloc: Global, name: &str, input: &[u8]) -> anyhow::Result<Option<Answer>> {
     match name {
@@ -175,7 +187,7 @@ fn small(alloc: Global, name: &str, input: &[u8]) -> anyhow::Result<Option<Answe
         "Box<str>" => replay_as::<BoxedStr>(alloc, input),
         "PathBuf" => replay_as::<PathText>(alloc, input),
         "PhantomData" => replay_as::<PhantomData<u8>>(alloc, input),
-        _ => joined(alloc, name, input),
+        _ => cell(alloc, name, input),
     }
 }
 

@@ -1,0 +1,88 @@
+-- Patterns: how the text of one is written and read, and why it is refused.
+use Rattle.std.proofs.Common.{◌≡◌, ℕ, zero, suc, ◌<◌, ◌≤◌, List, [], ◌∷◌, ◌++◌, length, Bool, true, false, arith, refl, sym, ap, subst, ◌∙◌, Result, Ok, Err, inl, inr}
+use Rattle.std.specs.Prelude.{◌≢◌, OnOk, IfErr, nat_le, nat_lt, if◌then◌else◌}
+use Rattle.std.specs.Str.{IsUtf8, is_utf8}
+use Rattle.pagable_model.specs.declared.error.Error.{Error}
+use Rattle.pagable_model.specs.declared.error.Error.TheVariants as errors
+use Rattle.pagable_model.specs.declared.numbers.ArcRef.{ArcRef}
+use Rattle.pagable_model.specs.Basic.{longest, text_form, length_at, bytes_at, checked_text, text_at}
+use Rattle.pagable_model.specs.Form.{pattern-form}
+use Rattle.pagable_model.specs.Gives.{Gives, memory}
+use Rattle.pagable_model.specs.Lengths.{long_or_memory}
+use Rattle.pagable_model.specs.Meaning.{Meaning, pattern}
+use Rattle.pagable_model.specs.Numbers.{varint_at}
+use Rattle.pagable_model.specs.Reading.{Rest, Context, read, read_with}
+use Rattle.pagable_model.specs.Refusals.{is_reading_fault}
+use Rattle.pagable_model.specs.Shape.{Shape}
+use Rattle.pagable_model.specs.Shape as shapes
+use Rattle.pagable_model.specs.Standing.{Answer, GivesSome, Is, handles_at}
+use Rattle.pagable_model.specs.Steps.{◌>>=◌}
+use Rattle.pagable_model.specs.Writing.{Out, Nesting, FormAt, WritesSome, NoForm, Refused}
+use Rattle.pagable_codec.proofs.Writing.{writes_is, writes_bytes, memory_refuses}
+use Rattle.pagable_traits.proofs.Basics.{gives_bytes}
+
+-- ---- writing
+
+pub writes_pattern : {Y : Type 0} (r : Result Y Error) (t : List ℕ) (n : Nesting) (old last : Out) (now w : List ℕ) → now ≡ old.bytes → last ≡ record old { bytes = w } → IsUtf8 t → OnOk r (length t ≤ longest) → OnOk r (w ≡ now ++ text_form t)
+    → OnOk r (WritesSome (Is pattern t) n shapes.pattern old last)
+writes_pattern (Ok y) t n old last now w e f utf8 short h = rw f (writes_is pattern t n shapes.pattern old _ (writes_bytes n shapes.pattern (pattern t) old w (text_form t) (h ∙ ap (λ (b : List ℕ). b ++ text_form t) e) (pattern-form _ t utf8 short)))
+writes_pattern (Err y) t n old last now w e f utf8 short h = tt
+
+-- a pattern that is too long has no form
+no-pattern : (n : Nesting) (t : List ℕ) → longest < length t → NoForm n shapes.pattern (pattern t)
+no-pattern n t lt b k f = go f refl
+  where
+    go : {m : Meaning ArcRef} {b : List ℕ} {k : List ArcRef} → FormAt n shapes.pattern m b k → m ≡ pattern t → ⊥
+    go (pattern-form l u v le) e = let same : u ≡ t = cc in omega (arith, ap length same)
+
+refuses-pattern : (n : Nesting) (t : List ℕ) (e : Error) → long_or_memory (length t) e → Refused (Is pattern t) n shapes.pattern e
+refuses-pattern n t e (inl h) = λ fault. record { m = pattern t; is = refl; no_form = no-pattern n t h.0 }
+refuses-pattern n t e (inr h) = memory_refuses e (Is pattern t) n shapes.pattern h.1
+
+pub refused_pattern : {Y : Type 0} (r : Result Y Error) (t : List ℕ) (n : Nesting) → IfErr r (long_or_memory (length t)) → IfErr r (Refused (Is pattern t) n shapes.pattern)
+refused_pattern (Ok y) t n h = tt
+refused_pattern (Err e) t n h = refuses-pattern n t e h
+
+-- ---- reading
+
+pub gives_pattern : {X : Type 0} (bytes_in : X → List ℕ) (levels : ℕ) (parts : ℕ → Shape) (r : Result X Error) (rest last : Rest Answer) (bytes after : List ℕ) → rest.bytes ≡ bytes → last ≡ record rest { bytes = after } → Gives memory (λ t. (bytes_in t, after)) r (text_at bytes)
+    → GivesSome memory (Is (λ t. pattern (bytes_in t))) last r (read (handles_at levels parts) shapes.pattern rest)
+unfolding read read_with
+gives_pattern bytes_in levels parts r rest last bytes after e f h = rw f (gives_bytes memory bytes_in pattern text_at r rest after (rw e h))
+
+-- ---- the faults of a text are faults of the input
+
+faults-after : {X Y : Type 0} (r : Result X Error) (f : X → Result Y Error) → IfErr r (λ e. is_reading_fault e ≡ true) → ((x : X) → IfErr (f x) (λ e. is_reading_fault e ≡ true)) → IfErr (r >>= f) (λ e. is_reading_fault e ≡ true)
+faults-after (Ok x) f h k = k x
+faults-after (Err e) f h k = h
+
+faults-if : {X : Type 0} (b : Bool) (x y : Result X Error) → IfErr x (λ e. is_reading_fault e ≡ true) → IfErr y (λ e. is_reading_fault e ≡ true) → IfErr (if b then x else y) (λ e. is_reading_fault e ≡ true)
+faults-if true x y h k = h
+faults-if false x y h k = k
+
+faults-varint : (more last : ℕ) (bytes : List ℕ) → IfErr (varint_at more last bytes) (λ e. is_reading_fault e ≡ true)
+unfolding varint_at
+faults-varint zero last [] = refl
+faults-varint (suc more) last [] = refl
+faults-varint zero last (b ∷ rest) = faults-if (nat_le b last) _ _ tt refl
+faults-varint (suc more) last (b ∷ rest) = faults-if (nat_lt b 128) _ _ tt (faults-after (varint_at more last rest) _ (faults-varint more last rest) (λ high. tt))
+
+faults-text : (bytes : List ℕ) → IfErr (text_at bytes) (λ e. is_reading_fault e ≡ true)
+unfolding text_at length_at
+faults-text bytes =
+    faults-after (length_at bytes) _
+    (faults-after (varint_at 9 1 bytes) _ (faults-varint 9 1 bytes) (λ n. faults-if (nat_le n.0 longest) _ _ tt refl))
+    (λ n. faults-after (bytes_at n.0 n.1) checked_text (faults-if (nat_lt (length n.1) n.0) _ _ refl tt) (λ t. faults-if (is_utf8 t.0) _ _ tt refl))
+
+faults-read : {A : Type 0} (context : Context A ArcRef) (rest : Rest A) → IfErr (read context shapes.pattern rest) (λ e. is_reading_fault e ≡ true)
+unfolding read read_with
+faults-read context rest = faults-after (text_at rest.bytes) _ (faults-text rest.bytes) (λ x. tt)
+
+fault-is-not : (e : Error) → is_reading_fault e ≡ true → e ≢ errors.RegexRefused
+fault-is-not e fault is = let none : is_reading_fault e ≡ false = (let P : Error → Type 0 = λ x. is_reading_fault x ≡ false in subst P (sym is) refl) in absurd cc
+
+-- want of memory, or a fault of the input: a text is never refused as a pattern is
+pub text_not_refused : {A X : Type 0} (context : Context A ArcRef) (rest after : Rest A) (M : X → Meaning ArcRef → Type 0) (r : Result X Error) → GivesSome memory M after r (read context shapes.pattern rest) → IfErr r (λ e. e ≢ errors.RegexRefused)
+text_not_refused context rest after M (Ok x) h = tt
+text_not_refused context rest after M (Err e) (inl h) = let fault = faults-read context rest in fault-is-not e (rw h at fault)
+text_not_refused context rest after M (Err e) (inr h) = λ is. let same : errors.OutOfMemory ≡ errors.RegexRefused = sym h ∙ is in absurd cc

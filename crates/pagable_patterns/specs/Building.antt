@@ -1,0 +1,56 @@
+-- What `regex` builds of a text, and why it builds nothing.
+use Rattle.std.specs.Prelude.{◌≡◌, ◌≢◌, ◌⊎◌, ℕ, List, false, refl, Result, Ok}
+use Rattle.std.proofs.Common.{subst, sym, inl, inr}
+use Rattle.regex.specs.Failures.{IsRightKind}
+use Rattle.regex.specs.Patterns.{default_config}
+use Rattle.regex.specs.Sources.{IsRefusal}
+use Rattle.regex.specs.Strings.{regex_source, regex_config, IsReadFromSource}
+use Rattle.regex.specs.declared.error.Error.{Error as Cause}
+use Rattle.regex.specs.declared.error.Error.TheVariants as causes
+use Rattle.regex.specs.declared.string.regex.Regex.{Regex}
+use Rattle.pagable_model.specs.declared.error.Error.{Error}
+use Rattle.pagable_model.specs.declared.error.Error.TheVariants as errors
+use Rattle.pagable_model.specs.declared.numbers.ArcRef.{ArcRef}
+use Rattle.pagable_model.specs.Meaning.{Meaning, pattern}
+use Rattle.pagable_model.specs.Refusals.{is_reading_fault}
+
+-- The regular expression is what the grammar of `regex` reads in this text, with the default options.
+pub record IsBuiltFrom (text : List ℕ) (built : Regex) : Type 0 where
+  pub source : regex_source built ≡ text
+  pub config : regex_config built ≡ default_config
+  pub read : IsReadFromSource built
+
+-- `regex` may refuse the text for a cause that is no want of memory: the grammar doesn't read it, or it nests too deep; or it is
+-- a pattern that takes too much room when it is built
+pub record IsNoPattern (text : List ℕ) : Type 0 where
+  pub cause : Cause
+  pub no_memory : cause ≢ causes.OutOfMemory
+  pub no_fault : cause ≢ causes.Internal
+  pub unread : IsRefusal default_config text cause
+  pub kind : IsRightKind default_config text cause
+
+-- want of memory, or the text is refused
+abbrev pub IsRefusedPattern : List ℕ → Error → Type 0
+IsRefusedPattern text e = (e ≡ errors.OutOfMemory) ⊎ ((e ≡ errors.RegexRefused) × IsNoPattern text)
+
+-- the refusal for a cause of `regex`
+abbrev pub refusal_of : Cause → Error
+refusal_of (causes.Syntax e) = errors.RegexRefused
+refusal_of causes.CompiledTooBig = errors.RegexRefused
+refusal_of causes.Internal = errors.RegexRefused
+refusal_of causes.OutOfMemory = errors.OutOfMemory
+
+-- reading gives a pattern, and `regex` may refuse its text
+pub record ReadsNoPattern {R : Type 0} (read : Result (Meaning ArcRef × R) Error) : Type 0 where
+  pub text : List ℕ
+  pub after : R
+  pub gave : read ≡ Ok (pattern text, after)
+  pub refused : IsNoPattern text
+
+-- the causes of reading a pattern that are its own
+abbrev pub pattern_causes : Error → Type 0
+pattern_causes e = (e ≡ errors.OutOfMemory) ⊎ (e ≡ errors.RegexRefused)
+
+pub pattern_causes_are_own : (e : Error) → pattern_causes e → is_reading_fault e ≡ false
+pattern_causes_are_own e (inl h) = let P : Error → Type 0 = λ x. is_reading_fault x ≡ false in subst P (sym h) refl
+pattern_causes_are_own e (inr h) = let P : Error → Type 0 = λ x. is_reading_fault x ≡ false in subst P (sym h) refl
