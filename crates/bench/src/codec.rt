@@ -1,0 +1,95 @@
+//! Values are written and read, and the time is taken.
+
+use crate::outcome::{Outcome, Reading};
+use crate::sums::{Summed, sum_of};
+use pagable::{
+    Error, NoReferences, PagableDeserialize, PagableDeserializerImpl, PagableSerialize,
+    PagableSerializerImpl, WeighHash,
+};
+use pagable_samples::TextEnv;
+use std::alloc::Global;
+use std::time::{Clock, Duration, Instant};
+
+/// The values hold no references, so any environment will do.
+type AnyEnv = TextEnv<WeighHash>;
+
+/// The bytes of a value.
+fn write<T: PagableSerialize<AnyEnv>>(
+    alloc: Global,
+    env: &AnyEnv,
+    value: &T,
+) -> Result<Vec<u8>, Error> {
+    let mut out = PagableSerializerImpl::testing_new(alloc, env);
+    value.pagable_serialize(&mut out)?;
+    Ok(out.finish()?.bytes)
+}
+
+/// The value at the front of these bytes.
+fn read<'de, T: PagableDeserialize<'de, AnyEnv>>(
+    alloc: Global,
+    env: &AnyEnv,
+    bytes: &'de [u8],
+) -> Result<T, Error> {
+    let mut source = PagableDeserializerImpl::new(bytes, &[], NoReferences::new(env));
+    T::pagable_deserialize(alloc, &mut source)
+}
+
+/// The bytes of a value, and the shortest time of so many writings of it.
+pub fn timed_write<T: PagableSerialize<AnyEnv>>(
+    clock: &impl Clock,
+    alloc: Global,
+    value: &T,
+    runs: u64,
+) -> anyhow::Result<(Vec<u8>, Duration)> {
+    let env = AnyEnv::new();
+    let start = Instant::now(clock)?;
+    let mut bytes = write(alloc, &env, value)?;
+    let mut best = start.elapsed(clock)?;
+    for _ in 1..runs {
+        let start = Instant::now(clock)?;
+        let made = write(alloc, &env, value)?;
+        best = best.min(start.elapsed(clock)?);
+        bytes = made;
+    }
+    Ok((bytes, best))
+}
+
+/// The value at the front of these bytes, and the shortest time of so many readings of it.
+fn timed_read<'de, T: PagableDeserialize<'de, AnyEnv> + Drop>(
+    clock: &impl Clock,
+    alloc: Global,
+    bytes: &'de [u8],
+    runs: u64,
+) -> anyhow::Result<(T, Duration)> {
+    let env = AnyEnv::new();
+    let start = Instant::now(clock)?;
+    let mut value = read(alloc, &env, bytes)?;
+    let mut best = start.elapsed(clock)?;
+    for _ in 1..runs {
+        let start = Instant::now(clock)?;
+        let made = read(alloc, &env, bytes)?;
+        best = best.min(start.elapsed(clock)?);
+        value = made;
+    }
+    Ok((value, best))
+}
+
+/// Reads what was written in a time as a `T`, so often, and tells what came of both.
+pub fn read_back<'de, T: PagableDeserialize<'de, AnyEnv> + Summed + Drop>(
+    clock: &impl Clock,
+    alloc: Global,
+    bytes: &'de Vec<u8>,
+    time: Duration,
+    runs: u64,
+) -> anyhow::Result<Outcome> {
+    let (value, read_time) = timed_read::<T>(clock, alloc, bytes.as_slice(), runs)?;
+    Ok(Outcome {
+        bytes: bytes.len(),
+        sum: sum_of(bytes),
+        time,
+        reading: Some(Reading {
+            sum: sum_of(&value),
+            time: read_time,
+        }),
+    })
+}
