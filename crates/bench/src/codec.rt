@@ -4,7 +4,7 @@ use crate::outcome::{Outcome, Reading};
 use crate::sums::{Summed, sum_of};
 use pagable::{
     Error, NoReferences, PagableDeserialize, PagableDeserializerImpl, PagableSerialize,
-    PagableSerializerImpl, WeighHash,
+    PagableSerializerImpl, SessionContext, WeighHash,
 };
 use pagable_samples::TextEnv;
 use std::alloc::Global;
@@ -30,7 +30,8 @@ fn read<'de, T: PagableDeserialize<'de, AnyEnv>>(
     env: &AnyEnv,
     bytes: &'de [u8],
 ) -> Result<T, Error> {
-    let mut source = PagableDeserializerImpl::new(bytes, &[], NoReferences::new(env));
+    let session = SessionContext::new(alloc);
+    let mut source = PagableDeserializerImpl::new(bytes, &[], NoReferences::new(env, &session));
     T::pagable_deserialize(alloc, &mut source)
 }
 

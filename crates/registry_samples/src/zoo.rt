@@ -74,6 +74,10 @@ impl Env for Zoo {
 
     type Hash = WeighHash;
 
+    type CtxKey = ();
+
+    type CtxValue = ();
+
     ghost use Rattle.pagable_model.specs.Shape.{nothing};
 
     ghost parts = { λ e number. nothing };

@@ -2,7 +2,7 @@
 
 use pagable::{
     Env, Error, NoReferences, PagableDeserialize, PagableDeserializerImpl, PagableSerialize,
-    PagableSerializerImpl,
+    PagableSerializerImpl, SessionContext,
 };
 use std::alloc::Global;
 
@@ -24,7 +24,8 @@ pub fn read<'de, E: Env, T: PagableDeserialize<'de, E>>(
     env: &E,
     input: &'de [u8],
 ) -> Result<T, Error> {
-    let mut source = PagableDeserializerImpl::new(input, &[], NoReferences::new(env));
+    let session = SessionContext::new(alloc);
+    let mut source = PagableDeserializerImpl::new(input, &[], NoReferences::new(env, &session));
     T::pagable_deserialize(alloc, &mut source)
 }
 
