@@ -480,4 +480,5 @@ pub fn lists_are_ordered<E: Env, K: PagableOrdKey<E>, V: PagableOrdKey<E>, const
     ensures array { ⟦<[K; N] as PagableOrdKey<E>>⟧.order ≡ list_order K.PagableOrdKey.order }
     ensures set { ⟦<BTreeSet<K> as PagableOrdKey<E>>⟧.order ≡ list_order K.PagableOrdKey.order }
     ensures entries { ⟦<BTreeMap<K, V> as PagableOrdKey<E>>⟧.order ≡ list_order (pair_order K.PagableOrdKey.order V.PagableOrdKey.order) }
+    ensures header { ⟦<Thin<K, V> as PagableOrdKey<E>>⟧.order ≡ pair_order K.PagableOrdKey.order (list_order V.PagableOrdKey.order) }
 {}
