@@ -25,4 +25,8 @@ pub use pagable_traits::{
     PagableDeserialize, PagableDeserializer, PagableEagerDeserialize, PagableEagerSerialize,
     PagableKey, PagableOrdKey, PagableSerialize, PagableSerializer, PathText, Reader,
     SessionContext, SessionMap, Thin, read_twice, serialize_slice, serialize_str,
+    Canonical, Carried, EagerlyCarried, Env, InNode, KeyHash, NodeSet, OneMeaning, Pagable,
+    PagableBoxDeserialize, PagableDeserialize, PagableDeserializeOwned, PagableDeserializer,
+    PagableEagerDeserialize, PagableEagerSerialize, PagableKey, PagableOrdKey, PagableSerialize,
+    PagableSerializer, PathText, Reader, Thin, read_twice, serialize_slice, serialize_str,
 };

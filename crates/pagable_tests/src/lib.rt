@@ -1,9 +1,13 @@
 //! Tests of the crates below that are no data: cursors of readers and writers, byte arrays, second readings,
 //! references, JSON values that are written, regular expressions, laws, the pager's calls, and lists of events on the machine.
+//! Tests of the crates below that are no data: cursors of readers and writers, byte arrays, second readings, boxes,
+//! references, JSON values that are written, laws, the pager's calls, and lists of events on the machine.
 #![tactic(auto)]
 
 #[cfg(test)]
 mod again;
+#[cfg(test)]
+mod boxes;
 #[cfg(test)]
 mod byte_arrays;
 #[cfg(test)]

@@ -23,6 +23,7 @@ ghost use Rattle.pagable_model.specs.Shape.{duration, outcome, array};
 ghost use Rattle.pagable_model.specs.declared.error.Error.{Error as Refusal};
 ghost use Rattle.pagable_model.specs.declared.numbers.ArcRef.{ArcRef as Reference};
 
+use crate::boxes::PagableBoxDeserialize;
 use crate::impls::paths::PathText;
 use crate::impls::thin::Thin;
 use crate::keys::{PagableKey, PagableOrdKey};
@@ -188,6 +189,11 @@ pub fn box_is_carried<E: Env, T: PagableSerialize<E> + PagableDeserialize<'stati
     ensures means { (b : Boxed T Heap) (m : Meaning Reference) → ⟦<Box<T> as Carried<E>>⟧.means b m ↔ T.Carried.means b.value m }
     ensures writes { (e : Refusal) → ⟦<Box<T> as PagableSerialize<E>>⟧.write_causes e ↔ T.write_causes e }
     ensures reads { (e : Refusal) → ⟦<Box<T> as PagableDeserialize<'static, E>>⟧.read_causes e ↔ memory_or T.read_causes e }
+{}
+
+/// A value that is read into a box is refused as it is, or by want of memory.
+pub fn box_is_read<E: Env, T: PagableDeserialize<'static, E> + Drop>()
+    ensures reads { (e : Refusal) → ⟦<T as PagableBoxDeserialize<'static, E>>⟧.box_causes e ↔ memory_or T.read_causes e }
 {}
 
 /// A pair is spelled as its parts one after the other, means what they mean, and is refused as they are.
@@ -477,6 +483,7 @@ pub fn lists_are_ordered<E: Env, K: PagableOrdKey<E>, V: PagableOrdKey<E>, const
     ensures array { ⟦<[K; N] as PagableOrdKey<E>>⟧.order ≡ list_order K.PagableOrdKey.order }
     ensures set { ⟦<BTreeSet<K> as PagableOrdKey<E>>⟧.order ≡ list_order K.PagableOrdKey.order }
     ensures entries { ⟦<BTreeMap<K, V> as PagableOrdKey<E>>⟧.order ≡ list_order (pair_order K.PagableOrdKey.order V.PagableOrdKey.order) }
+    ensures header { ⟦<Thin<K, V> as PagableOrdKey<E>>⟧.order ≡ pair_order K.PagableOrdKey.order (list_order V.PagableOrdKey.order) }
 {}
 
 /// An atomic number is spelled as an `i64`, and may mean each, since no contract knows what it holds. Writing wants memory at

@@ -2,15 +2,18 @@
 #![tactic(auto)]
 
 pub mod again;
+pub mod boxes;
 pub mod eager;
 pub mod impls;
 pub mod in_node;
 pub mod keys;
 pub mod laws;
 pub mod one_form;
+pub mod owned;
 pub mod traits;
 
 pub use again::read_twice;
+pub use boxes::PagableBoxDeserialize;
 pub use eager::{EagerlyCarried, PagableEagerDeserialize, PagableEagerSerialize};
 pub use impls::boxed_texts::serialize_str;
 pub use impls::paths::PathText;
@@ -19,6 +22,7 @@ pub use impls::thin::Thin;
 pub use in_node::InNode;
 pub use keys::{PagableKey, PagableOrdKey};
 pub use one_form::Canonical;
+pub use owned::{Pagable, PagableDeserializeOwned};
 pub use pagable_codec::{
     ArcRef, Env, HandleNumber, Identity, KeyHash, Kind, LoadNumber, NodeNumber, NodeSet,
     PagableCursor, PagableDeserializer, PagableSerializer, Reader, SessionContext, SessionMap,

@@ -16,7 +16,7 @@ use pagable_flavors::Error;
 use std::alloc::Global;
 
 /// A header and a list, which stands for what a thin pointer leads to. It is written as the pair of both.
-#[derive(Debug, Drop)]
+#[derive(Debug, PartialEq, Eq, PartialOrd, Ord, Hash, Drop)]
 pub struct Thin<H, T> {
     pub header: H,
     pub items: Vec<T>,

@@ -1,13 +1,16 @@
 //! Lists, and maps and sets in the order of their keys, as keys: they stand in the order of the first items that differ,
 //! and a list stands before one that goes on. Maps and sets in order of arrival are none, since these are equal in any order.
 
-ghost use Rattle.std.specs.Prelude.{◌&&◌};
+ghost use Rattle.std.specs.Prelude.{◌&&◌, map};
+ghost use Rattle.std.specs.Cmp.Lexicographic.{pointwise, slice_cmp};
 ghost use Rattle.std.specs.Ordering.{ordering_then};
 ghost use Rattle.std.specs.Box.{boxed_slice_items};
-ghost use Rattle.pagable_model.specs.Meaning.{pair};
+ghost use Rattle.pagable_model.specs.Meaning.{pair, sequence};
+ghost use Rattle.pagable_model.specs.Shape.{list};
 ghost use Rattle.pagable_model.specs.Keys.{list_order, pair_order};
-ghost use Rattle.pagable_model.specs.KeyParts.{list_is_same, list_is_ordered, list_refers_to_nothing, array_refers_to_nothing, pair_is_same, pair_is_ordered, sorted_map_refers_to_nothing, sorted_set_refers_to_nothing};
+ghost use Rattle.pagable_model.specs.KeyParts.{list_is_same, list_is_ordered, list_refers_to_nothing, array_refers_to_nothing, pair_is_same, pair_is_ordered, both_refers_to_nothing, sorted_map_refers_to_nothing, sorted_set_refers_to_nothing};
 
+use crate::impls::thin::Thin;
 use crate::keys::{PagableKey, PagableOrdKey};
 use pagable_codec::env::Env;
 use smallvec::SmallVec;
@@ -84,4 +87,17 @@ impl<E: Env, K: PagableOrdKey<E>, V: PagableOrdKey<E>> PagableOrdKey<E> for BTre
     ghost order = { list_order (pair_order K.order V.order) };
 
     ghost is_order = { λ x y. list_is_ordered (pair_order K.order V.order) (λ e f. ordering_then (K.cmp e.0 f.0) (V.cmp e.1 f.1)) (λ e. pair (K.meaning e.0) (V.meaning e.1)) (λ e f. pair_is_ordered K.order V.order (K.cmp e.0 f.0) (V.cmp e.1 f.1) (K.meaning e.0) (V.meaning e.1) (K.meaning f.0) (V.meaning f.1) (K.is_order e.0 f.0) (V.is_order e.1 f.1)) x.entries y.entries };
+}
+
+/// A header decides before the list behind it.
+impl<E: Env, H: PagableKey<E>, T: PagableKey<E>> PagableKey<E> for Thin<H, T> {
+    ghost same = { λ x y. pair_is_same (H.eq x.header y.header) (pointwise T.eq x.items.items y.items.items) (H.meaning x.header) (sequence (map T.meaning x.items.items)) (H.meaning y.header) (sequence (map T.meaning y.items.items)) (H.same x.header y.header) (list_is_same T.eq T.meaning T.same x.items.items y.items.items) };
+
+    ghost refers_to_nothing = { λ e. both_refers_to_nothing (E.parts e) (H.shape e) (list (T.shape e)) (H.refers_to_nothing e) (list_refers_to_nothing (E.parts e) (T.shape e) (T.refers_to_nothing e)) };
+}
+
+impl<E: Env, H: PagableOrdKey<E>, T: PagableOrdKey<E>> PagableOrdKey<E> for Thin<H, T> {
+    ghost order = { pair_order H.order (list_order T.order) };
+
+    ghost is_order = { λ x y. pair_is_ordered H.order (list_order T.order) (H.cmp x.header y.header) (slice_cmp T.cmp x.items.items y.items.items) (H.meaning x.header) (sequence (map T.meaning x.items.items)) (H.meaning y.header) (sequence (map T.meaning y.items.items)) (H.is_order x.header y.header) (list_is_ordered T.order T.cmp T.meaning T.is_order x.items.items y.items.items) };
 }

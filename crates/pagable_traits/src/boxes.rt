@@ -1,0 +1,51 @@
+//! Values that are read into a box.
+
+ghost use Rattle.std.specs.Prelude.{◌≡◌, false};
+ghost use Rattle.pagable_model.specs.Causes.{memory_or_is_own_reading};
+ghost use Rattle.pagable_model.specs.Gives.{memory_or};
+ghost use Rattle.pagable_model.specs.Reading.{read};
+ghost use Rattle.pagable_model.specs.Refusals.{is_reading_fault};
+ghost use Rattle.pagable_model.specs.Standing.{handles_at, MovesOn, GivesSome};
+ghost use Rattle.pagable_model.specs.declared.error.Error.{Error as Refusal};
+
+use crate::traits::{Carried, PagableDeserialize};
+use pagable_codec::deserializer::PagableDeserializer;
+use pagable_codec::env::Env;
+use pagable_flavors::Error;
+use std::alloc::Global;
+
+/// A type whose values can be read into a box.
+pub trait PagableBoxDeserialize<'de, E: Env>: Carried<E> + Sized {
+    // The refusals of a reading beside the faults of the input and those of references.
+    ghost box_causes: { Refusal → Type 0 };
+
+    /// Reads the value at the front of what is left into a box, and leaves the rest. A refusal is the first fault from
+    /// the front, that of a reference included, or a cause of the type's own; then the place is between the old one and
+    /// the ends, and as many levels are entered as before.
+    fn deserialize_box<D: PagableDeserializer<E>>(
+        alloc: Global,
+        deserializer: &mut D,
+    ) -> Result<Box<Self>, Error>
+        ensures gives { GivesSome box_causes (λ b. Self.means b.value) (D.rest deserializer.new) result
+            (read (handles_at (D.levels deserializer.old) (E.parts (D.environment deserializer.old))) (Self.shape (D.environment deserializer.old)) (D.rest deserializer.old)) }
+        ensures moves { MovesOn (D.standing deserializer.old) (D.standing deserializer.new) }
+        ensures same_env { D.environment deserializer.new ≡ D.environment deserializer.old }
+        ensures same_levels { D.levels deserializer.new ≡ D.levels deserializer.old };
+
+    ghost box_causes_are_own: { (e : Refusal) → box_causes e → is_reading_fault e ≡ false };
+}
+
+/// Want of memory for the box is a cause beside those of the value.
+impl<'de, E: Env, T: PagableDeserialize<'de, E> + Drop> PagableBoxDeserialize<'de, E> for T {
+    ghost box_causes = { memory_or T.read_causes };
+
+    ghost box_causes_are_own = { memory_or_is_own_reading T.read_causes T.read_causes_are_own };
+
+    fn deserialize_box<D: PagableDeserializer<E>>(
+        alloc: Global,
+        deserializer: &mut D,
+    ) -> Result<Box<Self>, Error> {
+        let value = T::pagable_deserialize(alloc, deserializer)?;
+        Ok(Box::new(alloc, value)?)
+    }
+}
