@@ -25,6 +25,7 @@ pub mod Merkle
 pub mod Json
 pub mod Causes
 pub mod Collected
+pub mod Hashed
 pub mod Keyed
 pub mod OneForm
 pub mod Statics

@@ -9,3 +9,6 @@ pub mod Sets
 pub mod Held
 pub mod Times
 pub mod Joined
+pub mod Reordered
+pub mod Anywhere
+pub mod Hashed

@@ -4,6 +4,7 @@ pub mod arrays;
 pub mod basic;
 pub mod boxed_texts;
 pub mod collecting;
+pub mod hashed;
 pub mod holders;
 pub mod lists;
 pub mod maps;
