@@ -20,6 +20,7 @@ CARRIED = [
     "Vec<Vec<u16>>", "Vec<(String,i64)>", "Box<[u32]>", "Box<[String]>", "SmallVec<[u8;4]>", "SmallVec<[String;4]>", "Duration", "Result<String,String>",
     "Result<u16,bool>", "[u16;2]", "[String;3]", "[u8;31]", "(u8,u16,i32)", "(u8,String,Vec<u64>,Option<i8>)",
     "(u128,i128,char,bool,())", "Box<str>", "PathBuf", "PhantomData", "AtomicI64", "OnceLock<u16>", "Regex",
+    "HashMap<String,i32>",
 ]
 
 # Texts, with a length in bytes.
@@ -109,6 +110,10 @@ def form(name, value):
         return form(part[0], value)
     if name.startswith("("):
         return b"".join(form(part, item) for part, item in zip(split(name[1:-1]), value))
+    if parts := inside(name, "HashMap"):
+        if len(value) > 1:
+            raise SystemExit(f"{value} may be written in several orders")
+        return varint(len(value)) + b"".join(form(part, item) for entry in value for part, item in zip(parts, entry))
     raise SystemExit(f"no form is known of {name}")
 
 
@@ -145,6 +150,11 @@ def shown(name, value):
         return ("[%s]" if item else "(%s)") % ", ".join(items)
     if part := inside(name, "Box"):
         return shown(part[0], value)
+    if parts := inside(name, "HashMap"):
+        entries = [[shown(part, item) for part, item in zip(parts, entry)] for entry in value]
+        if any(None in entry for entry in entries):
+            return None
+        return "{%s}" % ", ".join(f"{key}: {of}" for key, of in entries)
     return None
 
 

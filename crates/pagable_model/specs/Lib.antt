@@ -26,6 +26,7 @@ pub mod Json
 pub mod Causes
 pub mod Collected
 pub mod Codes
+pub mod Hashed
 pub mod Keyed
 pub mod KeyParts
 pub mod OneForm

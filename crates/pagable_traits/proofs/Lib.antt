@@ -10,3 +10,6 @@ pub mod Held
 pub mod Times
 pub mod Joined
 pub mod Cells
+pub mod Reordered
+pub mod Anywhere
+pub mod Hashed

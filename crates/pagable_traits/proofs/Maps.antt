@@ -29,6 +29,7 @@ use Rattle.pagable_model.specs.Lifted.{MeanAll, mean-none, mean-more, MeansList,
 use Rattle.pagable_codec.proofs.Writing.{then, memory_refuses}
 use Rattle.pagable_traits.proofs.Items.{mean-length, mean_last, sequence-same, forms-last, no-head, no-tail, writes_no_items, grows_some_all}
 use Rattle.pagable_traits.proofs.Parts.{writes_pair}
+use Rattle.pagable_traits.proofs.Collecting.{put-in-turn}
 
 -- ---- entries and the pairs that they are
 
@@ -300,7 +301,7 @@ writes_sorted_map M N cmp order is xs n s t old mid new count sorted all counted
 
 -- what was read entry by entry and put in
 pub sorted_map_collected : {K V A : Type 0} (M : K → Meaning ArcRef → Type 0) (N : V → Meaning ArcRef → Type 0) (cmp : K → K → Ordering) (order : KeyOrder) → IsOrderOf M cmp order → (context : Context A ArcRef) (s t : Shape) (now : List (K × V)) (rest mid after : Rest A) (count : ℕ) → bytes_of length_at (λ n. n) rest ≡ Ok (count, mid)
-    → Gave (Collected (MeansPair M N) (λ ys x. insert_entry cmp ys x.0 x.1) now) after (items (read context (both s t)) count mid) → Gave (MeansList (MeansPair M N) now) after (read context (sorted_map order s t) rest)
+    → Gave (Collected (MeansPair M N) (λ ys x zs. zs ≡ insert_entry cmp ys x.0 x.1) now) after (items (read context (both s t)) count mid) → Gave (MeansList (MeansPair M N) now) after (read context (sorted_map order s t) rest)
 unfolding EntriesMean read read_with
 sorted_map_collected M N cmp order is context s t now rest mid after count counted g =
     let were = read-entries context s t count mid after g.m g.gave in
@@ -308,7 +309,7 @@ sorted_map_collected M N cmp order is context s t now rest mid after count count
     let same : es.0 ≡ were.0 = same-entries es.0 were.0 (sym es.1 ∙ were.1) in
     let mean : EntriesMean M N g.is.xs were.0 = rw (← same) es.2 in
     let put = put-all-in-order M N cmp order is [] g.is.xs [] were.0 tt mean in
-    let each : EntriesMean M N now (put_all (put_sorted order) [] were.0) = rw g.is.is put in
+    let each : EntriesMean M N now (put_all (put_sorted order) [] were.0) = rw (put-in-turn (λ ys x. insert_entry cmp ys x.0 x.1) [] g.is.xs now g.is.is) put in
     record {
       m = of_entries (put_all (put_sorted order) [] were.0);
       is = record { ms = map entry (put_all (put_sorted order) [] were.0); each = pairs-of-entries M N now (put_all (put_sorted order) [] were.0) each; is = refl };

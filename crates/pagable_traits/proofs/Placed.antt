@@ -22,6 +22,7 @@ use Rattle.pagable_model.specs.Collected.{Collected}
 use Rattle.pagable_model.specs.Lifted.{MeanAll, MeansList, MeansPair}
 use Rattle.pagable_codec.proofs.Writing.{then as and_then}
 use Rattle.pagable_traits.proofs.Items.{mean-length, sequence-same}
+use Rattle.pagable_traits.proofs.Collecting.{put-in-turn}
 use Rattle.pagable_traits.proofs.Maps.{EntriesMean, entries-of-pairs, pairs-of-entries, same-entries, entries-of-forms, forms-of-entries, read-entries, entries-refused, Splits}
 
 placed-map-parts : (n : Nesting) {s t : Shape} {m : Meaning ArcRef} {b : List ℕ} {k : List ArcRef} (ms : List (Meaning ArcRef)) → FormAt n (placed_map s t) m b k → m ≡ sequence ms → (length ms ≤ longest) × ((c : List ℕ) × FormsAt n (both s t) ms c k)
@@ -74,7 +75,7 @@ apart-from-all M N eq is x e first [] (f ∷ es) h other = absurd h
 apart-from-all M N eq is x e first (y ∷ xs) [] h other = absurd h
 apart-from-all M N eq is x e first (y ∷ xs) (f ∷ es) h other = (sym (is.agrees y.0 x.0 f.0 e.0 h.0 first) ∙ is.symm y.0 x.0 ∙ other.0, apart-from-all M N eq is x e first xs es h.2 other.1)
 
-differ : {K V : Type 0} (M : K → Meaning ArcRef → Type 0) (N : V → Meaning ArcRef → Type 0) (eq : K → K → Bool) → IsSameOf M eq → (xs : List (K × V)) (es : List (Entry ArcRef)) → EntriesMean M N xs es → IsDistinct eq (keys_of xs) → Differ es
+pub differ : {K V : Type 0} (M : K → Meaning ArcRef → Type 0) (N : V → Meaning ArcRef → Type 0) (eq : K → K → Bool) → IsSameOf M eq → (xs : List (K × V)) (es : List (Entry ArcRef)) → EntriesMean M N xs es → IsDistinct eq (keys_of xs) → Differ es
 unfolding EntriesMean IsDistinct Apart
 differ M N eq is [] [] h distinct = tt
 differ M N eq is [] (e ∷ es) h distinct = absurd h
@@ -103,7 +104,7 @@ writes_placed_map M N eq is xs n s t old mid new count distinct all counted le v
     }
 
 pub placed_map_collected : {K V A : Type 0} (M : K → Meaning ArcRef → Type 0) (N : V → Meaning ArcRef → Type 0) (eq : K → K → Bool) → IsSameOf M eq → (context : Context A ArcRef) (s t : Shape) (now : List (K × V)) (rest mid after : Rest A) (count : ℕ) → bytes_of length_at (λ n. n) rest ≡ Ok (count, mid)
-    → Gave (Collected (MeansPair M N) (λ ys x. insert_entry eq ys x.0 x.1) now) after (items (read context (both s t)) count mid) → Gave (MeansList (MeansPair M N) now) after (read context (placed_map s t) rest)
+    → Gave (Collected (MeansPair M N) (λ ys x zs. zs ≡ insert_entry eq ys x.0 x.1) now) after (items (read context (both s t)) count mid) → Gave (MeansList (MeansPair M N) now) after (read context (placed_map s t) rest)
 unfolding EntriesMean read read_with
 placed_map_collected M N eq is context s t now rest mid after count counted g =
     let were = read-entries context s t count mid after g.m g.gave in
@@ -111,7 +112,7 @@ placed_map_collected M N eq is context s t now rest mid after count counted g =
     let same : es.0 ≡ were.0 = same-entries es.0 were.0 (sym es.1 ∙ were.1) in
     let mean : EntriesMean M N g.is.xs were.0 = rw (← same) es.2 in
     let put = put-all-in-place M N eq is [] g.is.xs [] were.0 tt mean in
-    let each : EntriesMean M N now (put_all put_placed [] were.0) = rw g.is.is put in
+    let each : EntriesMean M N now (put_all put_placed [] were.0) = rw (put-in-turn (λ ys x. insert_entry eq ys x.0 x.1) [] g.is.xs now g.is.is) put in
     record {
       m = of_entries (put_all put_placed [] were.0);
       is = record { ms = map entry (put_all put_placed [] were.0); each = pairs-of-entries M N now (put_all put_placed [] were.0) each; is = refl };

@@ -23,6 +23,7 @@ use Rattle.pagable_model.specs.Collected.{Collected}
 use Rattle.pagable_model.specs.Lifted.{MeanAll, mean-none, mean-more, MeansList}
 use Rattle.pagable_codec.proofs.Writing.{then as and_then}
 use Rattle.pagable_traits.proofs.Items.{mean-length, sequence-same}
+use Rattle.pagable_traits.proofs.Collecting.{put-in-turn}
 use Rattle.pagable_traits.proofs.Maps.{Splits, IsOrderOf}
 use Rattle.pagable_traits.proofs.Placed.{IsSameOf}
 
@@ -95,11 +96,11 @@ writes_sorted_set M cmp order is xs n s old mid new count sorted all counted le 
     }
 
 pub sorted_set_collected : {K A : Type 0} (M : K → Meaning ArcRef → Type 0) (cmp : K → K → Ordering) (order : KeyOrder) → IsOrderOf M cmp order → (context : Context A ArcRef) (s : Shape) (now : List K) (rest mid after : Rest A) (count : ℕ) → bytes_of length_at (λ n. n) rest ≡ Ok (count, mid)
-    → Gave (Collected M (λ ys y. insert_key cmp ys y) now) after (items (read context s) count mid) → Gave (MeansList M now) after (read context (sorted_set order s) rest)
+    → Gave (Collected M (λ ys y zs. zs ≡ insert_key cmp ys y) now) after (items (read context s) count mid) → Gave (MeansList M now) after (read context (sorted_set order s) rest)
 unfolding read read_with
 sorted_set_collected M cmp order is context s now rest mid after count counted g =
     let put = put-items M cmp order is [] [] mean-none g.is.each in
-    let each : MeanAll M now (put_all (put_sorted_item order) [] g.m) = rw g.is.is put in
+    let each : MeanAll M now (put_all (put_sorted_item order) [] g.m) = rw (put-in-turn (λ ys y. insert_key cmp ys y) [] g.is.xs now g.is.is) put in
     record {
       m = sequence (put_all (put_sorted_item order) [] g.m);
       is = record { ms = put_all (put_sorted_item order) [] g.m; each = each; is = refl };
@@ -167,11 +168,11 @@ writes_placed_set M eq is xs n s old mid new count distinct all counted le v =
     }
 
 pub placed_set_collected : {K A : Type 0} (M : K → Meaning ArcRef → Type 0) (eq : K → K → Bool) → IsSameOf M eq → (context : Context A ArcRef) (s : Shape) (now : List K) (rest mid after : Rest A) (count : ℕ) → bytes_of length_at (λ n. n) rest ≡ Ok (count, mid)
-    → Gave (Collected M (λ ys y. placed.insert_key eq ys y) now) after (items (read context s) count mid) → Gave (MeansList M now) after (read context (placed_set s) rest)
+    → Gave (Collected M (λ ys y zs. zs ≡ placed.insert_key eq ys y) now) after (items (read context s) count mid) → Gave (MeansList M now) after (read context (placed_set s) rest)
 unfolding read read_with
 placed_set_collected M eq is context s now rest mid after count counted g =
     let put = place-items M eq is [] [] mean-none g.is.each in
-    let each : MeanAll M now (put_all put_placed_item [] g.m) = rw g.is.is put in
+    let each : MeanAll M now (put_all put_placed_item [] g.m) = rw (put-in-turn (λ ys y. placed.insert_key eq ys y) [] g.is.xs now g.is.is) put in
     record { m = sequence (put_all put_placed_item [] g.m); is = record { ms = put_all put_placed_item [] g.m; each = each; is = refl }; gave = rw (counted, g.gave) refl }
 
 pub placed_set_uncounted : {A : Type 0} (own : Error → Type 0) (context : Context A ArcRef) (s : Shape) (e : Error) (rest : Rest A) → (bytes_of length_at (λ n. n) rest ≡ Err e) ⊎ never e → (read context (placed_set s) rest ≡ Err e) ⊎ own e

@@ -5,6 +5,7 @@ pub mod basic;
 pub mod boxed_texts;
 pub mod cells;
 pub mod collecting;
+pub mod hashed;
 pub mod holders;
 pub mod lists;
 pub mod maps;

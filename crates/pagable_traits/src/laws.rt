@@ -9,9 +9,13 @@ ghost use Rattle.std.specs.Global.{Global as Heap};
 ghost use Rattle.pagable_model.specs.Gives.{never, memory, memory_or, either};
 ghost use Rattle.pagable_model.specs.Shape.{nothing, unsigned, signed, flag, text, letter, optional, list, run, both, sorted_map, placed_map, sorted_set, placed_set};
 ghost use Rattle.pagable_model.specs.Keys.{number_order, integer_order, flag_order, nothing_order, text_order, optional_order, outcome_order, pair_order, list_order};
+ghost use Rattle.pagable_model.specs.Shape.{nothing, unsigned, signed, flag, text, letter, optional, list, run, both, sorted_map, placed_map, hash_map, sorted_set, placed_set};
 ghost use Rattle.pagable_model.specs.Meaning.{Meaning, number, integer, none};
 ghost use Rattle.pagable_model.specs.Meaning as meanings;
 ghost use Rattle.pagable_model.specs.Lifted.{MeansOption, MeansList, MeansPair, MeansResult};
+ghost use Rattle.pagable_model.specs.Hashed.{MeansHashMap};
+ghost use Rattle.std.specs.HashMap.{IsUnique};
+ghost use Rattle.std.specs.Prelude.{IsPermutation};
 ghost use Rattle.std.specs.Box.{boxed_slice_items};
 ghost use Rattle.std.specs.Box.{boxed_str_bytes};
 ghost use Rattle.std.specs.Duration.{as_nanos};
@@ -33,7 +37,7 @@ use pagable_codec::env::Env;
 use smallvec::SmallVec;
 use std::alloc::Global;
 use std::boxed::{BoxedSlice, BoxedStr};
-use std::collections::{BTreeMap, BTreeSet};
+use std::collections::{BTreeMap, BTreeSet, HashMap};
 use std::default::MadeWith;
 use std::hash::Hash;
 use std::marker::PhantomData;
@@ -272,6 +276,20 @@ pub fn placed_map_is_carried<
     ensures means { (x : _) (m : Meaning Reference) → ⟦<IndexMap<K, V> as Carried<E>>⟧.means x m ↔ MeansList (MeansPair K.Carried.means V.Carried.means) x.entries m }
     ensures writes { (e : Refusal) → ⟦<IndexMap<K, V> as PagableSerialize<E>>⟧.write_causes e ↔ memory_or (either K.write_causes V.write_causes) e }
     ensures reads { (e : Refusal) → ⟦<IndexMap<K, V> as PagableDeserialize<'static, E>>⟧.read_causes e ↔ memory_or (either K.read_causes V.read_causes) e }
+{}
+
+/// A `HashMap` is spelled as a length and its entries in any order, means its entries whatever their order, and is
+/// refused by want of memory or as a key or a value is. A map with the same entries in another order means the same.
+pub fn hash_map_is_carried<
+    E: Env,
+    K: PagableKey<E> + Hash + PagableSerialize<E> + PagableDeserialize<'static, E> + Drop,
+    V: PagableSerialize<E> + PagableDeserialize<'static, E> + Drop,
+>()
+    ensures shape { (e : E) → ⟦<HashMap<K, V> as Carried<E>>⟧.shape e ≡ hash_map (K.Carried.shape e) (V.Carried.shape e) }
+    ensures means { (x : _) (m : Meaning Reference) → ⟦<HashMap<K, V> as Carried<E>>⟧.means x m ↔ MeansHashMap K.Carried.means V.Carried.means x.entries m }
+    ensures any_order { (x y : _) (m : Meaning Reference) → IsUnique K.eq x → IsPermutation x.entries y.entries → ⟦<HashMap<K, V> as Carried<E>>⟧.means x m → ⟦<HashMap<K, V> as Carried<E>>⟧.means y m }
+    ensures writes { (e : Refusal) → ⟦<HashMap<K, V> as PagableSerialize<E>>⟧.write_causes e ↔ memory_or (either K.write_causes V.write_causes) e }
+    ensures reads { (e : Refusal) → ⟦<HashMap<K, V> as PagableDeserialize<'static, E>>⟧.read_causes e ↔ memory_or (either K.read_causes V.read_causes) e }
 {}
 
 /// A `BTreeSet` is spelled as a length and its items in the order of their meanings, means its items in their order,

@@ -2,7 +2,7 @@
 
 use crate::answers::Answer;
 use crate::deep;
-use anyhow::ensure;
+use anyhow::{bail, ensure};
 use indexmap::{IndexMap, IndexSet};
 use pagable::{
     Env, NoReferences, Pagable, PagableDeserialize, PagableDeserializer, PagableDeserializerImpl,
@@ -12,7 +12,7 @@ use pagable_samples::{Nested, NestedEnv, TextEnv};
 use smallvec::SmallVec;
 use std::alloc::Global;
 use std::boxed::{BoxedSlice, BoxedStr};
-use std::collections::{BTreeMap, BTreeSet};
+use std::collections::{BTreeMap, BTreeSet, HashMap};
 use std::fmt::Debug;
 use std::marker::PhantomData;
 use std::sync::OnceLock;
@@ -100,13 +100,59 @@ fn map(alloc: Global, name: &str, input: &[u8]) -> anyhow::Result<Option<Answer>
     }
 }
 
+/// What comes of a hash map's value that took so many bytes and was written so. Its entries may be written in any order,
+/// so what was written is read again as a map in the order of its keys.
+fn in_order_of_keys(
+    alloc: Global,
+    name: &str,
+    used: usize,
+    written: &[u8],
+) -> anyhow::Result<Option<Answer>> {
+    let sorted = match name {
+        "HashMap<u8,u8>" => replay_as::<BTreeMap<u8, u8>>(alloc, written)?,
+        "HashMap<String,i32>" => replay_as::<BTreeMap<String, i32>>(alloc, written)?,
+        _ => replay_as::<BTreeMap<String, Vec<u16>>>(alloc, written)?,
+    };
+    let Some(Answer::Value {
+        shown,
+        used: all,
+        written: again,
+    }) = sorted
+    else {
+        bail!("what a hash map wrote is refused");
+    };
+    ensure!(
+        all == written.len() && again.len() == written.len(),
+        "a hash map wrote more than its entries, or an entry twice"
+    );
+    Ok(Some(Answer::Value {
+        shown,
+        used,
+        written: again,
+    }))
+}
+
+/// Maps in no order, and what comes after them.
+fn hash_map(alloc: Global, name: &str, input: &[u8]) -> anyhow::Result<Option<Answer>> {
+    let answer = match name {
+        "HashMap<u8,u8>" => replay_as::<HashMap<u8, u8>>(alloc, input)?,
+        "HashMap<String,i32>" => replay_as::<HashMap<String, i32>>(alloc, input)?,
+        "HashMap<String,Vec<u16>>" => replay_as::<HashMap<String, Vec<u16>>>(alloc, input)?,
+        _ => return map(alloc, name, input),
+    };
+    let Some(Answer::Value { used, written, .. }) = &answer else {
+        return Ok(answer);
+    };
+    in_order_of_keys(alloc, name, *used, written)
+}
+
 /// Sets, and what comes after them.
 fn set(alloc: Global, name: &str, input: &[u8]) -> anyhow::Result<Option<Answer>> {
     match name {
         "BTreeSet<u8>" => replay_as::<BTreeSet<u8>>(alloc, input),
         "BTreeSet<String>" => replay_as::<BTreeSet<String>>(alloc, input),
         "IndexSet<u8>" => replay_as::<IndexSet<u8>>(alloc, input),
-        _ => map(alloc, name, input),
+        _ => hash_map(alloc, name, input),
     }
 }
 

@@ -18,8 +18,8 @@ pub trait Collects<T>: Sized {
     // The items that it holds, in their order.
     ghost held: { Self → List T };
 
-    // What it holds once one more item was put in.
-    ghost put: { List T → T → List T };
+    // What it held, the item that was put in, and what it holds then.
+    ghost puts: { List T → T → List T → Type 0 };
 
     // That it has room for so many items more, where it keeps room.
     ghost has_room: { Self → ℕ → Type 0 };
@@ -32,7 +32,7 @@ pub trait Collects<T>: Sized {
 
     /// Puts one more item in. Refused by want of memory alone.
     fn put_in(&mut self, item: T) -> Result<(), Error>
-        ensures ok { OnOk result (held self.new ≡ put (held self.old) item) }
+        ensures ok { OnOk result (puts (held self.old) item (held self.new)) }
         ensures only { IfErr result memory };
 }
 
@@ -45,7 +45,7 @@ pub fn collect_items<
     C: Collects<T> + Drop,
     D: PagableDeserializer<E>,
 >(alloc: Global, count: usize, deserializer: &mut D) -> Result<C, Error>
-    ensures gives { GivesSome (memory_or T.read_causes) (λ c. Collected T.means C.put (C.held c)) (D.rest deserializer.new) result
+    ensures gives { GivesSome (memory_or T.read_causes) (λ c. Collected T.means C.puts (C.held c)) (D.rest deserializer.new) result
         (items (read (handles_at (D.levels deserializer.old) (E.parts (D.environment deserializer.old))) (T.shape (D.environment deserializer.old))) count (D.rest deserializer.old)) }
     ensures moves { MovesOn (D.standing deserializer.old) (D.standing deserializer.new) }
     ensures same_env { D.environment deserializer.new ≡ D.environment deserializer.old }

@@ -63,7 +63,7 @@ pub fn write_sorted_entries<
 impl<K: Ord + Drop, V: Drop> Collects<(K, V)> for BTreeMap<K, V> {
     ghost held = { λ m. m.entries };
 
-    ghost put = { λ es e. insert_entry K.cmp es e.0 e.1 };
+    ghost puts = { λ es e fs. fs ≡ insert_entry K.cmp es e.0 e.1 };
 
     ghost has_room = { λ m n. Unit {0} };
 

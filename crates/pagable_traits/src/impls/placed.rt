@@ -47,7 +47,7 @@ pub fn write_placed_entries<
 impl<K: Eq + Hash + Drop, V: Drop> Collects<(K, V)> for IndexMap<K, V> {
     ghost held = { λ m. m.entries };
 
-    ghost put = { λ es e. insert_entry K.eq es e.0 e.1 };
+    ghost puts = { λ es e fs. fs ≡ insert_entry K.eq es e.0 e.1 };
 
     ghost has_room = { λ m n. n ≤ spare m };
 

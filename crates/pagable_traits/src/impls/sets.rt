@@ -46,7 +46,7 @@ pub fn write_sorted_items<E: Env, T: PagableSerialize<E> + Ord, S: PagableSerial
 impl<T: Ord + Drop> Collects<T> for BTreeSet<T> {
     ghost held = { λ s. s.keys };
 
-    ghost put = { λ ys y. insert_key T.cmp ys y };
+    ghost puts = { λ ys y zs. zs ≡ insert_key T.cmp ys y };
 
     ghost has_room = { λ s n. Unit {0} };
 
@@ -110,7 +110,7 @@ impl<'de, E: Env, T: PagableOrdKey<E> + PagableDeserialize<'de, E> + Drop> Pagab
 impl<T: Eq + Hash + Drop> Collects<T> for IndexSet<T> {
     ghost held = { λ s. s.keys };
 
-    ghost put = { λ ys y. placed.insert_key T.eq ys y };
+    ghost puts = { λ ys y zs. zs ≡ placed.insert_key T.eq ys y };
 
     ghost has_room = { λ s n. n ≤ placed.spare s };
 

@@ -1,6 +1,6 @@
 //! Lists whose first items are kept in the value.
 
-ghost use Rattle.std.specs.Prelude.{◌≤◌, ◌++◌, ◌∷◌, [], map};
+ghost use Rattle.std.specs.Prelude.{◌≡◌, ◌≤◌, ◌++◌, ◌∷◌, [], map};
 ghost use Rattle.pagable_model.specs.Gives.{memory_or};
 ghost use Rattle.pagable_model.specs.Meaning.{sequence};
 ghost use Rattle.pagable_model.specs.Shape.{list};
@@ -22,7 +22,7 @@ use std::default::MadeWith;
 impl<T: MadeWith<Global> + Drop, const N: usize> Collects<T> for SmallVec<T, N> {
     ghost held = { λ v. v.items };
 
-    ghost put = { λ xs x. xs ++ x ∷ [] };
+    ghost puts = { λ xs x ys. ys ≡ xs ++ x ∷ [] };
 
     ghost has_room = { λ v n. n ≤ v.capacity };
 

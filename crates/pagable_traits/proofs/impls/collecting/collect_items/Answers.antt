@@ -12,7 +12,7 @@ loop-index-init g c =
     let env = g.D.PagableDeserializer.environment c.args.deserializer.now in
     let get = read (handles_at (g.D.PagableDeserializer.levels c.args.deserializer.now) (g.E.Env.parts env)) (g.T.Carried.shape env) in
     record {
-      gives = ([], collected_none g.T.Carried.means g.C.Collects.put _ c.in_ok-collected.ensures.empty, rw c.places_for-places.ensures.same_rest (starts get c.args.count (g.D.PagableDeserializer.rest c.args.deserializer.now)));
+      gives = ([], collected_none g.T.Carried.means g.C.Collects.puts _ c.in_ok-collected.ensures.empty, rw c.places_for-places.ensures.same_rest (starts get c.args.count (g.D.PagableDeserializer.rest c.args.deserializer.now)));
       moves = c.places_for-places.ensures.moves;
       same_env = c.places_for-places.ensures.same_env;
       same_levels = c.places_for-places.ensures.same_levels;
@@ -27,7 +27,7 @@ loop-index-preserved g c =
     record {
       gives = (
         i.gives.0 ++ gave.m ∷ [],
-        collected_more g.T.Carried.means g.C.Collects.put _ _ i.gives.0 c.in_ok-value.value gave.m i.gives.1 gave.is c.in_ok-put_in.ensures.ok,
+        collected_more g.T.Carried.means g.C.Collects.puts _ _ i.gives.0 c.in_ok-value.value gave.m i.gives.1 gave.is c.in_ok-put_in.ensures.ok,
         goes_on get i.gives.0 c.args.count c.loop-index.index (g.D.PagableDeserializer.rest c.loop-index.deserializer) gave.m _ (items get c.args.count (g.D.PagableDeserializer.rest c.args.deserializer.now)) c.loop-index-test.true gave.gave i.gives.2,
       );
       moves = moves_trans _ _ _ i.moves c.in_ok-value.ensures.moves;

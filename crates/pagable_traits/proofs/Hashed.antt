@@ -1,0 +1,239 @@
+-- Maps in no order: what putting in, writing and reading their entries gives, in whatever order they stand.
+use Rattle.std.proofs.Common.{◌≡◌, ℕ, ◌<◌, ◌≤◌, Bool, true, false, cond, subst, List, [], ◌∷◌, ◌++◌, length, map, arith, refl, sym, ap, ◌∙◌, Option, Some, None, is_some, Ok, Err, inl, inr, IsPermutation, MatchOption}
+use Rattle.std.proofs.lemmas.List.{length-map}
+use Rattle.std.proofs.lemmas.Map.Text.{is_eq-slice_cmp}
+use Rattle.std.specs.Prelude.{◌⊎◌}
+use Rattle.std.specs.List.{IsDistinct}
+use Rattle.std.specs.Map.{keys_of, lookup, set_value}
+use Rattle.std.specs.declared.cmp.Ordering.{Ordering}
+use Rattle.std.specs.Ordering.{is_eq}
+use Rattle.std.specs.Cmp.{IsTotalOrder}
+use Rattle.std.specs.Cmp.Lexicographic.{on_texts}
+use Rattle.pagable_model.specs.declared.error.Error.{Error}
+use Rattle.pagable_model.specs.declared.numbers.ArcRef.{ArcRef}
+use Rattle.pagable_model.specs.Basic.{longest, length_form, length_at}
+use Rattle.pagable_model.specs.Lengths.{long_or_memory}
+use Rattle.pagable_model.specs.Gives.{never}
+use Rattle.pagable_model.specs.Meaning.{Meaning, entry, plain}
+use Rattle.pagable_model.specs.Keys.{Entry, KeyOrder, ordered, code, code_order, same_key, put_all, put_sorted, AllAfter, Apart, Differ}
+use Rattle.pagable_model.specs.Shape.{Shape, both, hash_map}
+use Rattle.pagable_model.specs.Carried.{of_entries, of_hash_map}
+use Rattle.pagable_model.specs.Form.{Entries, no-entries, more-entries, hash-map-form}
+use Rattle.pagable_model.specs.Reading.{Rest, Context, items, bytes_of, read, read_with}
+use Rattle.pagable_model.specs.Writing.{Out, Nesting, FormAt, FormsAt, WritesSome, WritesSomeAll, added, kind_of_arc, Refused, RefusedAll}
+use Rattle.pagable_model.specs.Standing.{Gave, SomeMeaning}
+use Rattle.pagable_model.specs.Collected.{PutInTurn, Collected}
+use Rattle.pagable_model.specs.Lifted.{MeanAll, MeansPair, items_have_meanings, pair_has_meaning}
+use Rattle.pagable_model.specs.Hashed.{PutsAnywhere, MeansHashMap}
+use Rattle.pagable_codec.proofs.Writing.{then as and_then, memory_refuses}
+use Rattle.pagable_traits.proofs.Items.{mean-length, sequence-same}
+use Rattle.pagable_traits.proofs.Maps.{EntriesMean, entries-of-pairs, pairs-of-entries, same-entries, entries-of-forms, forms-of-entries, read-entries, entries-refused}
+use Rattle.pagable_traits.proofs.Placed.{IsSameOf, differ}
+use Rattle.pagable_traits.proofs.Reordered.{Reordered, no-items, same-front, two-turned, and-then, reordered, reordered-back, reordered-length, apart-with}
+use Rattle.pagable_traits.proofs.Anywhere.{OtherKey, other-back, put-late, any-order, in-order-reordered, put-value}
+
+-- the order in which a hash map's entries are put in its meaning, and that it tells the keys apart
+abbrev of_keys : Meaning ArcRef → Meaning ArcRef → Ordering
+of_keys = ordered code_order
+
+total : IsTotalOrder of_keys
+total = on_texts (λ (m : Meaning ArcRef). code (plain m))
+
+ties-alike : (a b : Meaning ArcRef) → is_eq (of_keys a b) ≡ same_key a b
+ties-alike a b = is_eq-slice_cmp (code (plain a)) (code (plain b))
+
+others : (es : List (Entry ArcRef)) → Differ es → Apart (OtherKey of_keys total) es
+others es = apart-with (λ d e. same_key d.0 e.0 ≡ false) (OtherKey of_keys total) (λ d e h. ties-alike d.0 e.0 ∙ h) es
+
+-- ---- entries in another order mean the same, and their forms are those of the others in another order
+
+mean-reordered : {K V : Type 0} (M : K → Meaning ArcRef → Type 0) (N : V → Meaning ArcRef → Type 0) {xs ys : List (K × V)} → Reordered xs ys → (es : List (Entry ArcRef)) → EntriesMean M N xs es → (fs : List (Entry ArcRef)) × EntriesMean M N ys fs × Reordered es fs
+unfolding EntriesMean
+mean-reordered M N no-items [] h = ([], tt, no-items)
+mean-reordered M N no-items (e ∷ es) h = absurd h
+mean-reordered M N (same-front x xs ys k) [] h = absurd h
+mean-reordered M N (same-front x xs ys k) (e ∷ es) h = let r = mean-reordered M N k es h.2 in (e ∷ r.0, (h.0, h.1, r.1), same-front e _ _ r.2)
+mean-reordered M N (two-turned x y xs) [] h = absurd h
+mean-reordered M N (two-turned x y xs) (e ∷ []) h = absurd h.2
+mean-reordered M N (two-turned x y xs) (e ∷ f ∷ es) h = (f ∷ e ∷ es, (h.2.0, h.2.1, (h.0, h.1, h.2.2)), two-turned e f es)
+mean-reordered M N (and-then xs ys zs k l) es h =
+    let r = mean-reordered M N k es h in
+    let s = mean-reordered M N l r.0 r.1 in
+    (s.0, s.1, and-then _ _ _ r.2 s.2)
+
+entries-reordered : {parts : ℕ → Shape} {left : ℕ} {s t : Shape} {ds es : List (Entry ArcRef)} {b : List ℕ} {k : List ArcRef} → Reordered ds es → Entries ArcRef kind_of_arc parts left s t ds b k → (c : List ℕ) × (j : List ArcRef) × Entries ArcRef kind_of_arc parts left s t es c j
+entries-reordered {b = b} {k = k} no-items f = (b, k, f)
+entries-reordered (same-front x xs ys h) (more-entries d s t m n es b1 b2 c j1 j2 l f g rest) = let r = entries-reordered h rest in (_, _, more-entries d s t m n ys b1 b2 r.0 j1 j2 r.1 f g r.2)
+entries-reordered (two-turned x y xs) (more-entries d s t m n es b1 b2 c j1 j2 l f g (more-entries d2 s2 t2 p q fs b3 b4 c2 j3 j4 l2 h i rest)) =
+    (_, _, more-entries d s t p q _ b3 b4 _ j3 j4 _ h i (more-entries d s t m n fs b1 b2 c2 j1 j2 l2 f g rest))
+entries-reordered (and-then xs ys zs h k) f = let r = entries-reordered h f in entries-reordered k r.2
+
+pub hash_maps_mean_alike : {K V : Type 0} (M : K → Meaning ArcRef → Type 0) (N : V → Meaning ArcRef → Type 0) (eq : K → K → Bool) → IsSameOf M eq → (xs ys : List (K × V)) (m : Meaning ArcRef) → IsDistinct eq (keys_of xs) → IsPermutation xs ys → MeansHashMap M N xs m → MeansHashMap M N ys m
+hash_maps_mean_alike M N eq is xs ys m distinct moved means =
+    let es = entries-of-pairs M N means.each in
+    let same : means.es ≡ es.0 = same-entries means.es es.0 es.1 in
+    let r = mean-reordered M N (reordered xs ys moved) es.0 es.2 in
+    let apart = others es.0 (differ M N eq is xs es.0 es.2 distinct) in
+    record { es = r.0; each = pairs-of-entries M N ys r.0 r.1; is = means.is ∙ ap of_hash_map same ∙ ap of_entries (any-order of_keys total r.2 [] apart) }
+
+-- ---- writing
+
+pub writes_hash_map : {K V : Type 0} (M : K → Meaning ArcRef → Type 0) (N : V → Meaning ArcRef → Type 0) (eq : K → K → Bool) → IsSameOf M eq → (xs : List (K × V)) (n : Nesting) (s t : Shape) (old mid new : Out) (count : ℕ) → IsDistinct eq (keys_of xs)
+    → count ≡ length xs → mid ≡ added old (length_form count) [] → count ≤ longest → WritesSomeAll (MeanAll (MeansPair M N) xs) n (both s t) mid new → WritesSome (MeansHashMap M N xs) n (hash_map s t) old new
+writes_hash_map M N eq is xs n s t old mid new count distinct all counted le v =
+    let es = entries-of-pairs M N v.is in
+    let written = entries-of-forms v.wrote.form in
+    let same : es.0 ≡ written.0 = same-entries es.0 written.0 (sym es.1 ∙ written.1) in
+    let mean : EntriesMean M N xs written.0 = rw (← same) es.2 in
+    let long : length written.0 ≡ count = sym (length-map written.0 entry) ∙ ap (λ (ms : List (Meaning ArcRef)). length ms) (sym written.1) ∙ mean-length v.is ∙ sym all in
+    let short : length written.0 ≤ longest = rw long le in
+    let first : mid ≡ added old (length_form (length written.0)) [] = rw long counted in
+    record {
+      m = of_hash_map written.0;
+      is = record { es = written.0; each = pairs-of-entries M N xs written.0 mean; is = refl };
+      wrote = record {
+        bytes = length_form (length written.0) ++ v.wrote.bytes;
+        refs = v.wrote.refs;
+        form = hash-map-form _ s t written.0 _ _ short (differ M N eq is xs written.0 mean distinct) written.2;
+        grown = and_then old mid new _ _ _ _ first v.wrote.grown;
+      };
+    }
+
+-- a form of a map has a form of each entry, whatever their order
+hash-map-parts : (n : Nesting) {s t : Shape} {m : Meaning ArcRef} {b : List ℕ} {k : List ArcRef} (es : List (Entry ArcRef)) → Differ es → FormAt n (hash_map s t) m b k → m ≡ of_hash_map es
+    → (length es ≤ longest) × ((c : List ℕ) × (j : List ArcRef) × FormsAt n (both s t) (map entry es) c j)
+hash-map-parts n es differs (hash-map-form l s t ds b k le apart f) e =
+    let same : put_all (put_sorted code_order) [] ds ≡ put_all (put_sorted code_order) [] es = same-entries _ _ (sequence-same _ _ e) in
+    let there = in-order-reordered of_keys total ds (others ds apart) in
+    let back = reordered-back (in-order-reordered of_keys total es (others es differs)) in
+    let P : List (Entry ArcRef) → Type 0 = λ zs. Reordered ds zs in
+    let moved : Reordered ds es = and-then _ _ _ (subst P same there) back in
+    let g = entries-reordered moved f in
+    let short : length es ≤ longest = rw (← reordered-length moved) le in
+    (short, (g.0, g.1, forms-of-entries g.2))
+
+pub refuses-entries : {K V : Type 0} (M : K → Meaning ArcRef → Type 0) (N : V → Meaning ArcRef → Type 0) (eq : K → K → Bool) → IsSameOf M eq → (xs : List (K × V)) (n : Nesting) (s t : Shape) (e : Error) → IsDistinct eq (keys_of xs) → RefusedAll (MeanAll (MeansPair M N) xs) n (both s t) e
+    → Refused (MeansHashMap M N xs) n (hash_map s t) e
+refuses-entries M N eq is xs n s t e distinct h = λ fault.
+    let lacks = h fault in
+    let es = entries-of-pairs M N lacks.is in
+    let differs = differ M N eq is xs es.0 es.2 distinct in
+    record {
+      m = of_hash_map es.0;
+      is = record { es = es.0; each = pairs-of-entries M N xs es.0 es.2; is = refl };
+      no_form = λ b k f. let p = (hash-map-parts n es.0 differs f refl).1 in lacks.no_forms p.0 p.1 (let Q : List (Meaning ArcRef) → Type 0 = λ ms. FormsAt n (both s t) ms p.0 p.1 in subst Q (sym es.1) p.2);
+    }
+
+pub refuses-entry-count : {K V : Type 0} (M : K → Meaning ArcRef → Type 0) (N : V → Meaning ArcRef → Type 0) (eq : K → K → Bool) → IsSameOf M eq → ((x : K) → SomeMeaning (M x)) → ((y : V) → SomeMeaning (N y)) → (xs : List (K × V)) (n : Nesting) (s t : Shape) (e : Error) → IsDistinct eq (keys_of xs)
+    → (count : ℕ) → count ≡ length xs → long_or_memory count e → Refused (MeansHashMap M N xs) n (hash_map s t) e
+refuses-entry-count M N eq is has_first has_second xs n s t e distinct count all (inl h) = λ fault.
+    let each = items_have_meanings (MeansPair M N) (pair_has_meaning M N has_first has_second) xs in
+    let es = entries-of-pairs M N each.1 in
+    let differs = differ M N eq is xs es.0 es.2 distinct in
+    let long : length es.0 ≡ count = sym (length-map es.0 entry) ∙ ap (λ (ms : List (Meaning ArcRef)). length ms) (sym es.1) ∙ mean-length each.1 ∙ sym all in
+    record { m = of_hash_map es.0; is = record { es = es.0; each = pairs-of-entries M N xs es.0 es.2; is = refl }; no_form = λ b k f. omega (arith, h.0, long, (hash-map-parts n es.0 differs f refl).0) }
+refuses-entry-count M N eq is has_first has_second xs n s t e distinct count all (inr h) = memory_refuses e (MeansHashMap M N xs) n (hash_map s t) h.1
+
+-- ---- putting in
+
+set-means : {K V : Type 0} (M : K → Meaning ArcRef → Type 0) (N : V → Meaning ArcRef → Type 0) (eq : K → K → Bool) → IsSameOf M eq → (xs : List (K × V)) (es : List (Entry ArcRef)) (x : K × V) (e : Entry ArcRef) → EntriesMean M N xs es → M x.0 e.0 → N x.1 e.1
+    → EntriesMean M N (set_value (eq x.0) xs x.1) (set_value (same_key e.0) es e.1)
+unfolding EntriesMean
+set-means M N eq is [] [] x e h first second = tt
+set-means M N eq is [] (f ∷ es) x e h first second = absurd h
+set-means M N eq is (y ∷ xs) [] x e h first second = absurd h
+set-means M N eq is (y ∷ xs) (f ∷ es) x e h first second =
+    rw (is.agrees x.0 y.0 e.0 f.0 first h.0) (by_case (set-means M N eq is xs es x e h.2 first second) (same_key e.0 f.0))
+  where
+    by_case : EntriesMean M N (set_value (eq x.0) xs x.1) (set_value (same_key e.0) es e.1) → (same : Bool)
+        → EntriesMean M N (cond same ((y.0, x.1) ∷ xs) (y ∷ set_value (eq x.0) xs x.1)) (cond same ((f.0, e.1) ∷ es) (f ∷ set_value (same_key e.0) es e.1))
+    by_case tail true = (h.0, second, h.2)
+    by_case tail false = (h.0, h.1, tail)
+
+found-alike : {K V : Type 0} (M : K → Meaning ArcRef → Type 0) (N : V → Meaning ArcRef → Type 0) (eq : K → K → Bool) → IsSameOf M eq → (xs : List (K × V)) (es : List (Entry ArcRef)) (x : K) (e : Meaning ArcRef) → EntriesMean M N xs es → M x e
+    → is_some (lookup (same_key e) es) ≡ is_some (lookup (eq x) xs)
+unfolding EntriesMean
+found-alike M N eq is [] [] x e h first = refl
+found-alike M N eq is [] (f ∷ es) x e h first = absurd h
+found-alike M N eq is (y ∷ xs) [] x e h first = absurd h
+found-alike {K} {V} M N eq is (y ∷ xs) (f ∷ es) x e h first = rw (is.agrees x y.0 e f.0 first h.0) (by_case (found-alike M N eq is xs es x e h.2 first) (same_key e f.0))
+  where
+    by_case : is_some (lookup (same_key e) es) ≡ is_some (lookup (eq x) xs) → (same : Bool) → is_some (cond same (Some f.1) (lookup (same_key e) es)) ≡ is_some (cond same (Some y.1) (lookup (eq x) xs))
+    by_case tail true = refl
+    by_case tail false = tail
+
+other-key : (a b : Meaning ArcRef) → same_key a b ≡ false → same_key b a ≡ false
+other-key a b h = sym (ties-alike b a) ∙ other-back {V = Meaning ArcRef} of_keys total (a, a) (b, b) (ties-alike a b ∙ h)
+
+none-apart : (e : Entry ArcRef) (es : List (Entry ArcRef)) → is_some (lookup (same_key e.0) es) ≡ false → AllAfter (λ (d f : Entry ArcRef). same_key d.0 f.0 ≡ false) e es
+unfolding AllAfter
+none-apart e [] h = tt
+none-apart e (f ∷ es) h = by_case (none-apart e es) (same_key e.0 f.0) refl
+  where
+    by_case : (is_some (lookup (same_key e.0) es) ≡ false → AllAfter (λ (d f : Entry ArcRef). same_key d.0 f.0 ≡ false) e es) → (same : Bool) → same_key e.0 f.0 ≡ same → (same_key f.0 e.0 ≡ false) × AllAfter (λ (d f : Entry ArcRef). same_key d.0 f.0 ≡ false) e es
+    by_case rest true p = let t : is_some (lookup (same_key e.0) (f ∷ es)) ≡ true = rw p refl in cc
+    by_case rest false p = let later : is_some (lookup (same_key e.0) es) ≡ false = rw p at h in (other-key e.0 f.0 p, rest later)
+
+-- entries whose meaning, put in order, is this
+record InOrder {K V : Type 0} (M : K → Meaning ArcRef → Type 0) (N : V → Meaning ArcRef → Type 0) (now : List (K × V)) (es : List (Entry ArcRef)) : Type 0 where
+  fs : List (Entry ArcRef)
+  mean : EntriesMean M N now fs
+  is : put_all (put_sorted code_order) [] fs ≡ es
+
+-- one more entry is put in wherever it stands
+one-more : {K V : Type 0} (M : K → Meaning ArcRef → Type 0) (N : V → Meaning ArcRef → Type 0) (eq : K → K → Bool) → IsSameOf M eq → (xs ys : List (K × V)) (es : List (Entry ArcRef)) (x : K × V) (e : Entry ArcRef) → IsDistinct eq (keys_of xs) → EntriesMean M N xs es → M x.0 e.0 → N x.1 e.1
+    → PutsAnywhere eq xs x ys → InOrder M N ys (put_sorted code_order (put_all (put_sorted code_order) [] es) e)
+unfolding EntriesMean Apart put_all
+one-more {K} {V} M N eq is xs ys es x e distinct mean first second puts = by_case (lookup (eq x.0) xs) refl puts.1
+  where
+    by_case : (o : Option V) → lookup (eq x.0) xs ≡ o → MatchOption o (IsPermutation (x ∷ xs) ys) (λ _. ys ≡ set_value (eq x.0) xs x.1) → InOrder M N ys (put_sorted code_order (put_all (put_sorted code_order) [] es) e)
+    by_case None p moved =
+        let r = mean-reordered M N (reordered (x ∷ xs) ys moved) (e ∷ es) (first, second, mean) in
+        let none : is_some (lookup (same_key e.0) es) ≡ false = found-alike M N eq is xs es x.0 e.0 mean first ∙ ap is_some p in
+        let apart = others (e ∷ es) (none-apart e es none, differ M N eq is xs es mean distinct) in
+        record { fs = r.0; mean = r.1; is = sym (any-order of_keys total r.2 [] apart) ∙ put-late of_keys total [] e es apart.0 }
+    by_case (Some v) p set =
+        let found : is_some (lookup (same_key e.0) es) ≡ true = found-alike M N eq is xs es x.0 e.0 mean first ∙ ap is_some p in
+        let apart = others es (differ M N eq is xs es mean distinct) in
+        let there : EntriesMean M N ys (set_value (same_key e.0) es e.1) = rw set (set-means M N eq is xs es x e mean first second) in
+        record { fs = set_value (same_key e.0) es e.1; mean = there; is = put-value of_keys total (same_key e.0) e.0 e.1 (λ q. ties-alike e.0 q) [] es apart found }
+
+-- and so are all
+all-more : {K V : Type 0} (M : K → Meaning ArcRef → Type 0) (N : V → Meaning ArcRef → Type 0) (eq : K → K → Bool) → IsSameOf M eq → (acc xs now : List (K × V)) (ds es : List (Entry ArcRef)) → IsDistinct eq (keys_of acc) → EntriesMean M N acc ds → EntriesMean M N xs es
+    → PutInTurn (λ old x new. PutsAnywhere eq old x new) acc xs now → InOrder M N now (put_all (put_sorted code_order) (put_all (put_sorted code_order) [] ds) es)
+unfolding EntriesMean PutInTurn put_all
+all-more M N eq is acc [] now ds [] distinct mean h same = record { fs = ds; mean = rw same mean; is = refl }
+all-more M N eq is acc [] now ds (e ∷ es) distinct mean h same = absurd h
+all-more M N eq is acc (x ∷ xs) now ds [] distinct mean h turn = absurd h
+all-more {K} {V} M N eq is acc (x ∷ xs) now ds (e ∷ es) distinct mean h turn =
+    let one = one-more M N eq is acc turn.0 ds x e distinct mean h.0 h.1 turn.1 in
+    let rest = all-more M N eq is turn.0 xs now one.fs es turn.1.0 one.mean h.2 turn.2 in
+    let P : List (Entry ArcRef) → Type 0 = λ zs. InOrder M N now (put_all (put_sorted code_order) zs es) in
+    subst P one.is rest
+
+-- ---- reading
+
+pub hash_map_collected : {K V A : Type 0} (M : K → Meaning ArcRef → Type 0) (N : V → Meaning ArcRef → Type 0) (eq : K → K → Bool) → IsSameOf M eq → (context : Context A ArcRef) (s t : Shape) (now : List (K × V)) (rest mid after : Rest A) (count : ℕ) → bytes_of length_at (λ n. n) rest ≡ Ok (count, mid)
+    → Gave (Collected (MeansPair M N) (λ old x new. PutsAnywhere eq old x new) now) after (items (read context (both s t)) count mid) → Gave (MeansHashMap M N now) after (read context (hash_map s t) rest)
+unfolding EntriesMean IsDistinct put_all read read_with
+hash_map_collected M N eq is context s t now rest mid after count counted g =
+    let were = read-entries context s t count mid after g.m g.gave in
+    let es = entries-of-pairs M N g.is.each in
+    let same : es.0 ≡ were.0 = same-entries es.0 were.0 (sym es.1 ∙ were.1) in
+    let mean : EntriesMean M N g.is.xs were.0 = rw (← same) es.2 in
+    let put = all-more M N eq is [] g.is.xs now [] were.0 tt tt mean g.is.is in
+    record {
+      m = of_hash_map were.0;
+      is = record { es = put.fs; each = pairs-of-entries M N now put.fs put.mean; is = ap of_entries (sym put.is) };
+      gave = rw (counted, were.2) refl;
+    }
+
+pub hash_map_uncounted : {A : Type 0} (own : Error → Type 0) (context : Context A ArcRef) (s t : Shape) (e : Error) (rest : Rest A) → (bytes_of length_at (λ n. n) rest ≡ Err e) ⊎ never e → (read context (hash_map s t) rest ≡ Err e) ⊎ own e
+unfolding read read_with
+hash_map_uncounted own context s t e rest (inl h) = inl (rw h refl)
+hash_map_uncounted own context s t e rest (inr h) = absurd h
+
+pub hash_map_refused : {A : Type 0} (own : Error → Type 0) (context : Context A ArcRef) (s t : Shape) (e : Error) (rest mid : Rest A) (count : ℕ) → bytes_of length_at (λ n. n) rest ≡ Ok (count, mid) → (items (read context (both s t)) count mid ≡ Err e) ⊎ own e → (read context (hash_map s t) rest ≡ Err e) ⊎ own e
+unfolding read read_with
+hash_map_refused own context s t e rest mid count counted (inl h) = inl (rw (counted, entries-refused context s t count mid e h) refl)
+hash_map_refused own context s t e rest mid count counted (inr h) = inr h

@@ -1,0 +1,117 @@
+//! Maps in no order.
+
+ghost use Rattle.std.specs.Prelude.{◌≡◌, ◌≤◌, map, OnOk, IfErr};
+ghost use Rattle.std.specs.HashMap.{spare};
+ghost use Rattle.pagable_model.specs.Gives.{memory_or, either};
+ghost use Rattle.pagable_model.specs.Shape.{both, hash_map};
+ghost use Rattle.pagable_model.specs.Carried.{of_hash_map};
+ghost use Rattle.pagable_model.specs.Writing.{nesting, WritesSomeAll, RefusedAll, IsRefusal, Grows};
+ghost use Rattle.pagable_model.specs.Causes.{memory_or_is_own_reading, memory_or_is_own_writing, either_is_own_reading, either_is_own_writing};
+ghost use Rattle.pagable_model.specs.Lifted.{MeanAll, MeansPair};
+ghost use Rattle.pagable_model.specs.Hashed.{PutsAnywhere, MeansHashMap, hash_map_has_meaning, hash_map_is_meaning, hash_map_single};
+
+use crate::impls::collecting::{Collects, collect_items};
+use crate::impls::maps::write_entry;
+use crate::keys::PagableKey;
+use crate::traits::{Carried, OneMeaning, PagableDeserialize, PagableSerialize};
+use pagable_codec::deserializer::PagableDeserializer;
+use pagable_codec::env::Env;
+use pagable_codec::parts::{read_count, write_count};
+use pagable_codec::serializer::PagableSerializer;
+use pagable_flavors::Error;
+use std::alloc::Global;
+use std::collections::HashMap;
+use std::hash::Hash;
+
+/// Writes the entries as the map's walk meets them, without their count. A refusal is that of the first entry that is
+/// refused.
+pub fn write_hashed_entries<
+    E: Env,
+    K: PagableSerialize<E> + Eq + Hash,
+    V: PagableSerialize<E>,
+    S: PagableSerializer<E>,
+>(entries: &HashMap<K, V>, serializer: &mut S) -> Result<(), Error>
+    ensures ok { OnOk result (WritesSomeAll (MeanAll (MeansPair K.means V.means) entries.now.entries) (nesting (S.levels serializer.old) (E.parts (S.environment serializer.old))) (both (K.shape (S.environment serializer.old)) (V.shape (S.environment serializer.old))) (S.out serializer.old) (S.out serializer.new)) }
+    ensures refused { IfErr result (RefusedAll (MeanAll (MeansPair K.means V.means) entries.now.entries) (nesting (S.levels serializer.old) (E.parts (S.environment serializer.old))) (both (K.shape (S.environment serializer.old)) (V.shape (S.environment serializer.old)))) }
+    ensures only { IfErr result (IsRefusal (either K.write_causes V.write_causes)) }
+    ensures err { Grows (S.out serializer.old) (S.out serializer.new) }
+    ensures same_env { S.environment serializer.new ≡ S.environment serializer.old }
+    ensures same_levels { S.levels serializer.new ≡ S.levels serializer.old }
+{
+    for (key, value) in entries.iter() {
+        write_entry(key, value, serializer)?;
+    }
+    Ok(())
+}
+
+/// An entry whose key is there already gives its value to the key that stands.
+impl<K: Eq + Hash + Drop, V: Drop> Collects<(K, V)> for HashMap<K, V> {
+    ghost held = { λ m. m.entries };
+
+    ghost puts = { λ es e fs. PutsAnywhere K.eq es e fs };
+
+    ghost has_room = { λ m n. n ≤ spare m };
+
+    fn with_places(alloc: Global, places: usize) -> Result<Self, Error> {
+        Ok(HashMap::with_capacity(alloc, places)?)
+    }
+
+    fn put_in(&mut self, item: (K, V)) -> Result<(), Error> {
+        let (key, value) = item;
+        self.insert(key, value)?;
+        Ok(())
+    }
+}
+
+/// A map means its entries whatever their order, so equal maps mean the same. It may be written in any order.
+impl<E: Env, K: PagableKey<E> + Hash, V: Carried<E>> Carried<E> for HashMap<K, V> {
+    ghost shape = { λ e. hash_map (K.shape e) (V.shape e) };
+
+    ghost means = { λ m. MeansHashMap K.means V.means m.entries };
+
+    ghost has_meaning = { λ m. hash_map_has_meaning K.means V.means K.has_meaning V.has_meaning m.entries };
+}
+
+impl<E: Env, K: PagableKey<E> + Hash, V: OneMeaning<E>> OneMeaning<E> for HashMap<K, V> {
+    ghost meaning = { λ m. of_hash_map (map (λ e. (K.meaning e.0, V.meaning e.1)) m.entries) };
+
+    ghost is_meaning = { λ m. hash_map_is_meaning K.Carried.means V.Carried.means K.meaning V.meaning K.is_meaning V.is_meaning m.entries };
+
+    ghost single = { λ m. hash_map_single K.Carried.means V.Carried.means K.meaning V.meaning K.single V.single m.entries };
+}
+
+impl<
+    E: Env,
+    K: PagableKey<E> + Hash + PagableSerialize<E>,
+    V: PagableSerialize<E>,
+> PagableSerialize<E> for HashMap<K, V> {
+    ghost write_causes = { memory_or (either K.write_causes V.write_causes) };
+
+    ghost write_causes_are_own = { memory_or_is_own_writing (either K.write_causes V.write_causes) (either_is_own_writing K.write_causes V.write_causes K.write_causes_are_own V.write_causes_are_own) };
+
+    fn pagable_serialize<S: PagableSerializer<E>>(&self, serializer: &mut S) -> Result<(), Error> {
+        write_count(self.len(), serializer)?;
+        write_hashed_entries(self, serializer)?;
+        Ok(())
+    }
+}
+
+impl<
+    'de,
+    E: Env,
+    K: PagableKey<E> + Hash + PagableDeserialize<'de, E> + Drop,
+    V: PagableDeserialize<'de, E> + Drop,
+> PagableDeserialize<'de, E> for HashMap<K, V> {
+    ghost read_causes = { memory_or (either K.read_causes V.read_causes) };
+
+    ghost read_causes_are_own = { memory_or_is_own_reading (either K.read_causes V.read_causes) (either_is_own_reading K.read_causes V.read_causes K.read_causes_are_own V.read_causes_are_own) };
+
+    fn pagable_deserialize<D: PagableDeserializer<E>>(
+        alloc: Global,
+        deserializer: &mut D,
+    ) -> Result<Self, Error> {
+        let count = read_count(deserializer)?;
+        let entries: HashMap<K, V> = collect_items(alloc, count, deserializer)?;
+        Ok(entries)
+    }
+}
