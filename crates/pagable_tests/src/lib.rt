@@ -1,4 +1,4 @@
-//! Tests of the crates below that are no data: cursors of readers and writers, byte arrays, second readings,
+//! Tests of the crates below that are no data: cursors of readers and writers, byte arrays, second readings, cells,
 //! references, JSON values that are written, regular expressions, laws, the pager's calls, and lists of events on the machine.
 #![tactic(auto)]
 
@@ -8,6 +8,8 @@ mod again;
 mod byte_arrays;
 #[cfg(test)]
 mod calls;
+#[cfg(test)]
+mod cells;
 #[cfg(test)]
 mod cursors;
 #[cfg(test)]
