@@ -1,4 +1,4 @@
-//! Tests of the crates below that are no data: cursors of readers and writers, byte arrays, second readings,
+//! Tests of the crates below that are no data: cursors of readers and writers, byte arrays, second readings, cells,
 //! references, JSON values that are written, regular expressions, laws, the pager's calls, and lists of events on the machine.
 //! Tests of the crates below that are no data: cursors of readers and writers, byte arrays, second readings, boxes,
 //! references, JSON values that are written, laws, the pager's calls, and lists of events on the machine.
@@ -12,6 +12,8 @@ mod boxes;
 mod byte_arrays;
 #[cfg(test)]
 mod calls;
+#[cfg(test)]
+mod cells;
 #[cfg(test)]
 mod cursors;
 #[cfg(test)]
