@@ -5,6 +5,7 @@ pub mod blobs;
 pub mod carried;
 pub mod cells;
 pub mod numbers;
+pub mod registered;
 pub mod rows;
 pub mod values;
 
@@ -13,7 +14,7 @@ use std::io;
 use std::process::ExitCode;
 
 /// The rows that are whole, in order.
-const ROWS: [Row; 11] = [
+const ROWS: [Row; 13] = [
     Row::WriteNumbers,
     Row::ReadU16,
     Row::OptionsAndResults,
@@ -24,6 +25,8 @@ const ROWS: [Row; 11] = [
     Row::TextOutAndBack,
     Row::KeyTaken,
     Row::Texts,
+    Row::StaticValues,
+    Row::TaggedValues,
     Row::OverwrittenAndRefused,
 ];
 

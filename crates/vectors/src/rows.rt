@@ -1,7 +1,7 @@
 //! The worked rows, by their subjects. The expected values were worked out by hand from the rules of the wire format, of
 //! keys and of cells.
 
-use crate::{blobs, carried, cells, numbers};
+use crate::{blobs, carried, cells, numbers, registered};
 use pagable::Error;
 use std::alloc::Global;
 
@@ -28,6 +28,10 @@ pub enum Row {
     KeyTaken,
     /// Texts that are refused, and characters.
     Texts,
+    /// Static values as their indices.
+    StaticValues,
+    /// Values with a tag.
+    TaggedValues,
     /// Bytes that are written over, and handles that are refused.
     OverwrittenAndRefused,
 }
@@ -46,6 +50,8 @@ impl Row {
             Row::TextOutAndBack => 9,
             Row::KeyTaken => 17,
             Row::Texts => 21,
+            Row::StaticValues => 22,
+            Row::TaggedValues => 23,
             Row::OverwrittenAndRefused => 24,
         }
     }
@@ -68,6 +74,8 @@ fn outcome(alloc: Global, row: Row) -> Result<bool, Error> {
         Row::TextOutAndBack => cells::text_out_and_back(alloc),
         Row::KeyTaken => blobs::key_taken(alloc),
         Row::Texts => carried::texts(alloc),
+        Row::StaticValues => registered::static_values(alloc),
+        Row::TaggedValues => registered::tagged_values(alloc),
         Row::OverwrittenAndRefused => {
             Ok(numbers::write_over(alloc)? && cells::handles_are_refused(alloc)?)
         }
