@@ -1,2 +1,5 @@
+pub mod Expressions
+pub mod Fields
+pub mod Levels
 pub mod Menus
 pub mod Portions

@@ -1,3 +1,4 @@
 pub mod Dishes
 pub mod Portions
 pub mod Menus
+pub mod Expressions

@@ -1,11 +1,15 @@
-//! Types of one's own that are carried by hand, as examples: a struct of named fields, an enum of cases, and an
-//! environment of both.
+//! Types of one's own that are carried by hand, as examples: a struct of named fields, an enum of cases, an environment of
+//! both, a struct that is carried as the tuple of its fields, and a type that holds values of its own type.
 #![tactic(auto)]
 
 pub mod dish;
+pub mod expression;
 pub mod menu;
 pub mod portion;
+pub mod recipe;
 
 pub use dish::Dish;
+pub use expression::{Expression, Sheet};
 pub use menu::{Menu, MenuNode};
 pub use portion::Portion;
+pub use recipe::Recipe;
