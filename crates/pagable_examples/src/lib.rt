@@ -4,12 +4,12 @@
 
 pub mod dish;
 pub mod expression;
+pub mod guest;
 pub mod menu;
 pub mod portion;
-pub mod recipe;
 
 pub use dish::Dish;
 pub use expression::{Expression, Sheet};
+pub use guest::Guest;
 pub use menu::{Menu, MenuNode};
 pub use portion::Portion;
-pub use recipe::Recipe;

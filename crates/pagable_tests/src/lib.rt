@@ -1,5 +1,6 @@
 //! Tests of the crates below that are no data: cursors of readers and writers, byte arrays, second readings,
-//! references, JSON values that are written, laws, the pager's calls, and lists of events on the machine.
+//! references, types of one's own, eager ones among them, sessions, JSON values that are written, laws, the pager's calls,
+//! and lists of events on the machine.
 #![tactic(auto)]
 
 #[cfg(test)]
@@ -11,6 +12,8 @@ mod calls;
 #[cfg(test)]
 mod cursors;
 #[cfg(test)]
+mod eager;
+#[cfg(test)]
 mod equal;
 #[cfg(test)]
 mod json;
@@ -21,8 +24,12 @@ mod levels;
 #[cfg(test)]
 mod machine;
 #[cfg(test)]
+mod own_types;
+#[cfg(test)]
 mod pager;
 #[cfg(test)]
 mod references;
+#[cfg(test)]
+mod session;
 #[cfg(test)]
 mod storage;
