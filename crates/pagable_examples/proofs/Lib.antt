@@ -1,4 +1,2 @@
-pub mod Expressions
-pub mod Levels
 pub mod Menus
 pub mod Portions

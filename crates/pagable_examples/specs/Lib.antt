@@ -1,4 +1,3 @@
 pub mod Dishes
 pub mod Portions
 pub mod Menus
-pub mod Expressions

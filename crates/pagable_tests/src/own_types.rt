@@ -5,8 +5,8 @@ use pagable::{
     Env, Error, NoReferences, PagableDeserialize, PagableDeserializerImpl, PagableSerialize,
     PagableSerializerImpl, SessionContext, WeighHash,
 };
-use pagable_examples::{Dish, Expression, Guest, Menu, Portion, Sheet};
-use std::alloc::{AllocError, Global};
+use pagable_examples::{Dish, Guest, Menu, Portion};
+use std::alloc::Global;
 use std::fmt::Debug;
 use std::process::Abort;
 use std::test::Fail;
@@ -99,21 +99,4 @@ fn a_struct_is_the_tuple_of_its_fields(rt: HostRuntime) -> Result<(), Fail> {
     };
     let bytes = b"\x03Ann\xac\x02\x01\x01\x05\x01\x04soup";
     carried(&rt, alloc, &Card::new(), ann, bytes)
-}
-
-/// A sum of two expressions.
-fn sum(alloc: Global, left: Expression, right: Expression) -> Result<Expression, AllocError> {
-    let left = Box::new(alloc, left)?;
-    let right = Box::new(alloc, right)?;
-    Ok(Expression::Sum(left, right))
-}
-
-#[test]
-fn an_expression_holds_expressions(rt: HostRuntime) -> Result<(), Fail> {
-    let alloc = rt.alloc();
-    let right = sum(alloc, Expression::Number(300), Expression::Number(0))?;
-    let whole = sum(alloc, Expression::Number(1), right)?;
-    // A sum is 0 and its two parts, a number 1 and the number.
-    let bytes = b"\x00\x01\x01\x00\x01\xac\x02\x01\x00";
-    carried(&rt, alloc, &Sheet, whole, bytes)
 }
