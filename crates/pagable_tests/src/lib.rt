@@ -2,6 +2,9 @@
 //! references, JSON values that are written, regular expressions, laws, the pager's calls, and lists of events on the machine.
 //! Tests of the crates below that are no data: cursors of readers and writers, byte arrays, second readings, boxes,
 //! references, JSON values that are written, laws, the pager's calls, and lists of events on the machine.
+//! Tests of the crates below that are no data: cursors of readers and writers, byte arrays, second readings,
+//! references, types of one's own, eager ones among them, sessions, JSON values that are written, laws, the pager's calls,
+//! and lists of events on the machine.
 #![tactic(auto)]
 
 #[cfg(test)]
@@ -17,6 +20,8 @@ mod cells;
 #[cfg(test)]
 mod cursors;
 #[cfg(test)]
+mod eager;
+#[cfg(test)]
 mod equal;
 #[cfg(test)]
 mod json;
@@ -27,10 +32,14 @@ mod levels;
 #[cfg(test)]
 mod machine;
 #[cfg(test)]
+mod own_types;
+#[cfg(test)]
 mod pager;
 #[cfg(test)]
 mod patterns;
 #[cfg(test)]
 mod references;
+#[cfg(test)]
+mod session;
 #[cfg(test)]
 mod storage;

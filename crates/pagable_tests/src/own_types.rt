@@ -1,0 +1,102 @@
+//! The types of one's own of `pagable_examples`: each value is written, read again, and cut at every byte.
+
+use crate::equal::equal;
+use pagable::{
+    Env, Error, NoReferences, PagableDeserialize, PagableDeserializerImpl, PagableSerialize,
+    PagableSerializerImpl, SessionContext, WeighHash,
+};
+use pagable_examples::{Dish, Guest, Menu, Portion};
+use std::alloc::Global;
+use std::fmt::Debug;
+use std::process::Abort;
+use std::test::Fail;
+
+type Card = Menu<WeighHash>;
+
+/// The bytes of a value.
+fn written<E: Env, T: PagableSerialize<E>>(
+    alloc: Global,
+    env: &E,
+    value: &T,
+) -> Result<Vec<u8>, Error> {
+    let mut out = PagableSerializerImpl::testing_new(alloc, env);
+    value.pagable_serialize(&mut out)?;
+    Ok(out.finish()?.bytes)
+}
+
+/// The value at the front of these bytes.
+fn read<'de, E: Env, T: PagableDeserialize<'de, E>>(
+    alloc: Global,
+    env: &E,
+    bytes: &'de [u8],
+) -> Result<T, Error> {
+    let session = SessionContext::new(alloc);
+    let mut source = PagableDeserializerImpl::new(bytes, &[], NoReferences::new(env, &session));
+    T::pagable_deserialize(alloc, &mut source)
+}
+
+/// Whether every part of the bytes that begins at their front, but for the whole, is refused with UnexpectedEnd.
+fn ends_early<'de, E: Env, T: PagableDeserialize<'de, E> + Drop>(
+    alloc: Global,
+    env: &E,
+    bytes: &'de [u8],
+) -> bool {
+    for end in 0..bytes.len() {
+        let found = read::<E, T>(alloc, env, &bytes[..end]);
+        if found.err() != Some(Error::UnexpectedEnd) {
+            return false;
+        }
+    }
+    true
+}
+
+/// Fails the test unless the value is written as these bytes, read from them again, and refused with UnexpectedEnd where
+/// they are cut.
+fn carried<'de, E: Env, T>(
+    rt: &impl Abort,
+    alloc: Global,
+    env: &E,
+    value: T,
+    bytes: &'de [u8],
+) -> Result<(), Fail>
+where
+    T: PagableSerialize<E> + PagableDeserialize<'de, E> + PartialEq + Debug + Drop,
+{
+    let found = written(alloc, env, &value).ok().ok_or("not written")?;
+    equal(rt, found.as_slice(), bytes, "bytes");
+    equal(rt, read::<E, T>(alloc, env, bytes), Ok(value), "value");
+    equal(rt, ends_early::<E, T>(alloc, env, bytes), true, "cut");
+    Ok(())
+}
+
+#[test]
+fn a_struct_is_its_fields_in_turn(rt: HostRuntime) -> Result<(), Fail> {
+    let alloc = rt.alloc();
+    let soup = Dish {
+        name: String::from_str(alloc, "soup")?,
+        grams: 300,
+    };
+    carried(&rt, alloc, &Card::new(), soup, b"\x04soup\xac\x02")
+}
+
+#[test]
+fn an_enum_is_its_case_and_its_part(rt: HostRuntime) -> Result<(), Fail> {
+    let alloc = rt.alloc();
+    let env = Card::new();
+    carried(&rt, alloc, &env, Portion::Whole, b"\x00")?;
+    carried(&rt, alloc, &env, Portion::Part(300), b"\x01\xac\x02")
+}
+
+#[test]
+fn a_struct_is_the_tuple_of_its_fields(rt: HostRuntime) -> Result<(), Fail> {
+    let alloc = rt.alloc();
+    let ann = Guest {
+        name: String::from_str(alloc, "Ann")?,
+        seat: 300,
+        paid: true,
+        tip: Some(5),
+        eats: vec![in alloc; String::from_str(alloc, "soup")?]?,
+    };
+    let bytes = b"\x03Ann\xac\x02\x01\x01\x05\x01\x04soup";
+    carried(&rt, alloc, &Card::new(), ann, bytes)
+}
