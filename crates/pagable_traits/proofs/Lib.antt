@@ -9,3 +9,5 @@ pub mod Sets
 pub mod Held
 pub mod Times
 pub mod Joined
+pub mod JsonWritten
+pub mod JsonRead
