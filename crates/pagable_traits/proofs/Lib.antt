@@ -13,3 +13,5 @@ pub mod Cells
 pub mod Reordered
 pub mod Anywhere
 pub mod Hashed
+pub mod JsonWritten
+pub mod JsonRead

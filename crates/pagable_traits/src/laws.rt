@@ -24,6 +24,10 @@ ghost use Rattle.std.specs.declared.time.Duration.{Duration as Span};
 ghost use Rattle.pagable_model.specs.Carried.{of_duration};
 ghost use Rattle.pagable_model.specs.Cells.{MeansAtomic, MeansOnce};
 ghost use Rattle.pagable_model.specs.Shape.{duration, outcome, array};
+ghost use Rattle.pagable_model.specs.Json.{of_json};
+ghost use Rattle.pagable_model.specs.Shape.{duration, outcome, array, json};
+ghost use Rattle.serde_json.specs.View.{view};
+ghost use Rattle.pagable_traits.specs.JsonData.{json_of};
 ghost use Rattle.pagable_model.specs.declared.error.Error.{Error as Refusal};
 ghost use Rattle.pagable_model.specs.declared.numbers.ArcRef.{ArcRef as Reference};
 
@@ -34,6 +38,7 @@ use crate::keys::{PagableKey, PagableOrdKey};
 use crate::traits::{Carried, PagableDeserialize, PagableSerialize};
 use indexmap::{IndexMap, IndexSet};
 use pagable_codec::env::Env;
+use serde_json::Value;
 use smallvec::SmallVec;
 use std::alloc::Global;
 use std::boxed::{BoxedSlice, BoxedStr};
@@ -520,4 +525,11 @@ pub fn once_is_carried<E: Env, T: PagableSerialize<E> + PagableDeserialize<'stat
     ensures means { (x : _) (m : Meaning Reference) → ⟦<OnceLock<T> as Carried<E>>⟧.means x m ↔ MeansOnce T.Carried.means m }
     ensures writes { (e : Refusal) → ⟦<OnceLock<T> as PagableSerialize<E>>⟧.write_causes e ↔ memory_or T.write_causes e }
     ensures reads { (e : Refusal) → ⟦<OnceLock<T> as PagableDeserialize<'static, E>>⟧.read_causes e ↔ T.read_causes e }
+/// A JSON value is spelled as one, and means what the JSON value means that its data is. Writing and reading want memory
+/// at most.
+pub fn json_is_carried<E: Env>()
+    ensures shape { (e : E) → ⟦<Value as Carried<E>>⟧.shape e ≡ json }
+    ensures means { (v : _) (m : Meaning Reference) → ⟦<Value as Carried<E>>⟧.means v m ↔ (m ≡ of_json (json_of (view v))) }
+    ensures writes { (e : Refusal) → ⟦<Value as PagableSerialize<E>>⟧.write_causes e ↔ memory e }
+    ensures reads { (e : Refusal) → ⟦<Value as PagableDeserialize<'static, E>>⟧.read_causes e ↔ memory e }
 {}

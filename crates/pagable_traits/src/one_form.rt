@@ -3,6 +3,7 @@
 ghost use Rattle.std.specs.Int.{w8, w16, w32, w64, w128};
 ghost use Rattle.pagable_model.specs.OneForm.{HasOneFormThroughout, nothing_has_one_form, unsigned_has_one_form, signed_has_one_form, flag_has_one_form, text_has_one_form, letter_has_one_form, optional_has_one_form, list_has_one_form, both_has_one_form, sorted_map_has_one_form, placed_map_has_one_form, sorted_set_has_one_form, placed_set_has_one_form, run_has_one_form, duration_has_one_form, outcome_has_one_form, array_has_one_form};
 ghost use Rattle.pagable_model.specs.Shape.{both, list};
+ghost use Rattle.pagable_traits.specs.JsonData.{json_has_one_form};
 
 use crate::impls::paths::PathText;
 use crate::impls::thin::Thin;
@@ -10,6 +11,7 @@ use crate::keys::{PagableKey, PagableOrdKey};
 use crate::traits::OneMeaning;
 use indexmap::{IndexMap, IndexSet};
 use pagable_codec::env::Env;
+use serde_json::Value;
 use smallvec::SmallVec;
 use std::boxed::{BoxedSlice, BoxedStr};
 use std::collections::{BTreeMap, BTreeSet};
@@ -179,4 +181,8 @@ impl<'a, E: Env, T: Canonical<E>> Canonical<E> for &'a T {
 
 impl<E: Env, H: Canonical<E>, T: Canonical<E>> Canonical<E> for Thin<H, T> {
     ghost one_form = { λ e. both_has_one_form (E.parts e) (H.Carried.shape e) (list (T.Carried.shape e)) (H.one_form e) (list_has_one_form (E.parts e) (T.Carried.shape e) (T.one_form e)) };
+}
+
+impl<E: Env> Canonical<E> for Value {
+    ghost one_form = { λ e. json_has_one_form (E.parts e) };
 }

@@ -1,0 +1,15 @@
+use Rattle.std.proofs.Common.{refl, inr}
+use Rattle.std.proofs.lemmas.Result.{err_from_is_err_and}
+use Rattle.pagable_traits.proofs.JsonWritten.{put-part, put-long}
+use Rattle.pagable_traits.proofs.impls.json_writing.put_text.Goals as goal
+
+pub returns-in_err-write_usize-clause-only : goal.returns-in_err-write_usize-clause-only
+returns-in_err-write_usize-clause-only c =
+    let p = err_from_is_err_and c.from_residual.result c.from_residual.ensures.1 in
+    rw (p.1, p.2) (inr c.in_err-write_usize.ensures.only)
+
+pub returns-clause-ok : goal.returns-clause-ok
+returns-clause-ok c = put-part c.write_str.result 3 _ _ _ _ refl c.in_ok-write_usize.ensures.ok c.write_str.ensures.ok
+
+pub returns-clause-only : goal.returns-clause-only
+returns-clause-only c = put-long c.write_str.result _ c.write_str.ensures.only

@@ -1,0 +1,70 @@
+-- What the JSON values of `serde_json` are in the words of the definitions, and how their parts are read.
+use Rattle.std.specs.Prelude.{◌≡◌, ◌<◌, ◌⊎◌, ℕ, ◌-◌, pos, String}
+use Rattle.std.specs.String.{string_bytes}
+use Rattle.std.specs.declared.alloc.Global.{Global}
+use Rattle.serde_json.specs.Data.{Num, Data}
+use Rattle.serde_json.specs.Data as kit
+use Rattle.serde_json.specs.View.{view}
+use Rattle.serde_json.specs.declared.value.Value.{Value}
+use Rattle.pagable_model.specs.declared.error.Error.{Error}
+use Rattle.pagable_model.specs.declared.error.Error.TheVariants as errors
+use Rattle.pagable_model.specs.declared.numbers.ArcRef.{ArcRef}
+use Rattle.pagable_model.specs.Basic.{longest}
+use Rattle.pagable_model.specs.Canonical.{IsCanonical, LiesIn}
+use Rattle.pagable_model.specs.Gives.{memory}
+use Rattle.pagable_model.specs.Json.{Json, of_json}
+use Rattle.pagable_model.specs.Json as own
+use Rattle.pagable_model.specs.Keyed.{throughout-alone}
+use Rattle.pagable_model.specs.Meaning.{Meaning}
+use Rattle.pagable_model.specs.Meaning as meanings
+use Rattle.pagable_model.specs.OneForm.{HasOneFormThroughout}
+use Rattle.pagable_model.specs.Reading.{Gets, JsonCase, json_part, below, deepest}
+use Rattle.pagable_model.specs.Shape.{Shape, json}
+use Rattle.pagable_model.specs.Standing.{Answer, answer_at}
+
+-- a number that is whole is so whether it is kept with a sign or without
+abbrev pub json_of_number : Num → Json
+json_of_number (kit.unsigned n) = own.whole (pos n)
+json_of_number (kit.negative z) = own.whole z
+json_of_number (kit.float x) = own.float x
+
+abbrev mutual
+  -- the same value; the members of an object are kept in order of their keys
+  pub json_of : Data → Json
+  json_of kit.null = own.null
+  json_of (kit.boolean b) = own.boolean b
+  json_of (kit.number x) = json_of_number x
+  json_of (kit.string t) = own.string t
+  json_of (kit.array items) = own.array (json_items items)
+  json_of (kit.object members) = own.object (json_members members)
+
+  pub json_items : kit.Items → own.Items
+  json_items kit.no_items = own.no_items
+  json_items (kit.item d items) = own.item (json_of d) (json_items items)
+
+  pub json_members : kit.Members → own.Members
+  json_members kit.no_members = own.no_members
+  json_members (kit.member k d members) = own.member k (json_of d) (json_members members)
+
+-- what the data of a value means, a value, and a key
+abbrev pub of_data : Data → Meaning ArcRef
+of_data d = of_json (json_of d)
+
+abbrev pub of_value : Value → Meaning ArcRef
+of_value v = of_data (view v)
+
+abbrev pub of_key : String Global → Meaning ArcRef
+of_key k = meanings.text (string_bytes k)
+
+-- the part of a JSON value after its case, where so many levels were entered
+abbrev pub part_at : ℕ → (ℕ → Shape) → JsonCase → Gets Answer (Meaning ArcRef)
+part_at levels parts case = json_part (below answer_at parts (deepest - levels)) case
+
+-- TooLong only where the length is above the greatest, and else want of memory, which the case may meet before the length
+abbrev pub long_or_no_memory : ℕ → Error → Type 0
+long_or_no_memory len e = ((longest < len) × (e ≡ errors.TooLong)) ⊎ memory e
+
+-- no meaning of a JSON value has two forms
+pub json_has_one_form : (parts : ℕ → Shape) → HasOneFormThroughout parts json
+unfolding IsCanonical LiesIn
+json_has_one_form parts = throughout-alone IsCanonical parts json tt (λ those. tt)
