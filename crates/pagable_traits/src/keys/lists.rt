@@ -89,13 +89,13 @@ impl<E: Env, K: PagableOrdKey<E>, V: PagableOrdKey<E>> PagableOrdKey<E> for BTre
     ghost is_order = { λ x y. list_is_ordered (pair_order K.order V.order) (λ e f. ordering_then (K.cmp e.0 f.0) (V.cmp e.1 f.1)) (λ e. pair (K.meaning e.0) (V.meaning e.1)) (λ e f. pair_is_ordered K.order V.order (K.cmp e.0 f.0) (V.cmp e.1 f.1) (K.meaning e.0) (V.meaning e.1) (K.meaning f.0) (V.meaning f.1) (K.is_order e.0 f.0) (V.is_order e.1 f.1)) x.entries y.entries };
 }
 
-/// A header decides before the list behind it.
 impl<E: Env, H: PagableKey<E>, T: PagableKey<E>> PagableKey<E> for Thin<H, T> {
     ghost same = { λ x y. pair_is_same (H.eq x.header y.header) (pointwise T.eq x.items.items y.items.items) (H.meaning x.header) (sequence (map T.meaning x.items.items)) (H.meaning y.header) (sequence (map T.meaning y.items.items)) (H.same x.header y.header) (list_is_same T.eq T.meaning T.same x.items.items y.items.items) };
 
     ghost refers_to_nothing = { λ e. both_refers_to_nothing (E.parts e) (H.shape e) (list (T.shape e)) (H.refers_to_nothing e) (list_refers_to_nothing (E.parts e) (T.shape e) (T.refers_to_nothing e)) };
 }
 
+/// A header decides before the list behind it.
 impl<E: Env, H: PagableOrdKey<E>, T: PagableOrdKey<E>> PagableOrdKey<E> for Thin<H, T> {
     ghost order = { pair_order H.order (list_order T.order) };
 

@@ -153,13 +153,13 @@ impl<E: Env> PagableOrdKey<E> for char {
     ghost is_order = { number_is_ordered };
 }
 
-/// `false` stands before `true`.
 impl<E: Env> PagableKey<E> for bool {
     ghost same = { flag_is_same };
 
     ghost refers_to_nothing = { λ e. flag_refers_to_nothing (E.parts e) };
 }
 
+/// `false` stands before `true`.
 impl<E: Env> PagableOrdKey<E> for bool {
     ghost order = { flag_order };
 

@@ -7,13 +7,13 @@ ghost use Rattle.pagable_model.specs.Shape.{both};
 use crate::keys::{PagableKey, PagableOrdKey};
 use pagable_codec::env::Env;
 
-/// None stands before each key.
 impl<E: Env, K: PagableKey<E>> PagableKey<E> for Option<K> {
     ghost same = { option_is_same K.eq K.meaning K.same };
 
     ghost refers_to_nothing = { λ e. optional_refers_to_nothing (E.parts e) (K.shape e) (K.refers_to_nothing e) };
 }
 
+/// None stands before each key.
 impl<E: Env, K: PagableOrdKey<E>> PagableOrdKey<E> for Option<K> {
     ghost order = { optional_order K.order };
 
@@ -44,39 +44,39 @@ impl<E: Env, K: PagableOrdKey<E>> PagableOrdKey<E> for Box<K> {
     ghost is_order = { λ x y. K.is_order x.value y.value };
 }
 
-/// A success stands before each failure.
 impl<E: Env, K: PagableKey<E>, L: PagableKey<E>> PagableKey<E> for Result<K, L> {
     ghost same = { result_is_same K.eq L.eq K.meaning L.meaning K.same L.same };
 
     ghost refers_to_nothing = { λ e. outcome_refers_to_nothing (E.parts e) (K.shape e) (L.shape e) (K.refers_to_nothing e) (L.refers_to_nothing e) };
 }
 
+/// A success stands before each failure.
 impl<E: Env, K: PagableOrdKey<E>, L: PagableOrdKey<E>> PagableOrdKey<E> for Result<K, L> {
     ghost order = { outcome_order K.order L.order };
 
     ghost is_order = { result_is_ordered K.order L.order K.cmp L.cmp K.meaning L.meaning K.is_order L.is_order };
 }
 
-/// Pairs stand in the order of their first parts, and where these are equal of their second ones.
 impl<E: Env, A: PagableKey<E>, B: PagableKey<E>> PagableKey<E> for (A, B) {
     ghost same = { λ x y. pair_is_same (A.eq x.0 y.0) (B.eq x.1 y.1) (A.meaning x.0) (B.meaning x.1) (A.meaning y.0) (B.meaning y.1) (A.same x.0 y.0) (B.same x.1 y.1) };
 
     ghost refers_to_nothing = { λ e. both_refers_to_nothing (E.parts e) (A.shape e) (B.shape e) (A.refers_to_nothing e) (B.refers_to_nothing e) };
 }
 
+/// Pairs stand in the order of their first parts, and where these are equal of their second ones.
 impl<E: Env, A: PagableOrdKey<E>, B: PagableOrdKey<E>> PagableOrdKey<E> for (A, B) {
     ghost order = { pair_order A.order B.order };
 
     ghost is_order = { λ x y. pair_is_ordered A.order B.order (A.cmp x.0 y.0) (B.cmp x.1 y.1) (A.meaning x.0) (B.meaning x.1) (A.meaning y.0) (B.meaning y.1) (A.is_order x.0 y.0) (B.is_order x.1 y.1) };
 }
 
-/// A tuple stands as the pair of its first part and the tuple of the others does.
 impl<E: Env, A: PagableKey<E>, B: PagableKey<E>, C: PagableKey<E>> PagableKey<E> for (A, B, C) {
     ghost same = { λ x y. triple_is_same (A.eq x.0 y.0) (B.eq x.1 y.1) (C.eq x.2 y.2) (A.meaning x.0) (B.meaning x.1) (C.meaning x.2) (A.meaning y.0) (B.meaning y.1) (C.meaning y.2) (A.same x.0 y.0) (B.same x.1 y.1) (C.same x.2 y.2) };
 
     ghost refers_to_nothing = { λ e. both_refers_to_nothing (E.parts e) (A.shape e) (both (B.shape e) (C.shape e)) (A.refers_to_nothing e) (both_refers_to_nothing (E.parts e) (B.shape e) (C.shape e) (B.refers_to_nothing e) (C.refers_to_nothing e)) };
 }
 
+/// A tuple stands as the pair of its first part and the tuple of the others does.
 impl<E: Env, A: PagableOrdKey<E>, B: PagableOrdKey<E>, C: PagableOrdKey<E>> PagableOrdKey<E>
     for (A, B, C) {
     ghost order = { pair_order A.order (pair_order B.order C.order) };
