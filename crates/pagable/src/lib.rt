@@ -14,8 +14,8 @@ pub use pagable_machine::{
 pub use pagable_model::{
     ArcRef, HandleNumber, Identity, Kind, LoadNumber, NodeNumber, PagableCursor, WorkerNumber,
 };
-pub use pagable_patterns::SavedRegex;
 pub use pagable_pager::{Beginning, Mode, Owner, Pager, Pinning, Want};
+pub use pagable_patterns::SavedRegex;
 pub use pagable_registries::{
     ForTag, HasStaticValueRegistry, HasTypetagRegistry, PagableRegisteredFor, PagableTagged,
     StaticBytes, StaticStr, StaticValue, StaticValueEntry, StaticValueRegistry, TagReader,
