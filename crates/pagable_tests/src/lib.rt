@@ -1,5 +1,5 @@
 //! Tests of the crates below that are no data: cursors of readers and writers, byte arrays, second readings,
-//! references, JSON values that are written, laws, the pager's calls, and lists of events on the machine.
+//! references, registries, JSON values that are written, laws, the pager's calls, and lists of events on the machine.
 #![tactic(auto)]
 
 #[cfg(test)]
@@ -24,5 +24,7 @@ mod machine;
 mod pager;
 #[cfg(test)]
 mod references;
+#[cfg(test)]
+mod registries;
 #[cfg(test)]
 mod storage;
