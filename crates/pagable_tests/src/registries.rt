@@ -3,7 +3,7 @@
 
 use crate::equal::equal;
 use pagable::{
-    Error, NoReferences, PagableDeserialize, PagableDeserializerImpl, PagableSerialize,
+    Env, Error, NoReferences, PagableDeserialize, PagableDeserializerImpl, PagableSerialize,
     PagableSerializerImpl, SessionContext, StaticStr, StaticValue, StaticValueEntry,
 };
 use registry_samples::{Animal, AnimalReader, Sighting, Zoo};
@@ -38,12 +38,12 @@ fn is_written<T: PagableSerialize<Zoo>>(
 }
 
 /// What these bytes are read as.
-fn read<'de, T: PagableDeserialize<'de, Zoo>>(
+fn read<'de, E: Env, T: PagableDeserialize<'de, E>>(
     alloc: Global,
-    zoo: &Zoo,
+    env: &E,
     input: &'de [u8],
 ) -> Result<T, Error> {
-    let mut source = PagableDeserializerImpl::new(input, &[], NoReferences::new(zoo));
+    let mut source = PagableDeserializerImpl::new(input, &[], NoReferences::new(env));
     T::pagable_deserialize(alloc, &mut source)
 }
 
