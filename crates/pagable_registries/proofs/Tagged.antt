@@ -68,14 +68,6 @@ pub refused_tag : {X : Type 0} (r : Result X Error) (M : Meaning ArcRef → Type
 refused_tag (Ok x) M has tag n written known body h = tt
 refused_tag (Err e) M has tag n written known body h = refuses-tag M has tag n written known body e h
 
--- the tag as it was told
-pub writes_told : (M : Meaning ArcRef → Type 0) (tag : List ℕ) (n : Nesting) (written : List ℕ → Shape) (known : List ℕ → Bool) (body : List ℕ → Shape) (old mid new : Out) (told : List ℕ) → IsUtf8 told → length told ≤ longest → mid ≡ added old (text_form told) [] → told ≡ tag → WritesSome M n (written tag) mid new
-    → WritesSome (MeansTagged tag M) n (tagged written known body) old new
-writes_told M tag n written known body old mid new told u le e same w = writes_tagged M tag n written known body old mid new (rw same at u) (rw same at le) (rw same at e) w
-
-pub refuses_told : (M : Meaning ArcRef → Type 0) (has : SomeMeaning M) (tag : List ℕ) (n : Nesting) (written : List ℕ → Shape) (known : List ℕ → Bool) (body : List ℕ → Shape) (e : Error) (told : List ℕ) → long_or_memory (length told) e → told ≡ tag → Refused (MeansTagged tag M) n (tagged written known body) e
-refuses_told M has tag n written known body e told h same = refuses-tag M has tag n written known body e (rw same at h)
-
 pub ruleset writing = (writes_tagged, refused_body, refused_tag)
 
 -- ---- the last registration of a tag

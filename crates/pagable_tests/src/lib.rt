@@ -5,6 +5,8 @@
 //! Tests of the crates below that are no data: cursors of readers and writers, byte arrays, second readings,
 //! references, types of one's own, eager ones among them, sessions, JSON values that are written, laws, the pager's calls,
 //! and lists of events on the machine.
+//! Tests of the crates below that are no data: cursors of readers and writers, byte arrays, second readings,
+//! references, registries, JSON values that are written, laws, the pager's calls, and lists of events on the machine.
 #![tactic(auto)]
 
 #[cfg(test)]
@@ -41,5 +43,6 @@ mod patterns;
 mod references;
 #[cfg(test)]
 mod session;
+mod registries;
 #[cfg(test)]
 mod storage;

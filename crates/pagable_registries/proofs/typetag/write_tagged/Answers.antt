@@ -1,20 +1,17 @@
-use Rattle.std.proofs.Common.{◌∙◌}
+use Rattle.std.proofs.Common.{◌∙◌, rules}
 use Rattle.std.proofs.lemmas.Result.{err_from_is_err_and}
 use Rattle.pagable_model.specs.Writing.{nesting}
 use Rattle.pagable_codec.proofs.Writing.{grows_trans}
-use Rattle.pagable_traits.proofs.Parts.{where_ok, only-count, only_part}
-use Rattle.pagable_registries.proofs.Tagged.{writes_told, refused_body, refuses_told}
+use Rattle.pagable_traits.proofs.Parts.{only-count, only_part}
+use Rattle.pagable_registries.proofs.Tagged.{refused_body, writing}
 use Rattle.pagable_registries.proofs.typetag.write_tagged.Goals as goal
 
 pub returns-in_err-write_tag-clause-ok : goal.returns-in_err-write_tag-clause-ok
 returns-in_err-write_tag-clause-ok g c = λ known read. rw (err_from_is_err_and c.from_residual.result c.from_residual.ensures.1).1 tt
 
+-- found by search, so that a wrong body is refused for what it does
 pub returns-in_err-write_tag-clause-refused : goal.returns-in_err-write_tag-clause-refused
-returns-in_err-write_tag-clause-refused g c = λ known read.
-    let p = err_from_is_err_and c.from_residual.result c.from_residual.ensures.1 in
-    let env = g.S.PagableSerializer.environment c.args.serializer.now in
-    let n = nesting (g.S.PagableSerializer.levels c.args.serializer.now) (g.E.Env.parts env) in
-    rw (p.1, p.2) (refuses_told (g.T.PagableTagged.body_means c.args.value.now) (g.met.T.PagableTagged.body_has_meaning c.args.value.now) (g.T.PagableTagged.tag c.args.value.now) n (g.T.PagableTagged.bodies env) known read _ _ c.in_err-write_tag.ensures.only (cc))
+returns-in_err-write_tag-clause-refused g c = λ known read. search (rules, writing)
 
 pub returns-in_err-write_tag-clause-only : goal.returns-in_err-write_tag-clause-only
 returns-in_err-write_tag-clause-only g c =
@@ -31,13 +28,7 @@ pub returns-in_err-write_tag-clause-same_levels : goal.returns-in_err-write_tag-
 returns-in_err-write_tag-clause-same_levels g c = c.in_err-write_tag.ensures.same_levels
 
 pub returns-clause-ok : goal.returns-clause-ok
-returns-clause-ok g c = λ known read.
-    let env = g.S.PagableSerializer.environment c.args.serializer.now in
-    let n = nesting (g.S.PagableSerializer.levels c.args.serializer.now) (g.E.Env.parts env) in
-    let told = c.in_ok-write_tag.ensures in
-    where_ok c.pagable_serialize_body.result _ _
-    (writes_told (g.T.PagableTagged.body_means c.args.value.now) (g.T.PagableTagged.tag c.args.value.now) n (g.T.PagableTagged.bodies env) known read _ _ _ _ told.text told.within told.ok (cc))
-    (rw (told.same_levels, told.same_env) at c.pagable_serialize_body.ensures.ok)
+returns-clause-ok g c = λ known read. search (rules, writing)
 
 pub returns-clause-refused : goal.returns-clause-refused
 returns-clause-refused g c = λ known read.
