@@ -1,2 +1,2 @@
+pub mod Dishes
 pub mod Menus
-pub mod Portions

@@ -34,7 +34,6 @@ impl<E: Env> PagableSerialize<E> for Dish {
 
     ghost write_causes_are_own = { memory_is_own_writing };
 
-    #[tactic(auto, using(pagable_codec::proofs::Writing::parts, pagable_traits::proofs::Parts::pairs))]
     fn pagable_serialize<S: PagableSerializer<E>>(&self, serializer: &mut S) -> Result<(), Error> {
         self.name.pagable_serialize(serializer)?;
         self.grams.pagable_serialize(serializer)
@@ -46,7 +45,6 @@ impl<'de, E: Env> PagableDeserialize<'de, E> for Dish {
 
     ghost read_causes_are_own = { memory_is_own_reading };
 
-    #[tactic(auto, unfolding(pagable_model::specs::Reading::read, pagable_model::specs::Reading::read_with), using(pagable_codec::proofs::Reading::parts, pagable_traits::proofs::Parts::pairs))]
     fn pagable_deserialize<D: PagableDeserializer<E>>(
         alloc: Global,
         deserializer: &mut D,

@@ -34,7 +34,6 @@ impl<E: Env> PagableSerialize<E> for Portion {
 
     ghost write_causes_are_own = { memory_is_own_writing };
 
-    #[tactic(auto, using(pagable_codec::proofs::Writing::parts, pagable_traits::proofs::Parts::options))]
     fn pagable_serialize<S: PagableSerializer<E>>(&self, serializer: &mut S) -> Result<(), Error> {
         match self {
             Portion::Whole => write_flag(false, serializer),
@@ -51,7 +50,6 @@ impl<'de, E: Env> PagableDeserialize<'de, E> for Portion {
 
     ghost read_causes_are_own = { never_is_own_reading };
 
-    #[tactic(auto, unfolding(pagable_model::specs::Reading::read, pagable_model::specs::Reading::read_with), using(pagable_codec::proofs::Reading::parts, pagable_traits::proofs::Parts::options, crate::proofs::Portions::reading))]
     fn pagable_deserialize<D: PagableDeserializer<E>>(
         alloc: Global,
         deserializer: &mut D,
