@@ -4,7 +4,7 @@ use crate::answers::Answer;
 use anyhow::{bail, ensure};
 use indexmap::{IndexMap, IndexSet};
 use pagable::{
-    Env, NoReferences, PagableDeserialize, PagableDeserializer, PagableDeserializerImpl,
+    Env, Error, NoReferences, PagableDeserialize, PagableDeserializer, PagableDeserializerImpl,
     PagableSerialize, PagableSerializerImpl, PathText, Thin, WeighHash,
 };
 use pagable_samples::{Nested, NestedEnv, TextEnv};
@@ -19,8 +19,9 @@ use std::time::Duration;
 /// The values hold no references, so any environment will do.
 type AnyEnv = TextEnv<WeighHash>;
 
-/// What comes of an input of the type `T` of an environment. A refused input is read once more from its front, and must be
-/// refused alike, which also shows that its levels were given back.
+/// What comes of an input of the type `T` of an environment. Where memory is refused, it is read once more from its
+/// front. An input that is refused for another cause is read once more too, and must be refused alike, which also shows
+/// that its levels were given back.
 fn replay_in<'de, E: Env, T>(
     alloc: Global,
     env: &E,
@@ -31,7 +32,12 @@ where
 {
     let mut source = PagableDeserializerImpl::new(input, &[], NoReferences::new(env));
     let front = PagableDeserializer::<E>::position(&source);
-    let value = match T::pagable_deserialize(alloc, &mut source) {
+    let mut made = T::pagable_deserialize(alloc, &mut source);
+    if made.as_ref().err() == Some(&Error::OutOfMemory) {
+        PagableDeserializer::<E>::seek(&mut source, front);
+        made = T::pagable_deserialize(alloc, &mut source);
+    }
+    let value = match made {
         Ok(value) => value,
         Err(refusal) => {
             PagableDeserializer::<E>::seek(&mut source, front);
@@ -47,7 +53,7 @@ where
     Ok(Some(written_again(alloc, env, &value, used)?))
 }
 
-/// The answer of a value that took so many bytes.
+/// The answer of a value that took so many bytes. Where memory is refused, it is written once more.
 fn written_again<E: Env, T>(
     alloc: Global,
     env: &E,
@@ -58,7 +64,11 @@ where
     T: PagableSerialize<E> + Debug,
 {
     let mut out = PagableSerializerImpl::testing_new(alloc, env);
-    value.pagable_serialize(&mut out)?;
+    if let Err(refusal) = value.pagable_serialize(&mut out) {
+        ensure!(refusal == Error::OutOfMemory, "written: {refusal:?}");
+        out = PagableSerializerImpl::testing_new(alloc, env);
+        value.pagable_serialize(&mut out)?;
+    }
     Ok(Answer::Value {
         shown: format!(in alloc; "{value:?}")?,
         used,
