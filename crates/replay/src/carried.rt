@@ -5,7 +5,7 @@ use crate::deep;
 use anyhow::{bail, ensure};
 use indexmap::{IndexMap, IndexSet};
 use pagable::{
-    Env, NoReferences, Pagable, PagableDeserialize, PagableDeserializer, PagableDeserializerImpl,
+    Env, Error, NoReferences, Pagable, PagableDeserialize, PagableDeserializer, PagableDeserializerImpl,
     PagableSerialize, PagableSerializerImpl, PathText, SavedRegex, SessionContext, Thin, WeighHash,
 };
 use pagable_samples::{Nested, NestedEnv, TextEnv};
@@ -22,8 +22,9 @@ use std::time::Duration;
 /// The values hold no references, so any environment will do.
 type AnyEnv = TextEnv<WeighHash>;
 
-/// What comes of an input of the type `T` of an environment. A refused input is read once more from its front, and must be
-/// refused alike, which also shows that its levels were given back.
+/// What comes of an input of the type `T` of an environment. Where memory is refused, it is read once more from its
+/// front. An input that is refused for another cause is read once more too, and must be refused alike, which also shows
+/// that its levels were given back.
 fn replay_in<'de, E: Env, T>(
     alloc: Global,
     env: &E,
@@ -35,7 +36,12 @@ where
     let session = SessionContext::new(alloc);
     let mut source = PagableDeserializerImpl::new(input, &[], NoReferences::new(env, &session));
     let front = PagableDeserializer::<E>::position(&source);
-    let value = match T::pagable_deserialize(alloc, &mut source) {
+    let mut made = T::pagable_deserialize(alloc, &mut source);
+    if made.as_ref().err() == Some(&Error::OutOfMemory) {
+        PagableDeserializer::<E>::seek(&mut source, front);
+        made = T::pagable_deserialize(alloc, &mut source);
+    }
+    let value = match made {
         Ok(value) => value,
         Err(refusal) => {
             PagableDeserializer::<E>::seek(&mut source, front);
@@ -51,7 +57,7 @@ where
     Ok(Some(written_again(alloc, env, &value, used)?))
 }
 
-/// The answer of a value that took so many bytes.
+/// The answer of a value that took so many bytes. Where memory is refused, it is written once more.
 fn written_again<E: Env, T>(
     alloc: Global,
     env: &E,
@@ -62,7 +68,11 @@ where
     T: PagableSerialize<E> + Debug,
 {
     let mut out = PagableSerializerImpl::testing_new(alloc, env);
-    value.pagable_serialize(&mut out)?;
+    if let Err(refusal) = value.pagable_serialize(&mut out) {
+        ensure!(refusal == Error::OutOfMemory, "written: {refusal:?}");
+        out = PagableSerializerImpl::testing_new(alloc, env);
+        value.pagable_serialize(&mut out)?;
+    }
     Ok(Answer::Value {
         shown: format!(in alloc; "{value:?}")?,
         used,
