@@ -1,12 +1,6 @@
-//! Tests of the crates below that are no data: cursors of readers and writers, byte arrays, second readings, cells,
-//! references, JSON values that are written, regular expressions, laws, the pager's calls, and lists of events on the machine.
-//! Tests of the crates below that are no data: cursors of readers and writers, byte arrays, second readings, boxes,
-//! references, JSON values that are written, laws, the pager's calls, and lists of events on the machine.
-//! Tests of the crates below that are no data: cursors of readers and writers, byte arrays, second readings,
-//! references, types of one's own, eager ones among them, sessions, JSON values that are written, laws, the pager's calls,
-//! and lists of events on the machine.
-//! Tests of the crates below that are no data: cursors of readers and writers, byte arrays, second readings,
-//! references, registries, JSON values that are written, laws, the pager's calls, and lists of events on the machine.
+//! Tests of the crates below that are no data: cursors of readers and writers, byte arrays, second readings, boxes, cells,
+//! references, registries, types of one's own, eager ones among them, sessions, JSON values that are written, regular
+//! expressions, laws, the pager's calls, and lists of events on the machine.
 #![tactic(auto)]
 
 #[cfg(test)]
@@ -42,7 +36,8 @@ mod patterns;
 #[cfg(test)]
 mod references;
 #[cfg(test)]
-mod session;
 mod registries;
+#[cfg(test)]
+mod session;
 #[cfg(test)]
 mod storage;
