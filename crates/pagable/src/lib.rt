@@ -22,12 +22,9 @@ pub use pagable_registries::{
     TypetagRegistration, TypetagRegistry,
 };
 pub use pagable_traits::{
-    Canonical, Carried, EagerlyCarried, Env, InNode, KeyHash, NodeSet, OneMeaning,
-    PagableDeserialize, PagableDeserializer, PagableEagerDeserialize, PagableEagerSerialize,
-    PagableKey, PagableOrdKey, PagableSerialize, PagableSerializer, PathText, Reader,
-    SessionContext, SessionMap, Thin, read_twice, serialize_slice, serialize_str,
     Canonical, Carried, EagerlyCarried, Env, InNode, KeyHash, NodeSet, OneMeaning, Pagable,
     PagableBoxDeserialize, PagableDeserialize, PagableDeserializeOwned, PagableDeserializer,
     PagableEagerDeserialize, PagableEagerSerialize, PagableKey, PagableOrdKey, PagableSerialize,
-    PagableSerializer, PathText, Reader, Thin, read_twice, serialize_slice, serialize_str,
+    PagableSerializer, PathText, Reader, SessionContext, SessionMap, Thin, read_twice,
+    serialize_slice, serialize_str,
 };
