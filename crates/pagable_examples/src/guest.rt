@@ -1,5 +1,8 @@
 //! A struct that is carried as the tuple of its fields: the shortest way for up to five of them.
 
+ghost use Rattle.pagable_model.specs.Causes.{either_is_own_reading, either_is_own_writing, memory_is_own_reading, memory_is_own_writing, memory_or_is_own_reading, memory_or_is_own_writing, never_is_own_reading};
+ghost use Rattle.pagable_model.specs.Gives.{either, memory, memory_or, never};
+
 use pagable::{
     Carried, Env, Error, PagableDeserialize, PagableDeserializer, PagableSerialize,
     PagableSerializer,
@@ -30,7 +33,7 @@ impl<E: Env> Carried<E> for Guest {
 impl<E: Env> PagableSerialize<E> for Guest {
     ghost write_causes = { ⟦<Fields as PagableSerialize<E>>⟧.write_causes };
 
-    ghost write_causes_are_own = { ⟦<Fields as PagableSerialize<E>>⟧.write_causes_are_own };
+    ghost write_causes_are_own = { either_is_own_writing memory (either memory (either memory (either (memory_or memory) (memory_or memory)))) memory_is_own_writing (either_is_own_writing memory (either memory (either (memory_or memory) (memory_or memory))) memory_is_own_writing (either_is_own_writing memory (either (memory_or memory) (memory_or memory)) memory_is_own_writing (either_is_own_writing (memory_or memory) (memory_or memory) (memory_or_is_own_writing memory memory_is_own_writing) (memory_or_is_own_writing memory memory_is_own_writing)))) };
 
     #[tactic(auto, using(pagable_traits::proofs::Joined::pair_along, pagable_traits::proofs::Joined::writes_along, pagable_traits::proofs::Joined::refused_along))]
     fn pagable_serialize<S: PagableSerializer<E>>(&self, serializer: &mut S) -> Result<(), Error> {
@@ -42,7 +45,7 @@ impl<E: Env> PagableSerialize<E> for Guest {
 impl<'de, E: Env> PagableDeserialize<'de, E> for Guest {
     ghost read_causes = { ⟦<Fields as PagableDeserialize<'de, E>>⟧.read_causes };
 
-    ghost read_causes_are_own = { ⟦<Fields as PagableDeserialize<'de, E>>⟧.read_causes_are_own };
+    ghost read_causes_are_own = { either_is_own_reading memory (either never (either never (either never (memory_or memory)))) memory_is_own_reading (either_is_own_reading never (either never (either never (memory_or memory))) never_is_own_reading (either_is_own_reading never (either never (memory_or memory)) never_is_own_reading (either_is_own_reading never (memory_or memory) never_is_own_reading (memory_or_is_own_reading memory memory_is_own_reading)))) };
 
     #[tactic(auto, using(pagable_traits::proofs::Joined::pair_along, pagable_traits::proofs::Joined::gave_along))]
     fn pagable_deserialize<D: PagableDeserializer<E>>(
