@@ -123,11 +123,13 @@ fn in_order_of_keys(
         "HashMap<String,i32>" => replay_as::<BTreeMap<String, i32>>(alloc, written)?,
         _ => replay_as::<BTreeMap<String, Vec<u16>>>(alloc, written)?,
     };
-    let Some(Answer::Value {
-        shown,
-        used: all,
-        written: again,
-    }) = sorted
+    let Some(
+        Answer::Value {
+            shown,
+            used: all,
+            written: again,
+        },
+    ) = sorted
     else {
         bail!("what a hash map wrote is refused");
     };
