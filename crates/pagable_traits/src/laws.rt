@@ -7,7 +7,6 @@ ghost use Rattle.std.specs.String.{string_bytes};
 ghost use Rattle.std.specs.Prelude.{String as Text, Option as Maybe, Box as Boxed, Vec as Items};
 ghost use Rattle.std.specs.Global.{Global as Heap};
 ghost use Rattle.pagable_model.specs.Gives.{never, memory, memory_or, either};
-ghost use Rattle.pagable_model.specs.Shape.{nothing, unsigned, signed, flag, text, letter, optional, list, run, both, sorted_map, placed_map, sorted_set, placed_set};
 ghost use Rattle.pagable_model.specs.Keys.{number_order, integer_order, flag_order, nothing_order, text_order, optional_order, outcome_order, pair_order, list_order};
 ghost use Rattle.pagable_model.specs.Shape.{nothing, unsigned, signed, flag, text, letter, optional, list, run, both, sorted_map, placed_map, hash_map, sorted_set, placed_set};
 ghost use Rattle.pagable_model.specs.Meaning.{Meaning, number, integer, none};
@@ -23,7 +22,6 @@ ghost use Rattle.std.specs.Prelude.{◌/◌, ◌%◌, Result as Either};
 ghost use Rattle.std.specs.declared.time.Duration.{Duration as Span};
 ghost use Rattle.pagable_model.specs.Carried.{of_duration};
 ghost use Rattle.pagable_model.specs.Cells.{MeansAtomic, MeansOnce};
-ghost use Rattle.pagable_model.specs.Shape.{duration, outcome, array};
 ghost use Rattle.pagable_model.specs.Json.{of_json};
 ghost use Rattle.pagable_model.specs.Shape.{duration, outcome, array, json};
 ghost use Rattle.serde_json.specs.View.{view};
@@ -525,6 +523,8 @@ pub fn once_is_carried<E: Env, T: PagableSerialize<E> + PagableDeserialize<'stat
     ensures means { (x : _) (m : Meaning Reference) → ⟦<OnceLock<T> as Carried<E>>⟧.means x m ↔ MeansOnce T.Carried.means m }
     ensures writes { (e : Refusal) → ⟦<OnceLock<T> as PagableSerialize<E>>⟧.write_causes e ↔ memory_or T.write_causes e }
     ensures reads { (e : Refusal) → ⟦<OnceLock<T> as PagableDeserialize<'static, E>>⟧.read_causes e ↔ T.read_causes e }
+{}
+
 /// A JSON value is spelled as one, and means what the JSON value means that its data is. Writing and reading want memory
 /// at most.
 pub fn json_is_carried<E: Env>()
