@@ -10,8 +10,8 @@ ghost use Rattle.registry_samples.specs.Animals.{animal_means, animal_has_meanin
 
 use crate::zoo::Zoo;
 use pagable::{
-    Carried, Error, ForTag, PagableDeserialize, PagableDeserializer, PagableRegisteredFor,
-    PagableSerialize, PagableSerializer, PagableTagged, TagReader,
+    Carried, Error, ForTag, PagableDeserialize, PagableDeserializer, PagableSerialize,
+    PagableSerializer, PagableTagged, TagReader,
 };
 use pagable_registries::typetag::deserialize_tagged;
 use std::alloc::Global;
@@ -46,8 +46,6 @@ impl AnimalReader {
         }
     }
 }
-
-impl PagableRegisteredFor<Animal> for AnimalReader {}
 
 impl PagableTagged<Zoo> for Animal {
     ghost tag = { tag_of };
