@@ -1,6 +1,7 @@
 //! Runs the worked rows, and prints a line for each.
 #![tactic(auto)]
 
+pub mod json;
 pub mod rows;
 
 use crate::rows::{Row, run_row};
@@ -8,8 +9,9 @@ use std::io;
 use std::process::ExitCode;
 
 /// The rows that are whole, in order.
-const ROWS: [Row; 5] = [
+const ROWS: [Row; 6] = [
     Row::ReadU16,
+    Row::Json,
     Row::KeyWithChild,
     Row::KeyOfNothing,
     Row::TextOutAndBack,

@@ -1,6 +1,7 @@
 //! The worked rows: what goes in, and what has to come out. The expected values were worked out by hand from the
 //! rules of the wire format and of keys.
 
+use crate::json;
 use pagable::{
     DataKey, Error, HandleNumber, InMemoryBlobs, OptionalDataKey, PagableData, PagableSlice,
     PagableStorage, Pager, WeighHash,
@@ -17,6 +18,8 @@ type TextPager = Pager<TextEnv<WeighHash>, Blobs>;
 pub enum Row {
     /// Varints read as `u16`: overlong ones, the greatest, too large ones, too long ones, and one cut short.
     ReadU16,
+    /// JSON values: numbers, cases, and 128 arrays in one another.
+    Json,
     /// The key of a blob of one byte with one child key.
     KeyWithChild,
     /// The key of the empty blob.
@@ -32,6 +35,7 @@ impl Row {
     pub fn number(self) -> u32 {
         match self {
             Row::ReadU16 => 2,
+            Row::Json => 6,
             Row::KeyWithChild => 7,
             Row::KeyOfNothing => 8,
             Row::TextOutAndBack => 9,
@@ -44,6 +48,7 @@ impl Row {
 pub fn run_row(alloc: Global, row: Row) -> bool {
     match row {
         Row::ReadU16 => read_u16(),
+        Row::Json => json::holds(alloc).unwrap_or(false),
         Row::KeyWithChild => key_with_child(alloc).unwrap_or(false),
         Row::KeyOfNothing => key_of_nothing(alloc),
         Row::TextOutAndBack => text_out_and_back(alloc).unwrap_or(false),
