@@ -4,6 +4,7 @@
 pub mod blobs;
 pub mod carried;
 pub mod cells;
+pub mod json;
 pub mod numbers;
 pub mod registered;
 pub mod rows;
@@ -14,12 +15,13 @@ use std::io;
 use std::process::ExitCode;
 
 /// The rows that are whole, in order.
-const ROWS: [Row; 13] = [
+const ROWS: [Row; 14] = [
     Row::WriteNumbers,
     Row::ReadU16,
     Row::OptionsAndResults,
     Row::Lists,
     Row::MapInOrder,
+    Row::JsonValues,
     Row::KeyWithChild,
     Row::KeyOfNothing,
     Row::TextOutAndBack,

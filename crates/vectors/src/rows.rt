@@ -1,7 +1,7 @@
 //! The worked rows, by their subjects. The expected values were worked out by hand from the rules of the wire format, of
 //! keys and of cells.
 
-use crate::{blobs, carried, cells, numbers, registered};
+use crate::{blobs, carried, cells, json, numbers, registered};
 use pagable::Error;
 use std::alloc::Global;
 
@@ -18,6 +18,8 @@ pub enum Row {
     Lists,
     /// A map in the order of arrival, with a key that comes twice.
     MapInOrder,
+    /// JSON values: numbers, cases, and 128 arrays in one another.
+    JsonValues,
     /// The key of a blob of one byte with one child key.
     KeyWithChild,
     /// The key of the empty blob.
@@ -45,6 +47,7 @@ impl Row {
             Row::OptionsAndResults => 3,
             Row::Lists => 4,
             Row::MapInOrder => 5,
+            Row::JsonValues => 6,
             Row::KeyWithChild => 7,
             Row::KeyOfNothing => 8,
             Row::TextOutAndBack => 9,
@@ -69,6 +72,7 @@ fn outcome(alloc: Global, row: Row) -> Result<bool, Error> {
         Row::OptionsAndResults => carried::options_and_results(alloc),
         Row::Lists => carried::lists(alloc),
         Row::MapInOrder => carried::map_in_order(alloc),
+        Row::JsonValues => json::json_values(alloc),
         Row::KeyWithChild => blobs::key_with_child(alloc),
         Row::KeyOfNothing => Ok(blobs::key_of_nothing(alloc)),
         Row::TextOutAndBack => cells::text_out_and_back(alloc),

@@ -18,6 +18,17 @@ pub fn is_written<E: Env, T: PagableSerialize<E>>(
     Ok(out.finish()?.bytes.as_slice() == wanted)
 }
 
+/// Whether writing the value is refused so.
+pub fn is_unwritable<E: Env, T: PagableSerialize<E>>(
+    alloc: Global,
+    env: &E,
+    value: &T,
+    refusal: Error,
+) -> bool {
+    let mut out = PagableSerializerImpl::testing_new(alloc, env);
+    value.pagable_serialize(&mut out) == Err(refusal)
+}
+
 /// The value that is read from these bytes; bytes may follow it.
 pub fn read<'de, E: Env, T: PagableDeserialize<'de, E>>(
     alloc: Global,
