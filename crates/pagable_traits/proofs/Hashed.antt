@@ -1,5 +1,5 @@
 -- Maps in no order: what putting in, writing and reading their entries gives, in whatever order they stand.
-use Rattle.std.proofs.Common.{◌≡◌, ℕ, ◌<◌, ◌≤◌, Bool, true, false, cond, subst, List, [], ◌∷◌, ◌++◌, length, map, arith, refl, sym, ap, ◌∙◌, Option, Some, None, is_some, Ok, Err, inl, inr, IsPermutation, MatchOption}
+use Rattle.std.proofs.Common.{◌≡◌, ℕ, ◌≤◌, Bool, true, false, cond, subst, List, [], ◌∷◌, ◌++◌, length, map, arith, refl, sym, ap, ◌∙◌, Option, Some, None, is_some, Ok, Err, inl, inr, IsPermutation, MatchOption}
 use Rattle.std.proofs.lemmas.List.{length-map}
 use Rattle.std.proofs.lemmas.Map.Text.{is_eq-slice_cmp}
 use Rattle.std.specs.Prelude.{◌⊎◌}
@@ -15,10 +15,10 @@ use Rattle.pagable_model.specs.Basic.{longest, length_form, length_at}
 use Rattle.pagable_model.specs.Lengths.{long_or_memory}
 use Rattle.pagable_model.specs.Gives.{never}
 use Rattle.pagable_model.specs.Meaning.{Meaning, entry, plain}
-use Rattle.pagable_model.specs.Keys.{Entry, KeyOrder, ordered, code, code_order, same_key, put_all, put_sorted, AllAfter, Apart, Differ}
+use Rattle.pagable_model.specs.Keys.{Entry, ordered, code, code_order, same_key, put_all, put_sorted, AllAfter, Apart, Differ}
 use Rattle.pagable_model.specs.Shape.{Shape, both, hash_map}
 use Rattle.pagable_model.specs.Carried.{of_entries, of_hash_map}
-use Rattle.pagable_model.specs.Form.{Entries, no-entries, more-entries, hash-map-form}
+use Rattle.pagable_model.specs.Form.{Entries, more-entries, hash-map-form}
 use Rattle.pagable_model.specs.Reading.{Rest, Context, items, bytes_of, read, read_with}
 use Rattle.pagable_model.specs.Writing.{Out, Nesting, FormAt, FormsAt, WritesSome, WritesSomeAll, added, kind_of_arc, Refused, RefusedAll}
 use Rattle.pagable_model.specs.Standing.{Gave, SomeMeaning}

@@ -1,0 +1,34 @@
+#!/bin/bash
+# Runs a program on a file once for each request for memory that it makes, with that one request refused.
+#
+#     tools/refuse_allocations.sh PROGRAM FILE
+#
+# Prints how many runs there were, how many printed the same as without a refusal, how many ended with status 1, and how
+# many with another status or other output; and what those of status 1 said, each text with its count. docs/TESTING.md
+# says what these mean.
+set -u
+program=$1
+file=$2
+work=$(mktemp -d)
+trap 'rm -r "$work"' EXIT
+gcc -shared -fPIC -O1 -o "$work/refuse.so" "$(dirname "$0")/refuse_allocations.c" -ldl || exit 1
+wanted=$("$program" "$file")
+same=0 refused=0 other=0 number=1
+while :; do
+    found=$(REFUSE_AT=$number LD_PRELOAD="$work/refuse.so" "$program" "$file" 2>"$work/said" 9>"$work/told")
+    status=$?
+    [ -s "$work/told" ] || break
+    if [ $status = 0 ] && [ "$found" = "$wanted" ]; then
+        same=$((same + 1))
+    elif [ $status = 1 ]; then
+        refused=$((refused + 1))
+        tail -n 1 "$work/said" >>"$work/texts"
+    else
+        other=$((other + 1))
+        echo "request $number: status $status"
+    fi
+    number=$((number + 1))
+done
+echo "$file: $((number - 1)) runs, $same the same, $refused with status 1, $other other"
+[ -s "$work/texts" ] && sort "$work/texts" | uniq -c
+exit 0
