@@ -17,7 +17,8 @@ pub use pagable_model::{
 pub use pagable_pager::{Beginning, Mode, Owner, Pager, Pinning, Want};
 pub use pagable_registries::{
     ForTag, HasStaticValueRegistry, HasTypetagRegistry, PagableRegisteredFor, PagableTagged,
-    StaticBytes, StaticStr, StaticValue, StaticValueEntry, StaticValueRegistry, TagReader, TypetagRegistration, TypetagRegistry,
+    StaticBytes, StaticStr, StaticValue, StaticValueEntry, StaticValueRegistry, TagReader,
+    TypetagRegistration, TypetagRegistry,
 };
 pub use pagable_traits::{
     Canonical, Carried, EagerlyCarried, Env, InNode, KeyHash, NodeSet, OneMeaning,
