@@ -157,7 +157,7 @@ module _ (levels : ℕ) (parts : ℕ → Shape) where
       twice f g (Err e) = refl
 
   pub object_read : (m : BTreeMap (String Global) Value) (count : ℕ) (rest mid after : Rest Answer) → levels < deepest → bytes_of length_at (λ n. n) rest ≡ Ok (count, mid)
-      → Gave (Collected (MeansPair (Is of_key) (Is of_value)) (λ es e. insert_entry string_cmp es e.0 e.1) m.entries) after (items (read (handles_at (levels + 1) parts) (both shapes.text json)) count mid) → Gave (Is of_value (values.Object m)) after (part_at levels parts object_case rest)
+      → Gave (Collected (MeansPair (Is of_key) (Is of_value)) (λ es e fs. fs ≡ insert_entry string_cmp es e.0 e.1) m.entries) after (items (read (handles_at (levels + 1) parts) (both shapes.text json)) count mid) → Gave (Is of_value (values.Object m)) after (part_at levels parts object_case rest)
   object_read m count rest mid after lt e g =
       let all = sorted_map_collected (Is of_key) (Is of_value) string_cmp text_order keys-in-order (handles_at (levels + 1) parts) shapes.text json m.entries rest mid after count e g in
       record { m = variant 5 all.m; is = members-are m.entries all.m all.is ∙ ap of_data (sym (seen-object (values.Object m) m refl)); gave = object-map count rest mid lt e ∙ rw all.gave refl }

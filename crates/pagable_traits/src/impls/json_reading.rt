@@ -192,7 +192,7 @@ fn read_members<E: Env, D: PagableDeserializer<E>>(
     count: usize,
     deserializer: &mut D,
 ) -> Result<BTreeMap<String, Value>, Error>
-    ensures gives { GivesSome memory (λ m. Collected (MeansPair (Is of_key) (Is of_value)) (λ es e. insert_entry string_cmp es e.0 e.1) m.entries) (D.rest deserializer.new) result
+    ensures gives { GivesSome memory (λ m. Collected (MeansPair (Is of_key) (Is of_value)) (λ es e fs. fs ≡ insert_entry string_cmp es e.0 e.1) m.entries) (D.rest deserializer.new) result
         (items_at (read (handles_at (D.levels deserializer.old) (E.parts (D.environment deserializer.old))) (both text json)) count (D.rest deserializer.old)) }
     ensures moves { MovesOn (D.standing deserializer.old) (D.standing deserializer.new) }
     ensures same_env { D.environment deserializer.new ≡ D.environment deserializer.old }

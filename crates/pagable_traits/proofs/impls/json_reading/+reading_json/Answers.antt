@@ -541,7 +541,7 @@ read_members-loop-index-init g t c =
     let start = rest c.args.deserializer.now in
     let get = read (handles_at levels parts) (both text json) in
     record {
-      gives = ([], collected_none (MeansPair (Is of_key) (Is of_value)) (λ es e. insert_entry string_cmp es e.0 e.1) _ (search rules), starts get c.args.count start);
+      gives = ([], collected_none (MeansPair (Is of_key) (Is of_value)) (λ es e fs. fs ≡ insert_entry string_cmp es e.0 e.1) _ (search rules), starts get c.args.count start);
       moves = moves_refl _;
       same_env = refl;
       same_levels = refl;
@@ -560,7 +560,7 @@ read_members-loop-index-preserved g t c =
     record {
       gives = (
         i.gives.0 ++ gave.m ∷ [],
-        collected_more (MeansPair (Is of_key) (Is of_value)) (λ es e. insert_entry string_cmp es e.0 e.1) _ _ i.gives.0 (c.in_ok-key.key, c.in_ok-key.value) gave.m i.gives.1 gave.is c.in_ok-insert.ensures.entries,
+        collected_more (MeansPair (Is of_key) (Is of_value)) (λ es e fs. fs ≡ insert_entry string_cmp es e.0 e.1) _ _ i.gives.0 (c.in_ok-key.key, c.in_ok-key.value) gave.m i.gives.1 gave.is c.in_ok-insert.ensures.entries,
         goes_on get i.gives.0 c.args.count c.loop-index.index (rest c.loop-index.deserializer) gave.m _ (items get c.args.count start) c.loop-index-test.true gave.gave i.gives.2,
       );
       moves = moves_trans _ _ _ i.moves c.in_ok-key.ensures.moves;

@@ -47,7 +47,7 @@ invariant-read_members-loop-index g l =
     let get = read (handles_at (g.D.PagableDeserializer.levels l.fn.deserializer) (g.E.Env.parts env)) (both text json) in
     record {
       gives :
-          (ms : List (Meaning ArcRef)) × Collected (MeansPair (Is of_key) (Is of_value)) (λ es e. insert_entry string_cmp es e.0 e.1) l.members.entries ms
+          (ms : List (Meaning ArcRef)) × Collected (MeansPair (Is of_key) (Is of_value)) (λ es e fs. fs ≡ insert_entry string_cmp es e.0 e.1) l.members.entries ms
           × (with_front ms (items get (l.count - l.index) (g.D.PagableDeserializer.rest l.deserializer)) ≡ items get l.count (g.D.PagableDeserializer.rest l.fn.deserializer));
       moves : MovesOn (g.D.PagableDeserializer.standing l.fn.deserializer) (g.D.PagableDeserializer.standing l.deserializer);
       same_env : g.D.PagableDeserializer.environment l.deserializer ≡ env;
