@@ -1,3 +1,4 @@
 pub mod Keeping
 pub mod Ending
 pub mod Kept
+pub mod Sweeping

@@ -41,8 +41,10 @@ where
         return Err(Error::NoSuchHandle);
     };
     let outcome = finish(alloc, pager, load, node_type);
-    // A load that has ended is gone, and this changes nothing then.
-    let _ = pager.load_drop(load);
+    if outcome.is_err() {
+        // A load that is closed already is gone, and this changes nothing then.
+        let _ = pager.load_drop(load);
+    }
     outcome
 }
 

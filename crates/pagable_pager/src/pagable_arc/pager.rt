@@ -194,8 +194,10 @@ where
         ensures values { self.new.values ≡ kept self.new.book self.old.values }
         ensures same { SameStore self.old self.new }
     {
+        self.book.is_whole();
+        let node = self.book.node_of(handle);
         let outcome = self.book.unpin(handle);
-        values::sweep(&self.book, &mut self.values);
+        values::sweep_of(&self.book, node, &mut self.values);
         outcome
     }
 
@@ -207,8 +209,10 @@ where
         ensures values { self.new.values ≡ kept self.new.book self.old.values }
         ensures same { SameStore self.old self.new }
     {
+        self.book.is_whole();
+        let node = self.book.node_of(handle);
         let outcome = self.book.release(handle);
-        values::sweep(&self.book, &mut self.values);
+        values::sweep_of(&self.book, node, &mut self.values);
         outcome
     }
 
@@ -274,8 +278,10 @@ where
         ensures values { self.new.values ≡ kept self.new.book self.old.values }
         ensures same { SameStore self.old self.new }
     {
+        self.book.is_whole();
+        let node = self.book.node_of(handle);
         let outcome = self.book.set_data_key(handle, key);
-        values::sweep(&self.book, &mut self.values);
+        values::sweep_of(&self.book, node, &mut self.values);
         outcome
     }
 

@@ -2,10 +2,14 @@ use Rattle.std.proofs.Common.{map, refl}
 use Rattle.pagable_pager.specs.Rows.{value_of}
 use Rattle.pagable_pager.proofs.Keeping.{in-kept}
 use Rattle.pagable_pager.proofs.Kept.{keeps-keyed}
+use Rattle.pagable_pager.proofs.Sweeping.{others-found}
 use Rattle.pagable_pager.proofs.pagable_arc.pager.Pager.set_data_key.Goals as goal
 
 pub invariant_of-self : goal.invariant_of-self
-invariant_of-self g c = rw c.sweep.ensures (in-kept g.E.Node.NodeSet.type_of c.self.inside.book c.set_data_key-outcome.new.self (map value_of c.self.inside.values.items) c.self.invariant c.set_data_key-outcome.ensures.values.each)
+invariant_of-self g c = rw c.sweep_of.ensures (in-kept g.E.Node.NodeSet.type_of c.self.inside.book c.set_data_key-outcome.new.self (map value_of c.self.inside.values.items) c.self.invariant c.set_data_key-outcome.ensures.values.each)
 
 pub returns-clause-trees : goal.returns-clause-trees
-returns-clause-trees g c = rw (← c.self.view_is) (keeps-keyed _ _ _ c.args.handle c.args.key c.set_data_key-outcome.result c.set_data_key-outcome.ensures.step c.sweep.ensures refl refl)
+returns-clause-trees g c = rw (← c.self.view_is) (keeps-keyed _ _ _ c.args.handle c.args.key c.set_data_key-outcome.result c.set_data_key-outcome.ensures.step c.sweep_of.ensures refl refl)
+
+pub sweep_of-requires : goal.sweep_of-requires
+sweep_of-requires g c = others-found g.E.Node.NodeSet.type_of c.self.inside.book c.set_data_key-outcome.new.self c.args.handle c.self.inside.values.items c.node_of-node.result c.is_whole.ensures.whole c.self.invariant c.set_data_key-outcome.ensures.values c.node_of-node.ensures
