@@ -1,11 +1,10 @@
 //! Values of carried types, through the traits.
 
 use crate::answers::Answer;
-use crate::deep;
 use anyhow::{bail, ensure};
 use indexmap::{IndexMap, IndexSet};
 use pagable::{
-    Env, Error, NoReferences, Pagable, PagableDeserialize, PagableDeserializer, PagableDeserializerImpl,
+    Env, Error, NoReferences, PagableDeserialize, PagableDeserializer, PagableDeserializerImpl,
     PagableSerialize, PagableSerializerImpl, PathText, SavedRegex, SessionContext, Thin, WeighHash,
 };
 use pagable_samples::{Nested, NestedEnv, TextEnv};
@@ -31,7 +30,7 @@ fn replay_in<'de, E: Env, T>(
     input: &'de [u8],
 ) -> anyhow::Result<Option<Answer>>
 where
-    T: Pagable<'de, E> + Debug + Drop,
+    T: PagableSerialize<E> + PagableDeserialize<'de, E> + Debug + Drop,
 {
     let session = SessionContext::new(alloc);
     let mut source = PagableDeserializerImpl::new(input, &[], NoReferences::new(env, &session));
@@ -81,14 +80,14 @@ where
 }
 
 /// What comes of an input of the type `T`, which no environment bears on.
-pub fn replay_as<'de, T>(alloc: Global, input: &'de [u8]) -> anyhow::Result<Option<Answer>>
+fn replay_as<'de, T>(alloc: Global, input: &'de [u8]) -> anyhow::Result<Option<Answer>>
 where
-    T: Pagable<'de, AnyEnv> + Debug + Drop,
+    T: PagableSerialize<AnyEnv> + PagableDeserialize<'de, AnyEnv> + Debug + Drop,
 {
     replay_in::<AnyEnv, T>(alloc, &AnyEnv::new(), input)
 }
 
-/// Maps to types that hold others, and what comes after them.
+/// Maps to types that hold others; None for another type.
 fn map_of_held(alloc: Global, name: &str, input: &[u8]) -> anyhow::Result<Option<Answer>> {
     match name {
         "BTreeMap<String,Vec<u16>>" => replay_as::<BTreeMap<String, Vec<u16>>>(alloc, input),
@@ -96,7 +95,7 @@ fn map_of_held(alloc: Global, name: &str, input: &[u8]) -> anyhow::Result<Option
         "BTreeMap<u16,BTreeMap<String,IndexSet<u8>>>" => replay_as::<
             BTreeMap<u16, BTreeMap<String, IndexSet<u8>>>,
         >(alloc, input),
-        _ => deep::answer(alloc, name, input),
+        _ => Ok(None),
     }
 }
 
