@@ -22,6 +22,8 @@ mod equal;
 #[cfg(test)]
 mod json;
 #[cfg(test)]
+mod json_values;
+#[cfg(test)]
 mod laws;
 #[cfg(test)]
 mod levels;
