@@ -1,6 +1,7 @@
 //! Values of carried types, through the traits.
 
 use crate::answers::Answer;
+use crate::deep;
 use anyhow::{bail, ensure};
 use indexmap::{IndexMap, IndexSet};
 use pagable::{
@@ -8,6 +9,7 @@ use pagable::{
     PagableSerialize, PagableSerializerImpl, PathText, SavedRegex, SessionContext, Thin, WeighHash,
 };
 use pagable_samples::{Nested, NestedEnv, TextEnv};
+use serde_json::Value;
 use smallvec::SmallVec;
 use std::alloc::Global;
 use std::boxed::{BoxedSlice, BoxedStr};
@@ -80,14 +82,14 @@ where
 }
 
 /// What comes of an input of the type `T`, which no environment bears on.
-fn replay_as<'de, T>(alloc: Global, input: &'de [u8]) -> anyhow::Result<Option<Answer>>
+pub fn replay_as<'de, T>(alloc: Global, input: &'de [u8]) -> anyhow::Result<Option<Answer>>
 where
     T: PagableSerialize<AnyEnv> + PagableDeserialize<'de, AnyEnv> + Debug + Drop,
 {
     replay_in::<AnyEnv, T>(alloc, &AnyEnv::new(), input)
 }
 
-/// Maps to types that hold others; None for another type.
+/// Maps to types that hold others, and what comes after them.
 fn map_of_held(alloc: Global, name: &str, input: &[u8]) -> anyhow::Result<Option<Answer>> {
     match name {
         "BTreeMap<String,Vec<u16>>" => replay_as::<BTreeMap<String, Vec<u16>>>(alloc, input),
@@ -95,7 +97,7 @@ fn map_of_held(alloc: Global, name: &str, input: &[u8]) -> anyhow::Result<Option
         "BTreeMap<u16,BTreeMap<String,IndexSet<u8>>>" => replay_as::<
             BTreeMap<u16, BTreeMap<String, IndexSet<u8>>>,
         >(alloc, input),
-        _ => Ok(None),
+        _ => deep::answer(alloc, name, input),
     }
 }
 
@@ -228,12 +230,13 @@ fn array(alloc: Global, name: &str, input: &[u8]) -> anyhow::Result<Option<Answe
     }
 }
 
-/// Cells and regular expressions, and what comes after them.
+/// Cells, regular expressions and JSON values, and what comes after them.
 fn cell(alloc: Global, name: &str, input: &[u8]) -> anyhow::Result<Option<Answer>> {
     match name {
         "AtomicI64" => replay_as::<AtomicI64>(alloc, input),
         "OnceLock<u16>" => replay_as::<OnceLock<u16>>(alloc, input),
         "Regex" => replay_as::<SavedRegex>(alloc, input),
+        "Value" => replay_as::<Value>(alloc, input),
         _ => joined(alloc, name, input),
     }
 }

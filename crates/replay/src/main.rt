@@ -6,6 +6,7 @@ pub mod answers;
 pub mod blobs;
 pub mod carried;
 pub mod counts;
+pub mod deep;
 pub mod lengths;
 pub mod lines;
 pub mod plain;
