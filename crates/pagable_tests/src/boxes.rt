@@ -1,7 +1,9 @@
 //! A value is read into a box.
 
 use crate::equal::equal;
-use pagable::{Error, NoReferences, PagableBoxDeserialize, PagableDeserializerImpl, WeighHash};
+use pagable::{
+    Error, NoReferences, PagableBoxDeserialize, PagableDeserializerImpl, SessionContext, WeighHash,
+};
 use pagable_samples::TextEnv;
 use std::alloc::Global;
 
@@ -13,7 +15,8 @@ fn boxed<'de, T: PagableBoxDeserialize<'de, AnyEnv>>(
     input: &'de [u8],
 ) -> Result<Box<T>, Error> {
     let env = AnyEnv::new();
-    let mut source = PagableDeserializerImpl::new(input, &[], NoReferences::new(&env));
+    let session = SessionContext::new(alloc);
+    let mut source = PagableDeserializerImpl::new(input, &[], NoReferences::new(&env, &session));
     T::deserialize_box(alloc, &mut source)
 }
 

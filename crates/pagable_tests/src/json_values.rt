@@ -4,7 +4,7 @@
 use crate::equal::equal;
 use pagable::{
     Error, NoReferences, PagableDeserialize, PagableDeserializerImpl, PagableSerialize,
-    PagableSerializerImpl, WeighHash,
+    PagableSerializerImpl, SessionContext, WeighHash,
 };
 use pagable_samples::TextEnv;
 use serde_json::Value;
@@ -36,7 +36,8 @@ fn is_written_as(alloc: Global, text: &str, wanted: Result<&[u8], Error>) -> boo
 /// Why no value is read from these bytes; None where one is.
 fn refusal_of(alloc: Global, bytes: &[u8]) -> Option<Error> {
     let env = AnyEnv::new();
-    let mut source = PagableDeserializerImpl::new(bytes, &[], NoReferences::new(&env));
+    let session = SessionContext::new(alloc);
+    let mut source = PagableDeserializerImpl::new(bytes, &[], NoReferences::new(&env, &session));
     <Value as PagableDeserialize<'_, AnyEnv>>::pagable_deserialize(alloc, &mut source).err()
 }
 

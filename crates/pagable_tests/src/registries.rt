@@ -1,4 +1,4 @@
-//! Registries of static values and of tagged values, a type that has both, and a session's map. The indices and bytes were
+//! Registries of static values and of tagged values, a type that has both. The indices and bytes were
 //! worked out by hand. The worked rows of `vectors` have more of them.
 
 use crate::equal::equal;
@@ -43,7 +43,8 @@ fn read<'de, E: Env, T: PagableDeserialize<'de, E>>(
     env: &E,
     input: &'de [u8],
 ) -> Result<T, Error> {
-    let mut source = PagableDeserializerImpl::new(input, &[], NoReferences::new(env));
+    let session = SessionContext::new(alloc);
+    let mut source = PagableDeserializerImpl::new(input, &[], NoReferences::new(env, &session));
     T::pagable_deserialize(alloc, &mut source)
 }
 
@@ -147,14 +148,4 @@ fn a_type_holds_both(rt: HostRuntime) -> Result<(), Fail> {
         equal(&rt, refused, Err(refusal), "a faulty sighting");
     }
     Ok(())
-}
-
-#[test]
-fn a_session_keeps_its_values(rt: HostRuntime) {
-    let session: SessionContext<u8, u8> = SessionContext::new(rt.alloc());
-    equal(&rt, session.get(&rt, &3), Ok(None), "nothing yet");
-    equal(&rt, session.get_or_insert_with(&rt, 3, || 1), Ok(1), "made");
-    equal(&rt, session.set(&rt, 3, 2), Ok(()), "set");
-    equal(&rt, session.get(&rt, &3), Ok(Some(2)), "what was set");
-    equal(&rt, session.get_or_insert_with(&rt, 3, || 9), Ok(2), "kept");
 }

@@ -71,7 +71,12 @@ fn in_two_threads<R: Threads + Wait + Sync>(rt: &R, names: &Names) -> [Option<u3
 fn two_threads_see_one_session(rt: HostRuntime) {
     let names = Names::default(rt.alloc());
     let seen = in_two_threads(&rt, &names);
-    equal(&rt, seen, [Some(1), Some(1), Some(1), Some(2)], "two threads");
+    equal(
+        &rt,
+        seen,
+        [Some(1), Some(1), Some(1), Some(2)],
+        "two threads",
+    );
 }
 
 /// What a serializer's session has for a name.
@@ -80,7 +85,10 @@ fn through_serializer<S: PagableSerializer<Naming>, R: Wait>(rt: &R, out: &S) ->
 }
 
 /// What a deserializer's session has for a name.
-fn through_deserializer<D: PagableDeserializer<Naming>, R: Wait>(rt: &R, source: &D) -> Option<u32> {
+fn through_deserializer<D: PagableDeserializer<Naming>, R: Wait>(
+    rt: &R,
+    source: &D,
+) -> Option<u32> {
     found(rt, source.session_context(), 7)
 }
 
