@@ -1,5 +1,5 @@
 //! Tests of the crates below that are no data: cursors of readers and writers, byte arrays, second readings, boxes, cells,
-//! references, registries, types of one's own, eager ones among them, sessions, JSON values that are written, regular
+//! references, registries, types of one's own, sessions, JSON values that are written, regular
 //! expressions, laws, the pager's calls, and lists of events on the machine.
 #![tactic(auto)]
 
@@ -15,8 +15,6 @@ mod calls;
 mod cells;
 #[cfg(test)]
 mod cursors;
-#[cfg(test)]
-mod eager;
 #[cfg(test)]
 mod equal;
 #[cfg(test)]
