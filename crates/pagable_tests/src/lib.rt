@@ -1,6 +1,6 @@
 //! Tests of the crates below that are no data: cursors of readers and writers, byte arrays, second readings, boxes, cells,
-//! references, registries, types of one's own, sessions, JSON values that are written, regular
-//! expressions, laws, the pager's calls, and lists of events on the machine.
+//! references, registries, types of one's own, sessions, JSON values that are written, regular expressions, laws, the pager's
+//! calls, and lists of events on the machine.
 #![tactic(auto)]
 
 #[cfg(test)]

@@ -1,5 +1,5 @@
-//! Registries of static values and of tagged values, a type that has both. The indices and bytes were
-//! worked out by hand. The worked rows of `vectors` have more of them.
+//! Registries of static values and of tagged values, and a type that has both. The indices and bytes were worked out by
+//! hand. The worked rows of `vectors` have more of them.
 
 use crate::equal::equal;
 use pagable::{
