@@ -1,5 +1,5 @@
 -- What the parts of a load's step do.
-use Rattle.std.proofs.Common.{◌≡◌, ℕ, ◌≤◌, List, [], ◌∷◌, ◌++◌, map, Some, None, Result, Ok, Err, refl, ap, sym, ◌∙◌, subst, arith, inl, inr}
+use Rattle.std.proofs.Common.{◌≡◌, ℕ, ◌≤◌, List, [], ◌∷◌, ◌++◌, map, Some, None, Result, Ok, Err, OnOk, refl, ap, sym, ◌∙◌, subst, arith, inl, inr}
 use Rattle.pagable_model.specs.declared.error.Error.{Error}
 use Rattle.pagable_model.specs.declared.error.Error.TheVariants as errors
 use Rattle.pagable_model.specs.declared.numbers.ArcRef.{ArcRef}
@@ -38,6 +38,15 @@ same-machine m old new world storage = rw (world, storage) refl
 pub leads : {N S E : Type 0} (g : Sight N S E) (old new : Shown N S E) (P : TodayWorld → Type 0) (Q : TodayWorld → TodayWorld → Type 0) → EachWorld g old new P Q → LeadsIf g P old new
 leads g old new P Q each w rep asks =
     let next = each w rep asks in
+    (next.0, tt, next.2, next.3)
+
+-- what is asked where a call succeeds may be asked in any case
+pub leads-where-ok : {N S E X Y : Type 0} (g : Sight N S E) (old new : Shown N S E) (r : Result X Y) (P : TodayWorld → Type 0) (Q : TodayWorld → TodayWorld → Type 0) → EachWorld g old new (λ w. OnOk r (P w)) Q → LeadsIf g P old new
+leads-where-ok g old new (Ok k) P Q each w rep asks =
+    let next = each w rep asks in
+    (next.0, tt, next.2, next.3)
+leads-where-ok g old new (Err e) P Q each w rep asks =
+    let next = each w rep tt in
     (next.0, tt, next.2, next.3)
 
 -- one after another, where the first leaves the tables as they were

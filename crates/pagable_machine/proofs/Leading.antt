@@ -1,11 +1,12 @@
 -- What each call does to a world with trees.
-use Rattle.std.proofs.Common.{◌≡◌, ℕ, ◌+◌, List, [], ◌∷◌, ◌++◌, refl, ap, sym, ◌∙◌, subst, arith, Ok, Err, Result, OnOk, OnErr}
+use Rattle.std.proofs.Common.{◌≡◌, ℕ, ◌+◌, List, [], ◌∷◌, ◌++◌, refl, ap, sym, ◌∙◌, subst, arith, Ok, Err, Result, OnOk, OnErr, Option}
 use Rattle.std.specs.Prelude.{◌==◌, if◌then◌else◌}
 use Rattle.std.proofs.lemmas.Bool.Decides.{nat_tests}
 use Rattle.std.proofs.lemmas.List.Sums.{sum_by-cons}
 use Rattle.pagable_model.specs.declared.error.Error.{Error}
 use Rattle.pagable_model.specs.declared.numbers.ArcRef.{ArcRef}
 use Rattle.pagable_model.specs.declared.numbers.HandleNumber.{HandleNumber}
+use Rattle.pagable_model.specs.declared.numbers.LoadNumber.{LoadNumber}
 use Rattle.pagable_model.specs.Meaning.{Meaning, number, integer, text, pattern, none, pair, variant, reference, followed, rename, plain, lifted}
 use Rattle.pagable_model.specs.Trees.{Tree, tree}
 use Rattle.pagable_model.specs.References.{references_in, SameHandles}
@@ -15,7 +16,7 @@ use Rattle.pagable_world.specs.declared.rows.Mode.{Mode}
 use Rattle.pagable_world.specs.World.{World}
 use Rattle.pagable_world.specs.World.{plain as plain_world}
 use Rattle.pagable_world.specs.Stands.{SameTrees}
-use Rattle.pagable_world.specs.TodayTrees.{Sight, TodayWorld, RepresentsToday, BirthOf, AwayBirthOf, MeansTree, CellFits, KeyReads}
+use Rattle.pagable_world.specs.TodayTrees.{Sight, TodayWorld, RepresentsToday, EachWorld, ReadFits, BirthOf, AwayBirthOf, MeansTree, CellFits, KeyReads}
 use Rattle.pagable_world.specs.declared.machine.MachineCall.TheVariants as calls
 use Rattle.pagable_world.specs.declared.calls.Reply.TheVariants as replies
 use Rattle.pagable_world.specs.declared.rows.Mode.TheVariants as modes
@@ -109,3 +110,13 @@ away-leads m old new t key (Ok k) born step same w rep (it, typed, reads) =
 away-leads m old new t key (Err e) born step same w rep asks =
     let unchanged : Unchanged old new = record { world = step.1; values = same.values; storage = same.storage; env = same.env } in
     (w, record { keeps = λ n made. refl; fixes = tt; stands = unchanged-stands m.sight old new w unchanged rep })
+
+-- a load ends
+pub end-leads : {N S E B C : Type 0} (m : MachineSight N S E B C) (old new : Shown N S E) (l : LoadNumber) (x : N) (r : Result HandleNumber (Error × Option N)) (Q : TodayWorld → TodayWorld → Type 0) → EachWorld m.sight old new (λ w. OnOk r (ReadFits m.sight l x w)) Q
+    → LeadsOn m old (calls.LoadEnd l x) (replies.LoadEnded r) new
+end-leads m old new l x (Ok k) Q each w rep asks =
+    let next = each w rep asks in
+    (next.0, record { keeps = next.2; fixes = tt; stands = next.3 })
+end-leads m old new l x (Err e) Q each w rep asks =
+    let next = each w rep tt in
+    (next.0, record { keeps = next.2; fixes = tt; stands = next.3 })

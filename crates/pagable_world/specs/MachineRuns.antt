@@ -51,12 +51,13 @@ AreEventSteps m v [] = Unit {0}
 AreEventSteps m v (x ∷ xs) = EventDoes m v.pager.env (event_world_of m v) x.event x.reply (event_world_of m x.after) × IsWholeDriven m x.after × AreEventSteps m x.after xs
 
 -- What is asked of a call: the key of a new cell reads as some tree of its type, a key that is set reads as the tree of its
--- node, and a value that ends a load means the tree of the load's node.
-abbrev pub AsksWellToday : {N S E B C : Type 0} → MachineSight N S E B C → Shown N S E → TodayWorld → MachineCall N B → Type 0
-AsksWellToday m v w (calls.NewPagedOut t key) = (it : Tree) × (t ≡ it.type) × KeyReads m.sight v key it
-AsksWellToday m v w (calls.SetDataKey h key) = SetKeyFits m.sight v h key w
-AsksWellToday m v w (calls.LoadEnd l x) = ReadFits m.sight l x w
-AsksWellToday m v w call = Unit {0}
+-- node, and a value that ends a load means the tree of the load's node. Of a call that is refused nothing is asked: a key is
+-- looked at only for a handle of the caller's own, which a refused call hasn't.
+abbrev pub AsksWellToday : {N S E B C : Type 0} → MachineSight N S E B C → Shown N S E → TodayWorld → MachineCall N B → Reply N C → Type 0
+AsksWellToday m v w (calls.NewPagedOut t key) (replies.Handle (Ok k)) = (it : Tree) × (t ≡ it.type) × KeyReads m.sight v key it
+AsksWellToday m v w (calls.SetDataKey h key) reply = SetKeyFits m.sight v h key w
+AsksWellToday m v w (calls.LoadEnd l x) (replies.LoadEnded (Ok k)) = ReadFits m.sight l x w
+AsksWellToday m v w call reply = Unit {0}
 
 -- a new node's tree is what the value means that was handed in, or what its key reads as
 abbrev pub FixesNewTree : {N S E B C : Type 0} → MachineSight N S E B C → Shown N S E → TodayWorld → MachineCall N B → Reply N C → TodayWorld → Type 0
@@ -73,12 +74,12 @@ pub record NextWorld {N S E B C : Type 0} (m : MachineSight N S E B C) (v : Show
 
 -- what one call does to a world with trees, if what it asks is so
 abbrev pub LeadsOn : {N S E B C : Type 0} → MachineSight N S E B C → Shown N S E → MachineCall N B → Reply N C → Shown N S E → Type 0
-LeadsOn m v call reply v' = (w : TodayWorld) → RepresentsToday m.sight v w → AsksWellToday m v w call → (w' : TodayWorld) × NextWorld m v w call reply v' w'
+LeadsOn m v call reply v' = (w : TodayWorld) → RepresentsToday m.sight v w → AsksWellToday m v w call reply → (w' : TodayWorld) × NextWorld m v w call reply v' w'
 
 -- what is asked of an event: of a call as of the call; nothing of a load that the machine reads by steps
-abbrev pub AsksWellEvent : {N S E B C : Type 0} → EventSight N S E B C → Driven N S E → TodayWorld → MachineEvent N B → Type 0
-AsksWellEvent m v w (events.Call call) = AsksWellToday m.machine v.pager w call
-AsksWellEvent m v w event = Unit {0}
+abbrev pub AsksWellEvent : {N S E B C : Type 0} → EventSight N S E B C → Driven N S E → TodayWorld → MachineEvent N B → EventReply N C (Unit {0}) → Type 0
+AsksWellEvent m v w (events.Call call) (answers.CallReply r) = AsksWellToday m.machine v.pager w call r
+AsksWellEvent m v w event reply = Unit {0}
 
 -- a new node's tree; a load makes no node
 abbrev pub FixesTreeToday : {N S E B C : Type 0} → EventSight N S E B C → Driven N S E → TodayWorld → MachineEvent N B → EventReply N C (Unit {0}) → TodayWorld → Type 0
@@ -93,12 +94,12 @@ pub record WorldAfter {N S E B C : Type 0} (m : EventSight N S E B C) (v : Drive
 
 -- what one event does to a world with trees, if what it asks is so
 abbrev pub EventLeadsOn : {N S E B C : Type 0} → EventSight N S E B C → Driven N S E → MachineEvent N B → EventReply N C (Unit {0}) → Driven N S E → Type 0
-EventLeadsOn m v event reply v' = (w : TodayWorld) → RepresentsToday m.machine.sight v.pager w → AsksWellEvent m v w event → (w' : TodayWorld) × WorldAfter m v w event reply v' w'
+EventLeadsOn m v event reply v' = (w : TodayWorld) → RepresentsToday m.machine.sight v.pager w → AsksWellEvent m v w event reply → (w' : TodayWorld) × WorldAfter m v w event reply v' w'
 
 -- worlds with trees, one after another, as long as what the events ask is so
 abbrev pub TreesAlong : {N S E B C : Type 0} → EventSight N S E B C → Driven N S E → TodayWorld → List (MachineMoment N S E B C) → Type 0
 TreesAlong m v w [] = Unit {0}
-TreesAlong m v w (x ∷ xs) = AsksWellEvent m v w x.event → (w' : TodayWorld) × WorldAfter m v w x.event x.reply x.after w' × TreesAlong m x.after w' xs
+TreesAlong m v w (x ∷ xs) = AsksWellEvent m v w x.event x.reply → (w' : TodayWorld) × WorldAfter m v w x.event x.reply x.after w' × TreesAlong m x.after w' xs
 
 -- the machine after these moments
 abbrev pub driven_after : {N S E B C : Type 0} → Driven N S E → List (MachineMoment N S E B C) → Driven N S E

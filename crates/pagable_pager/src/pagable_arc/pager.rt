@@ -383,7 +383,7 @@ where
     ) -> Result<HandleNumber, (Error, Option<E::Node>)>
         ensures step { IfOk result (λ k. Ended (plain self.old.book) load (Ok k) (plain self.new.book)) }
         ensures alone { OnOk result (E.Node.refs_of node ≡ []) }
-        ensures trees { EachWorld (record { type_of = E.Node.type_of; means = E.Node.means; shape_of = E.Node.shape_of; parts = E.parts; stored = S.stored }) self.old self.new (ReadFits (record { type_of = E.Node.type_of; means = E.Node.means; shape_of = E.Node.shape_of; parts = E.parts; stored = S.stored }) load node) (λ w w'. EndedAs load result w.plain w'.plain) }
+        ensures trees { EachWorld (record { type_of = E.Node.type_of; means = E.Node.means; shape_of = E.Node.shape_of; parts = E.parts; stored = S.stored }) self.old self.new (λ w. OnOk result (ReadFits (record { type_of = E.Node.type_of; means = E.Node.means; shape_of = E.Node.shape_of; parts = E.parts; stored = S.stored }) load node w)) (λ w w'. EndedAs load result w.plain w'.plain) }
         ensures installs { OnOk result (InstallsValue E.Node.type_of load node self.old self.new) }
         ensures closed { IfErr result (λ e. IfNone e.1 (ClosedBy load e.0 self.old self.new)) }
         ensures back { IfErr result (λ e. IfSome e.1 (λ x. (x ≡ node) × Unchanged self.old self.new × StaysOpen E.Node.type_of E.Node.refs_of load node self.old e.0)) }

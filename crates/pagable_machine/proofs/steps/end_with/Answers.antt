@@ -1,6 +1,6 @@
 use Rattle.pagable_model.specs.Blob.{key_of}
 use Rattle.pagable_machine.proofs.Sights.{values-by, machine-by}
-use Rattle.pagable_machine.proofs.Closing.{closed-ends, open-ends, leads}
+use Rattle.pagable_machine.proofs.Closing.{closed-ends, open-ends, leads-where-ok}
 use Rattle.pagable_world.specs.TodayTrees.{ReadFits}
 use Rattle.std.proofs.Common.{rules}
 use Rattle.pagable_world.specs.LoadEnds.{EndedAs}
@@ -16,7 +16,7 @@ returns-in-Err-default-None-clause-does g c =
 pub returns-in-Err-default-None-clause-trees : goal.returns-in-Err-default-None-clause-trees
 returns-in-Err-default-None-clause-trees g c =
     let g-sight = values-by g.E.Node.NodeSet.type_of g.E.Node.NodeSet.means g.E.Node.NodeSet.shape_of g.E.Env.parts g.S.PagableStorage.stored in
-    leads g-sight c.args.pager.now c.load_end.new.self (ReadFits g-sight c.args.load c.args.value) (λ w w'. EndedAs c.args.load c.load_end.result w.plain w'.plain) c.load_end.ensures.trees
+    leads-where-ok g-sight c.args.pager.now c.load_end.new.self c.load_end.result (ReadFits g-sight c.args.load c.args.value) (λ w w'. EndedAs c.args.load c.load_end.result w.plain w'.plain) c.load_end.ensures.trees
 
 pub returns-clause-does : goal.returns-clause-does
 returns-clause-does g c =
