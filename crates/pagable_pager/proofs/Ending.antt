@@ -1,6 +1,7 @@
 -- What the end of a load does to the values.
 use Rattle.std.proofs.Common.{◌≡◌, ℕ, ◌<◌, Bool, true, false, sym, subst, arith, refl, inl, inr, Err}
-use Rattle.std.specs.Prelude.{not}
+use Rattle.std.specs.Prelude.{not, IfErr, IfNone, Option, Some, None, Result, Ok}
+use Rattle.pagable_model.specs.declared.error.Error.{Error}
 use Rattle.pagable_model.specs.declared.numbers.LoadNumber.{LoadNumber}
 use Rattle.pagable_model.specs.declared.numbers.NodeNumber.{NodeNumber}
 use Rattle.pagable_world.specs.State.{State}
@@ -46,3 +47,9 @@ was-closed false h = absurd (cc)
 -- a refusal that closed the load
 pub closed-step : (w w' : World) (load : LoadNumber) (refusal : EndRefusal) → not refusal.closed ≡ false → Ended w load (Err refusal) w' → Ended w load (Err (record { error = refusal.error; closed = true })) w'
 closed-step w w' load refusal closed step = let P : Bool → Type 0 = λ b. Ended w load (Err (record { error = refusal.error; closed = b })) w' in subst P (was-closed refusal.closed closed) step
+
+-- what is so anyway, is so where a value didn't come back
+pub so-anyway : {X N P : Type 0} (r : Result X (Error × Option N)) → P → IfErr r (λ e. IfNone e.1 P)
+so-anyway (Ok k) is = tt
+so-anyway (Err (e, None)) is = is
+so-anyway (Err (e, Some x)) is = tt

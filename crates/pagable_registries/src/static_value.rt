@@ -10,9 +10,9 @@ ghost use Rattle.pagable_model.specs.Basic.{longest};
 ghost use Rattle.pagable_model.specs.Canonical.{HasNoReference};
 ghost use Rattle.pagable_model.specs.Gives.{Gives, never, memory_or};
 ghost use Rattle.pagable_model.specs.Meaning.{Meaning, lifted};
-ghost use Rattle.pagable_model.specs.Reading.{registered};
+ghost use Rattle.pagable_model.specs.Reading.{read, registered};
 ghost use Rattle.pagable_model.specs.Shape.{static_value};
-ghost use Rattle.pagable_model.specs.Standing.{Is};
+ghost use Rattle.pagable_model.specs.Standing.{handles_at, GivesSome, Is, MovesOn};
 ghost use Rattle.pagable_model.specs.Writing.{nesting, WritesSome, Refused, IsRefusal, Grows};
 ghost use Rattle.pagable_model.specs.Lengths.{long_or_memory};
 ghost use Rattle.pagable_model.specs.Causes.{never_is_own_reading, memory_or_is_own_writing};
@@ -351,10 +351,19 @@ impl<'de, E: Env, T: HasStaticValueRegistry<E>> PagableDeserialize<'de, E> for S
 
     ghost read_causes_are_own = { never_is_own_reading };
 
+    /// Reads an index, and gives the value that the environment's registry has under it, with that index: so it can be
+    /// written again. BadStaticIndex where there is none.
     fn pagable_deserialize<D: PagableDeserializer<E>>(
         _alloc: Global,
         deserializer: &mut D,
-    ) -> Result<Self, Error> {
+    ) -> Result<Self, Error>
+        ensures gives { GivesSome never (Is (λ v. lifted (T.plain v.0.value))) (D.rest deserializer.new) result
+            (read (handles_at (D.levels deserializer.old) (E.parts (D.environment deserializer.old))) (static_value (meanings_of T.plain (T.known (D.environment deserializer.old)))) (D.rest deserializer.old)) }
+        ensures moves { MovesOn (D.standing deserializer.old) (D.standing deserializer.new) }
+        ensures same_env { D.environment deserializer.new ≡ D.environment deserializer.old }
+        ensures same_levels { D.levels deserializer.new ≡ D.levels deserializer.old }
+        ensures stands { IfOk result (λ v. StandsAt T.plain (T.known (D.environment deserializer.old)) v.0.value v.0.index) }
+    {
         let index = deserializer.serde().read_u32()?;
         let value = registered_value::<E, T>(index, deserializer.env())?;
         Ok(value)

@@ -5,7 +5,7 @@ ghost use Rattle.std.specs.Arc.{arc_value};
 ghost use Rattle.pagable_model.specs.Blob.{key_of};
 ghost use Rattle.pagable_core.specs.Data.{blob_of};
 ghost use Rattle.pagable_model.specs.Stored.{Adds, RefusesFetch, RefusesStore};
-ghost use Rattle.pagable_world.specs.State.{WellFormed, is_node};
+ghost use Rattle.pagable_world.specs.State.{WellFormed};
 ghost use Rattle.pagable_world.specs.Cells.{Cell};
 ghost use Rattle.pagable_world.specs.World.{plain, born, HasCell};
 ghost use Rattle.pagable_world.specs.Refusals.{IsOwn, IsUnknown};
@@ -16,6 +16,7 @@ ghost use Rattle.pagable_world.specs.InStep.{InStep, kept};
 ghost use Rattle.pagable_world.specs.Lending.{IsLent, PinsNothing};
 ghost use Rattle.pagable_world.specs.LoadEnds.{ClosedBy, EndedAs, FitsLoad, InstallsValue, LoadFetched, StaysOpen};
 ghost use Rattle.pagable_world.specs.Births.{RefusesNew};
+ghost use Rattle.pagable_pager.specs.Ends.{MayEnd};
 ghost use Rattle.pagable_world.specs.declared.rows.HandleRow.{HandleRow};
 ghost use Rattle.pagable_world.specs.TodayTrees.{Always, AwayBirthOf, BirthOf, EachWorld, SetKeyFits, LendsTree, ReadFits, Sight, StandsEmpty};
 
@@ -373,8 +374,8 @@ where
     /// Ends a load with the value that was read: installs it where the cell has none, pins the handle by which the load
     /// was begun, and answers the new Pinned handle. The value comes back exactly where the load stays open: refused
     /// with NoSuchHandle where no such load is open or the value holds references, WrongKind where it is of another
-    /// type, NumbersSpent and OutOfMemory. Where the handle is gone or isn't the caller's any more, NoSuchHandle or
-    /// NotYours: the value is dropped and the load is closed.
+    /// type, NumbersSpent and OutOfMemory. Where the value could end the load, and the handle is gone or isn't the
+    /// caller's any more, NoSuchHandle or NotYours: the value is dropped and the load is closed.
     pub fn load_end(
         &mut self,
         alloc: Global,
@@ -386,6 +387,7 @@ where
         ensures trees { EachWorld (record { type_of = E.Node.type_of; means = E.Node.means; shape_of = E.Node.shape_of; parts = E.parts; stored = S.stored }) self.old self.new (λ w. OnOk result (ReadFits (record { type_of = E.Node.type_of; means = E.Node.means; shape_of = E.Node.shape_of; parts = E.parts; stored = S.stored }) load node w)) (λ w w'. EndedAs load result w.plain w'.plain) }
         ensures installs { OnOk result (InstallsValue E.Node.type_of load node self.old self.new) }
         ensures closed { IfErr result (λ e. IfNone e.1 (ClosedBy load e.0 self.old self.new)) }
+        ensures looked { IfErr result (λ e. IfNone e.1 (MayEnd E.Node.type_of E.Node.refs_of load node self.old.book)) }
         ensures back { IfErr result (λ e. IfSome e.1 (λ x. (x ≡ node) × Unchanged self.old self.new × StaysOpen E.Node.type_of E.Node.refs_of load node self.old e.0)) }
         ensures same { SameStore self.old self.new }
     {

@@ -61,3 +61,8 @@ returns-clause-same_env g c = g.met.D.PagableDeserializer.environment_of_with c.
 
 pub returns-clause-same_levels : goal.returns-clause-same_levels
 returns-clause-same_levels g c = g.met.D.PagableDeserializer.levels_of_with c.args.deserializer.now c.read_u32.new.self
+
+pub returns-clause-stands : goal.returns-clause-stands
+returns-clause-stands g c =
+    let law = g.met.D.PagableDeserializer in
+    rw c.in_ok-value.ensures.same_index (rw (c.env.ensures, law.environment_of_with c.args.deserializer.now c.read_u32.new.self) at c.in_ok-value.ensures.gives)
