@@ -1,10 +1,12 @@
 -- What the parts of a load's step do.
 use Rattle.std.proofs.Common.{◌≡◌, ℕ, ◌≤◌, List, [], ◌∷◌, ◌++◌, map, Some, None, Result, Ok, Err, OnOk, refl, ap, sym, ◌∙◌, subst, arith, inl, inr}
+use Rattle.std.specs.Prelude.{Option, IfOk, IfErr, IfNone, IfSome}
 use Rattle.pagable_model.specs.declared.error.Error.{Error}
 use Rattle.pagable_model.specs.declared.error.Error.TheVariants as errors
 use Rattle.pagable_model.specs.declared.numbers.ArcRef.{ArcRef}
 use Rattle.pagable_model.specs.declared.numbers.HandleNumber.{HandleNumber}
 use Rattle.pagable_model.specs.declared.numbers.LoadNumber.{LoadNumber}
+use Rattle.pagable_model.specs.declared.numbers.NodeNumber.{NodeNumber}
 use Rattle.pagable_model.specs.Stored.{RefusesFetch}
 use Rattle.pagable_world.specs.declared.rows.LoadRow.{LoadRow}
 use Rattle.pagable_world.specs.declared.events.LoadAnswer.TheVariants as ends
@@ -13,9 +15,9 @@ use Rattle.pagable_world.specs.State.{WellFormed}
 use Rattle.pagable_world.specs.World.{World, plain, HasCell, Closes}
 use Rattle.pagable_world.specs.Calls.{HasLoad, LoadTypeIs, Ended, Dropped}
 use Rattle.pagable_world.specs.Shown.{Shown, SameStore, Unchanged}
-use Rattle.pagable_world.specs.LoadEnds.{ClosedBy, StaysOpen}
+use Rattle.pagable_world.specs.LoadEnds.{ClosedBy, InstallsValue, StaysOpen}
 use Rattle.pagable_world.specs.TodayTrees.{Sight, TodayWorld, RepresentsToday, EachWorld, Always}
-use Rattle.pagable_world.specs.MachineSteps.{MachineSight, MachineWorld, world_of, OnlyTables, OnlyFailures}
+use Rattle.pagable_world.specs.MachineSteps.{MachineSight, MachineWorld, world_of, OnlyTables, OnlyFailures, EndsLoad}
 use Rattle.pagable_world.specs.LoadMoves.{FetchedRoot, EventSight, NoPinLeft, StepFetches}
 use Rattle.pagable_machine.specs.Moves.{EachLoad, LeadsIf, ClosesOnly, GetsRoot, FetchesRoot, EndsWith}
 use Rattle.pagable_machine.specs.declared.fetched.FetchedBlob.{FetchedBlob}
@@ -121,6 +123,15 @@ map-more f (y ∷ ys) x = ap (λ zs. f y ∷ zs) (map-more f ys x)
 -- one row more
 pub kept-more : (before mid after : List FetchedBlob) (x : FetchedBlob) → after ≡ mid ++ x ∷ [] → mid ≡ before → map fetched_of after ≡ map fetched_of before ++ fetched_of x ∷ []
 kept-more before mid after x grows same = ap (map fetched_of) grows ∙ map-more fetched_of mid x ∙ ap (λ (rows : List FetchedBlob). map fetched_of rows ++ fetched_of x ∷ []) same
+
+-- the end of a load, by what the pager says of it
+pub load-ends : {N S E B C : Type 0} (m : MachineSight N S E B C) (old new : Shown N S E) (l : LoadNumber) (x : N) (r : Result HandleNumber (Error × Option N)) → IfOk r (λ k. Ended (plain old.book) l (Ok k) (plain new.book)) → OnOk r (m.references x ≡ []) → OnOk r (InstallsValue m.sight.type_of l x old new)
+    → IfErr r (λ e. IfNone e.1 (ClosedBy l e.0 old new)) → IfErr r (λ e. IfSome e.1 (λ y. (y ≡ x) × Unchanged old new × StaysOpen m.sight.type_of m.references l x old e.0)) → SameStore old new → EndsLoad m (world_of m old) l x r (world_of m new)
+load-ends m old new l x (Ok k) step alone (number, (p, row, cell, has, is, at, typed), installs) closed back same =
+    let P : NodeNumber → Type 0 = λ n. HasCell (plain old.book) n cell in
+    ((p, row, cell, has, subst P (sym is) at, typed), alone, step, only-tables m old new same)
+load-ends m old new l x (Err (e, None)) step alone installs closed back same = (closed.0, only-tables m old new same)
+load-ends m old new l x (Err (e, Some y)) step alone installs closed back same = (back.0, back.2, same-machine m old new back.1.world back.1.storage)
 
 -- ---- the end
 

@@ -81,7 +81,8 @@ where
     /// Replies and machines are a run of the plain world: each event is one step of it, after each the tables are whole and
     /// a value is in memory exactly while its node is pinned or has no key, and counts are numbers of pinning handles. From
     /// each world with trees that the pager stood for, the run leads on through worlds in which every node keeps its tree,
-    /// as long as keys that are set or given, and values that are handed to the end of a load, are what the call asks for.
+    /// as long as keys that are set or given, and values that are handed to the end of a load, are what the call asks for. A
+    /// call that is refused asks for nothing.
     /// A load that the machine reads by steps asks nothing.
     pub fn run(
         &mut self,
