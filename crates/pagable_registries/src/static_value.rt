@@ -134,12 +134,18 @@ impl<T> Deref for StaticValue<T> {
 }
 
 impl<T: fmt::Display> fmt::Display for StaticValue<T> {
+    ghost output = { λ v. T.output v.0.value };
+
+    ghost styled_output = { λ v. T.styled_output v.0.value };
+
     fn fmt<W: fmt::Write>(&self, f: &mut fmt::Formatter<W>) -> fmt::Result {
         fmt::Display::fmt(&self.0.value, f)
     }
 }
 
 impl<T: fmt::Debug> fmt::Debug for StaticValue<T> {
+    ghost debug_output = { λ v. T.debug_output v.0.value };
+
     fn fmt<W: fmt::Write>(&self, f: &mut fmt::Formatter<W>) -> fmt::Result {
         fmt::Debug::fmt(&self.0.value, f)
     }
