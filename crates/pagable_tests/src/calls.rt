@@ -6,11 +6,11 @@ use pagable::{
     OptionalDataKey, PagableData, Pager, Pinning, Want, WeighHash,
 };
 use pagable_samples::{FailingStorage, TextEnv, TextNode, paging};
-use std::alloc::{AllocError, Global};
+use std::alloc::Global;
 
-type Blobs = InMemoryBlobs<TextEnv<WeighHash>>;
+pub type TextStorage = FailingStorage<InMemoryBlobs<TextEnv<WeighHash>>>;
 
-pub type TextPager = Pager<TextEnv<WeighHash>, FailingStorage<Blobs>>;
+pub type TextPager = Pager<TextEnv<WeighHash>, TextStorage>;
 
 /// A call of the pager.
 #[derive(Clone, Copy)]
@@ -42,13 +42,28 @@ pub enum Call {
     LoadDrop(LoadNumber),
 }
 
-/// What a call answers.
-#[derive(PartialEq, Drop)]
+/// Why a call is refused.
+#[derive(Clone, Copy, PartialEq)]
+pub enum Refusal {
+    NoSuchHandle,
+    WrongMode,
+    NotYours,
+    /// No blob stands under the key of this number.
+    NoData(u128),
+    /// The storage failed with this code.
+    Storage(u32),
+    /// Another refusal, by its number.
+    Other(u32),
+}
+
+/// What a call answers. It holds no memory, so that a table of calls and answers can be a `static`: as an array in the test's
+/// own function, or a vector, it would cost the check about ten times as much.
+#[derive(Clone, Copy, PartialEq)]
 pub enum Answer {
     Done,
-    Refused(Error),
+    Refused(Refusal),
     /// A load that couldn't end, and whether the value came back.
-    EndRefused(Error, bool),
+    EndRefused(Refusal, bool),
     Handle(HandleNumber),
     NoHandle,
     NeedsLoad(u128),
@@ -59,7 +74,7 @@ pub enum Answer {
     IsTrue(bool),
     Node(NodeNumber),
     NodeType(Option<u32>),
-    Text(String),
+    Text(&'static str),
     NoText,
     Pending(usize),
     /// A blob of this many bytes.
@@ -72,15 +87,30 @@ pub fn empty(alloc: Global, calls_before: u64) -> TextPager {
     Pager::new(alloc, storage, TextEnv::new())
 }
 
-/// A text as an answer.
-pub fn text(alloc: Global, text: &str) -> Result<Answer, AllocError> {
-    Ok(Answer::Text(String::from_str(alloc, text)?))
+/// The text of most cells.
+pub const HELLO: &str = "hello world";
+
+/// The text of a cell as an answer. The tables want no other one.
+fn text(found: &str) -> Answer {
+    Answer::Text(if found == HELLO { HELLO } else { "another" })
+}
+
+/// Why a call was refused.
+pub fn refusal_of(error: &Error) -> Refusal {
+    match error {
+        Error::NoSuchHandle => Refusal::NoSuchHandle,
+        Error::WrongMode => Refusal::WrongMode,
+        Error::NotYours => Refusal::NotYours,
+        Error::NoData(key) => Refusal::NoData(key.get()),
+        Error::Storage(code) => Refusal::Storage(*code),
+        other => Refusal::Other(other.number()),
+    }
 }
 
 fn done(outcome: Result<(), Error>) -> Answer {
     match outcome {
         Ok(()) => Answer::Done,
-        Err(refusal) => Answer::Refused(refusal),
+        Err(error) => Answer::Refused(refusal_of(&error)),
     }
 }
 
@@ -92,7 +122,7 @@ fn key_number(key: OptionalDataKey) -> Option<u128> {
 }
 
 /// Makes a call that only looks, and answers None for another one.
-fn look(alloc: Global, pager: &TextPager, call: Call) -> Result<Option<Answer>, Error> {
+fn look(pager: &TextPager, call: Call) -> Result<Option<Answer>, Error> {
     let answer = match call {
         Call::Count(handle) => Answer::Count(pager.count(handle)?),
         Call::Key(handle) => Answer::Key(key_number(pager.key(handle)?)),
@@ -100,7 +130,7 @@ fn look(alloc: Global, pager: &TextPager, call: Call) -> Result<Option<Answer>, 
         Call::NodeOf(handle) => Answer::Node(pager.node_of(handle)?),
         Call::NodeLive(node) => Answer::NodeType(pager.node_live(node)),
         Call::Value(handle) => match pager.value(handle)? {
-            Some(node) => text(alloc, node.as_str())?,
+            Some(node) => text(node.as_str()),
             None => Answer::NoText,
         },
         Call::Pending => Answer::Pending(pager.pending()),
@@ -118,7 +148,7 @@ fn load_end(
     let node = TextNode::new(alloc, text)?;
     Ok(match pager.load_end(alloc, load, node) {
         Ok(pinned) => Answer::Handle(pinned),
-        Err((refusal, back)) => Answer::EndRefused(refusal, back.is_some()),
+        Err((error, back)) => Answer::EndRefused(refusal_of(&error), back.is_some()),
     })
 }
 
@@ -206,7 +236,7 @@ fn step(alloc: Global, pager: &mut TextPager, call: Call) -> Result<Option<Answe
 
 /// Makes the call, by the one of the four that knows it.
 fn try_call(alloc: Global, pager: &mut TextPager, call: Call) -> Result<Answer, Error> {
-    if let Some(answer) = look(alloc, pager, call)? {
+    if let Some(answer) = look(pager, call)? {
         return Ok(answer);
     }
     if let Some(answer) = read(alloc, pager, call)? {
@@ -222,6 +252,6 @@ fn try_call(alloc: Global, pager: &mut TextPager, call: Call) -> Result<Answer, 
 pub fn answer_to(alloc: Global, pager: &mut TextPager, call: Call) -> Answer {
     match try_call(alloc, pager, call) {
         Ok(answer) => answer,
-        Err(refusal) => Answer::Refused(refusal),
+        Err(error) => Answer::Refused(refusal_of(&error)),
     }
 }

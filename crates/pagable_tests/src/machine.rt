@@ -1,88 +1,41 @@
 //! Lists of events on a machine of texts. Numbers of handles are worked out by hand: they count from 1, and an entry of the
 //! list has a handle of its own.
 
-use crate::calls::{TextPager, empty};
+use crate::calls::{HELLO, Refusal, TextPager, TextStorage, empty, refusal_of};
 use pagable::{
-    Beginning, Error, EventReply, HandleNumber, InMemoryBlobs, LoadAnswer, LoadNumber, LoadReply,
-    Machine, MachineCall, MachineEvent, PagableData, Reply, WeighHash,
+    Beginning, Error, EventReply, HandleNumber, LoadAnswer, LoadNumber, LoadReply, Machine,
+    MachineCall, MachineEvent, PagableData, Reply, WeighHash,
 };
-use pagable_samples::{FailingStorage, TextEnv, TextNode, paging};
-use std::alloc::{AllocError, Global};
+use pagable_samples::{TextEnv, TextNode, paging};
+use std::alloc::Global;
+use std::process::Abort;
 use std::sync::Arc;
 use std::test::Fail;
 
-type TextStorage = FailingStorage<InMemoryBlobs<TextEnv<WeighHash>>>;
+type TextMachine = Machine<TextEnv<WeighHash>, TextStorage>;
 
-const FIRST: HandleNumber = HandleNumber(1);
+type TextEvent = MachineEvent<TextNode, PagableData>;
 
-const LOOSE: HandleNumber = HandleNumber(2);
+type TextReply = EventReply<TextNode, Arc<PagableData>, ()>;
 
-/// The list's first entry is the third handle.
-const CLONE: HandleNumber = HandleNumber(4);
-
-const PIN: HandleNumber = HandleNumber(5);
-
-/// What a run answered of counts and lengths, in their order.
-fn numbers(
-    alloc: Global,
-    replies: Vec<EventReply<TextNode, Arc<PagableData>, ()>>,
-) -> Result<Vec<u64>, AllocError> {
-    let mut numbers = Vec::new(alloc);
-    for reply in replies {
-        match reply {
-            EventReply::CallReply(Reply::Count(Ok(count))) => numbers.push(count)?,
-            EventReply::CallReply(Reply::Length(length)) => numbers.push(length)?,
-            _ => {}
-        }
-    }
-    Ok(numbers)
+/// An event of the machine's that holds no memory, so that a table of them is a constant.
+#[derive(Clone, Copy)]
+enum Event {
+    NewPinned(&'static str),
+    Clone(HandleNumber),
+    IntoPagable(HandleNumber),
+    Pin(HandleNumber),
+    Unpin(HandleNumber),
+    Release(HandleNumber),
+    Count(HandleNumber),
+    IsPagedOut(HandleNumber),
+    Pending,
+    LoadStart(HandleNumber),
+    LoadStep(LoadNumber),
 }
-
-#[test]
-fn clones_and_pins_are_counted(rt: HostRuntime) -> Result<(), Fail> {
-    let alloc = rt.alloc();
-    let mut machine = Machine::new(alloc, empty(alloc, u64::MAX));
-    let events = vec![in alloc;
-        MachineEvent::Call(MachineCall::NewPinned(TextNode::new(alloc, "x")?)),
-        MachineEvent::Call(MachineCall::Clone(FIRST)),
-        MachineEvent::Call(MachineCall::IntoPagable(LOOSE)),
-        MachineEvent::Call(MachineCall::Count(LOOSE)),
-        MachineEvent::Call(MachineCall::Unpin(LOOSE)),
-        MachineEvent::Call(MachineCall::Count(LOOSE)),
-        MachineEvent::Call(MachineCall::Release(FIRST)),
-        MachineEvent::Call(MachineCall::Count(LOOSE)),
-        MachineEvent::Call(MachineCall::Pending),
-        MachineEvent::Call(MachineCall::Clone(LOOSE)),
-        MachineEvent::Call(MachineCall::Count(LOOSE)),
-        MachineEvent::Call(MachineCall::Pin(CLONE)),
-        MachineEvent::Call(MachineCall::Count(LOOSE)),
-        MachineEvent::Call(MachineCall::Release(PIN)),
-        MachineEvent::Call(MachineCall::Count(LOOSE)),
-        MachineEvent::Call(MachineCall::Release(CLONE)),
-        MachineEvent::Call(MachineCall::Count(LOOSE)),
-        MachineEvent::Call(MachineCall::Pending),
-    ]?;
-    let made = events.len();
-    match machine.run(alloc, events) {
-        Ok(replies) => {
-            assert!(rt; replies.len() == made, "a reply for each event");
-            let numbers = numbers(alloc, replies)?;
-            assert!(rt;
-                numbers.as_slice() == [2, 1, 0, 1, 0, 2, 1, 0, 2].as_slice(),
-                "counts"
-            );
-        }
-        Err(_) => assert!(rt; false, "there is memory for the replies"),
-    }
-    assert!(rt; machine.pager().pending() == 2, "two entries");
-    Ok(())
-}
-
-/// The first load of a pager.
-const LOAD: LoadNumber = LoadNumber(1);
 
 /// What an event told.
-#[derive(PartialEq, Drop)]
+#[derive(Clone, Copy, PartialEq)]
 enum Told {
     /// A load has begun.
     Begun,
@@ -91,42 +44,89 @@ enum Told {
     /// The load ended with a pin.
     Pinned(u64),
     /// The load was refused and closed.
-    Refused(Error, u64),
+    Refused(Refusal, u64),
     /// There is no such load, and nothing is counted.
-    NotOpen(Error),
+    NotOpen(Refusal),
     /// How many handles pin the node.
     Count(u64),
     /// Whether the value has to be read first.
     Away(bool),
+    /// How many entries the list has.
+    Length(u64),
     /// Anything else.
     Other,
 }
 
+/// The machine's own event.
+fn event_of(alloc: Global, event: Event) -> Result<TextEvent, Error> {
+    let call = match event {
+        Event::LoadStart(handle) => return Ok(MachineEvent::LoadStart(handle)),
+        Event::LoadStep(load) => return Ok(MachineEvent::LoadStep(load)),
+        Event::NewPinned(text) => MachineCall::NewPinned(TextNode::new(alloc, text)?),
+        Event::Clone(handle) => MachineCall::Clone(handle),
+        Event::IntoPagable(handle) => MachineCall::IntoPagable(handle),
+        Event::Pin(handle) => MachineCall::Pin(handle),
+        Event::Unpin(handle) => MachineCall::Unpin(handle),
+        Event::Release(handle) => MachineCall::Release(handle),
+        Event::Count(handle) => MachineCall::Count(handle),
+        Event::IsPagedOut(handle) => MachineCall::IsPagedOut(handle),
+        Event::Pending => MachineCall::Pending,
+    };
+    Ok(MachineEvent::Call(call))
+}
+
 /// What a load's step told.
-fn moved(reply: LoadReply<TextNode>) -> Told {
-    let LoadReply { ended, steps } = reply;
-    match ended {
+fn moved(reply: &LoadReply<TextNode>) -> Told {
+    let steps = reply.steps;
+    match &reply.ended {
         None => Told::GoesOn(steps),
         Some(LoadAnswer::Pinned(_)) => Told::Pinned(steps),
-        Some(LoadAnswer::Refused(e)) => Told::Refused(e, steps),
+        Some(LoadAnswer::Refused(error)) => Told::Refused(refusal_of(error), steps),
         Some(LoadAnswer::Read(_)) => Told::Other,
     }
 }
 
 /// What an event told.
-fn told_by(reply: EventReply<TextNode, Arc<PagableData>, ()>) -> Told {
+fn told_by(reply: &TextReply) -> Told {
     match reply {
         EventReply::Started(Ok(Beginning::Load(_, _))) => Told::Begun,
         EventReply::LoadMoved(Ok(step)) => moved(step),
-        EventReply::LoadMoved(Err(e)) => Told::NotOpen(e),
-        EventReply::CallReply(Reply::Count(Ok(count))) => Told::Count(count),
-        EventReply::CallReply(Reply::Away(Ok(is_away))) => Told::Away(is_away),
+        EventReply::LoadMoved(Err(error)) => Told::NotOpen(refusal_of(error)),
+        EventReply::CallReply(Reply::Count(Ok(count))) => Told::Count(*count),
+        EventReply::CallReply(Reply::Away(Ok(is_away))) => Told::Away(*is_away),
+        EventReply::CallReply(Reply::Length(length)) => Told::Length(*length),
         _ => Told::Other,
     }
 }
 
+/// The events of a table.
+fn events_of(alloc: Global, rows: &[(Event, Told)]) -> Result<Vec<TextEvent>, Error> {
+    let mut events = Vec::new(alloc);
+    for (event, _) in rows {
+        events.push(event_of(alloc, *event)?)?;
+    }
+    Ok(events)
+}
+
+/// Fails the test unless the machine replies to the events of a table, in one list, as the table says.
+fn run(
+    rt: &impl Abort,
+    alloc: Global,
+    machine: &mut TextMachine,
+    rows: &[(Event, Told)],
+) -> Result<(), Fail> {
+    let Ok(replies) = machine.run(alloc, events_of(alloc, rows)?) else {
+        return Err(Fail::from("there is memory for the replies"));
+    };
+    assert!(rt; replies.len() == rows.len(), "a reply for each event");
+    for (place, (reply, row)) in replies.iter().zip(rows).enumerate() {
+        assert!(rt; told_by(reply) == row.1, "row {place} from 0");
+    }
+    Ok(())
+}
+
 /// A pager with one cell of this text, which is paged out, and whose storage fails once, after so many calls.
-fn paged_out(alloc: Global, text: &str, calls_before: u64) -> Result<Option<TextPager>, Fail> {
+fn paged_out(alloc: Global, text: &str, calls_before: u64) -> Result<Option<TextPager>, Error> {
     let mut pager = empty(alloc, calls_before);
     let Ok(first) = pager.new_loose(alloc, TextNode::new(alloc, text)?) else {
         return Ok(None);
@@ -137,32 +137,75 @@ fn paged_out(alloc: Global, text: &str, calls_before: u64) -> Result<Option<Text
     Ok(Some(pager))
 }
 
-/// What the events tell.
-fn answers_to(
-    alloc: Global,
-    machine: &mut Machine<TextEnv<WeighHash>, TextStorage>,
-    events: Vec<MachineEvent<TextNode, PagableData>>,
-) -> Result<Vec<Told>, Fail> {
-    let mut answers = Vec::new(alloc);
-    if let Ok(replies) = machine.run(alloc, events) {
-        for reply in replies {
-            answers.push(told_by(reply))?;
-        }
+/// A machine over such a pager.
+fn machine_of(alloc: Global, text: &str, calls_before: u64) -> Result<TextMachine, Fail> {
+    match paged_out(alloc, text, calls_before)? {
+        Some(pager) => Ok(Machine::new(alloc, pager)),
+        None => Err(Fail::from("the cell isn't paged out")),
     }
-    Ok(answers)
 }
 
-/// What the events tell on a machine with one cell, which is paged out, and whose storage fails once, after so many calls.
-fn run_on_paged_out(
-    alloc: Global,
-    calls_before: u64,
-    events: Vec<MachineEvent<TextNode, PagableData>>,
-) -> Result<Vec<Told>, Fail> {
-    match paged_out(alloc, "x", calls_before)? {
-        Some(pager) => answers_to(alloc, &mut Machine::new(alloc, pager), events),
-        None => Ok(Vec::new(alloc)),
+/// A machine with no cells.
+fn empty_machine(alloc: Global) -> TextMachine {
+    Machine::new(alloc, empty(alloc, u64::MAX))
+}
+
+/// Whether the handle lends this text.
+fn lends(machine: &TextMachine, handle: HandleNumber, text: &str) -> bool {
+    match machine.pager().value(handle) {
+        Ok(Some(node)) => node.as_str() == text,
+        _ => false,
     }
 }
+
+/// How many entries the list has.
+fn listed(machine: &TextMachine) -> usize {
+    machine.pager().pending()
+}
+
+const FIRST: HandleNumber = HandleNumber(1);
+
+const LOOSE: HandleNumber = HandleNumber(2);
+
+/// The list's first entry is the third handle.
+const CLONE: HandleNumber = HandleNumber(4);
+
+const PIN: HandleNumber = HandleNumber(5);
+
+static CLONES_AND_PINS_ARE_COUNTED: [(Event, Told); 18] = [
+    (Event::NewPinned("x"), Told::Other),
+    (Event::Clone(FIRST), Told::Other),
+    (Event::IntoPagable(LOOSE), Told::Other),
+    (Event::Count(LOOSE), Told::Count(2)),
+    (Event::Unpin(LOOSE), Told::Other),
+    (Event::Count(LOOSE), Told::Count(1)),
+    (Event::Release(FIRST), Told::Other),
+    (Event::Count(LOOSE), Told::Count(0)),
+    (Event::Pending, Told::Length(1)),
+    (Event::Clone(LOOSE), Told::Other),
+    (Event::Count(LOOSE), Told::Count(0)),
+    (Event::Pin(CLONE), Told::Other),
+    (Event::Count(LOOSE), Told::Count(2)),
+    (Event::Release(PIN), Told::Other),
+    (Event::Count(LOOSE), Told::Count(1)),
+    (Event::Release(CLONE), Told::Other),
+    (Event::Count(LOOSE), Told::Count(0)),
+    (Event::Pending, Told::Length(2)),
+];
+
+#[test]
+fn clones_and_pins_are_counted(rt: HostRuntime) -> Result<(), Fail> {
+    let alloc = rt.alloc();
+    let mut machine = empty_machine(alloc);
+    run(&rt, alloc, &mut machine, &CLONES_AND_PINS_ARE_COUNTED)?;
+    assert!(rt; listed(&machine) == 2, "two entries");
+    Ok(())
+}
+
+/// The first load of a pager, and the second.
+const LOAD: LoadNumber = LoadNumber(1);
+
+const NEXT_LOAD: LoadNumber = LoadNumber(2);
 
 /// The second handle of the cell that is paged out: the list's entry and the pin of the page-out came before it.
 const OTHER: HandleNumber = HandleNumber(4);
@@ -174,138 +217,93 @@ const FIRST_PIN: HandleNumber = HandleNumber(7);
 const SECOND_PIN: HandleNumber = HandleNumber(8);
 
 /// Two loads of one cell are begun; the first ends, and its pins go before the second reads.
-fn two_loads(alloc: Global) -> Result<Vec<MachineEvent<TextNode, PagableData>>, AllocError> {
-    let events = vec![in alloc;
-        MachineEvent::Call(MachineCall::Clone(FIRST)),
-        MachineEvent::LoadStart(FIRST),
-        MachineEvent::LoadStart(OTHER),
-        MachineEvent::LoadStep(LOAD),
-        MachineEvent::LoadStep(LOAD),
-        MachineEvent::Call(MachineCall::Count(FIRST)),
-        MachineEvent::Call(MachineCall::Release(FIRST_PIN)),
-        MachineEvent::Call(MachineCall::Count(FIRST)),
-        MachineEvent::Call(MachineCall::Unpin(FIRST)),
-        MachineEvent::Call(MachineCall::Count(FIRST)),
-        MachineEvent::Call(MachineCall::IsPagedOut(FIRST)),
-        MachineEvent::LoadStep(LoadNumber(2)),
-        MachineEvent::LoadStep(LoadNumber(2)),
-        MachineEvent::Call(MachineCall::Count(OTHER)),
-    ]?;
-    Ok(events)
-}
-
-/// What they tell.
-fn two_loads_told(alloc: Global) -> Result<Vec<Told>, AllocError> {
-    let wanted = vec![in alloc;
-        Told::Other,
-        Told::Begun,
-        Told::Begun,
-        Told::GoesOn(1),
-        Told::Pinned(2),
-        Told::Count(2),
-        Told::Other,
-        Told::Count(1),
-        Told::Other,
-        Told::Count(0),
-        Told::Away(true),
-        Told::GoesOn(1),
-        Told::Pinned(2),
-        Told::Count(2),
-    ]?;
-    Ok(wanted)
-}
+static TWO_LOADS: [(Event, Told); 14] = [
+    (Event::Clone(FIRST), Told::Other),
+    (Event::LoadStart(FIRST), Told::Begun),
+    (Event::LoadStart(OTHER), Told::Begun),
+    (Event::LoadStep(LOAD), Told::GoesOn(1)),
+    (Event::LoadStep(LOAD), Told::Pinned(2)),
+    (Event::Count(FIRST), Told::Count(2)),
+    (Event::Release(FIRST_PIN), Told::Other),
+    (Event::Count(FIRST), Told::Count(1)),
+    (Event::Unpin(FIRST), Told::Other),
+    (Event::Count(FIRST), Told::Count(0)),
+    (Event::IsPagedOut(FIRST), Told::Away(true)),
+    (Event::LoadStep(NEXT_LOAD), Told::GoesOn(1)),
+    (Event::LoadStep(NEXT_LOAD), Told::Pinned(2)),
+    (Event::Count(OTHER), Told::Count(2)),
+];
 
 #[test]
 fn two_loads_of_one_cell_are_read(rt: HostRuntime) -> Result<(), Fail> {
     let alloc = rt.alloc();
-    let Some(pager) = paged_out(alloc, "hello world", u64::MAX)? else {
-        assert!(rt; false, "the cell is paged out");
-        return Ok(());
-    };
-    let mut machine = Machine::new(alloc, pager);
-    let found = answers_to(alloc, &mut machine, two_loads(alloc)?)?;
+    let mut machine = machine_of(alloc, HELLO, u64::MAX)?;
+    run(&rt, alloc, &mut machine, &TWO_LOADS)?;
     assert!(rt;
-        found == two_loads_told(alloc)?,
-        "two loads, and an eviction between"
-    );
-    let text = match machine.pager().value(SECOND_PIN) {
-        Ok(Some(node)) => node.as_str(),
-        _ => "none",
-    };
-    assert!(rt;
-        text == "hello world",
+        lends(&machine, SECOND_PIN, HELLO),
         "the second load gives the text again"
     );
     Ok(())
 }
 
+static A_LOAD_ENDS_BY_ITS_SECOND_STEP: [(Event, Told); 5] = [
+    (Event::LoadStart(FIRST), Told::Begun),
+    (Event::LoadStep(LOAD), Told::GoesOn(1)),
+    (Event::LoadStep(LOAD), Told::Pinned(2)),
+    (Event::Count(FIRST), Told::Count(2)),
+    (Event::LoadStep(LOAD), Told::NotOpen(Refusal::NoSuchHandle)),
+];
+
 #[test]
 fn a_load_ends_by_its_second_step(rt: HostRuntime) -> Result<(), Fail> {
-    let alloc = rt.alloc();
-    let events = vec![in alloc;
-        MachineEvent::LoadStart(FIRST),
-        MachineEvent::LoadStep(LOAD),
-        MachineEvent::LoadStep(LOAD),
-        MachineEvent::Call(MachineCall::Count(FIRST)),
-        MachineEvent::LoadStep(LOAD),
-    ]?;
-    let told = run_on_paged_out(alloc, u64::MAX, events)?;
-    let expected = vec![in alloc;
-        Told::Begun,
-        Told::GoesOn(1),
-        Told::Pinned(2),
-        Told::Count(2),
-        Told::NotOpen(Error::NoSuchHandle),
-    ]?;
-    assert!(rt; told == expected, "a fetch, and then a pin");
-    Ok(())
+    let mut machine = machine_of(rt.alloc(), "x", u64::MAX)?;
+    run(
+        &rt,
+        rt.alloc(),
+        &mut machine,
+        &A_LOAD_ENDS_BY_ITS_SECOND_STEP,
+    )
 }
+
+static A_LOAD_WITHOUT_ITS_HANDLE_IS_CLOSED: [(Event, Told); 5] = [
+    (Event::LoadStart(FIRST), Told::Begun),
+    (Event::LoadStep(LOAD), Told::GoesOn(1)),
+    (Event::Release(FIRST), Told::Other),
+    (
+        Event::LoadStep(LOAD),
+        Told::Refused(Refusal::NoSuchHandle, 2),
+    ),
+    (Event::LoadStep(LOAD), Told::NotOpen(Refusal::NoSuchHandle)),
+];
 
 #[test]
 fn a_load_without_its_handle_is_closed(rt: HostRuntime) -> Result<(), Fail> {
-    let alloc = rt.alloc();
-    let events = vec![in alloc;
-        MachineEvent::LoadStart(FIRST),
-        MachineEvent::LoadStep(LOAD),
-        MachineEvent::Call(MachineCall::Release(FIRST)),
-        MachineEvent::LoadStep(LOAD),
-        MachineEvent::LoadStep(LOAD),
-    ]?;
-    let told = run_on_paged_out(alloc, u64::MAX, events)?;
-    let expected = vec![in alloc;
-        Told::Begun,
-        Told::GoesOn(1),
-        Told::Other,
-        Told::Refused(Error::NoSuchHandle, 2),
-        Told::NotOpen(Error::NoSuchHandle),
-    ]?;
-    assert!(rt; told == expected, "the load is closed with its handle gone");
-    Ok(())
+    let mut machine = machine_of(rt.alloc(), "x", u64::MAX)?;
+    run(
+        &rt,
+        rt.alloc(),
+        &mut machine,
+        &A_LOAD_WITHOUT_ITS_HANDLE_IS_CLOSED,
+    )
 }
+
+static A_LOAD_WHOSE_FETCH_FAILS_IS_CLOSED: [(Event, Told); 6] = [
+    (Event::LoadStart(FIRST), Told::Begun),
+    (Event::LoadStep(LOAD), Told::Refused(Refusal::Storage(7), 1)),
+    (Event::LoadStep(LOAD), Told::NotOpen(Refusal::NoSuchHandle)),
+    // The second load finds what the first didn't.
+    (Event::LoadStart(FIRST), Told::Begun),
+    (Event::LoadStep(NEXT_LOAD), Told::GoesOn(1)),
+    (Event::LoadStep(NEXT_LOAD), Told::Pinned(2)),
+];
 
 #[test]
 fn a_load_whose_fetch_fails_is_closed(rt: HostRuntime) -> Result<(), Fail> {
-    let alloc = rt.alloc();
-    let events = vec![in alloc;
-        MachineEvent::LoadStart(FIRST),
-        MachineEvent::LoadStep(LOAD),
-        MachineEvent::LoadStep(LOAD),
-        MachineEvent::LoadStart(FIRST),
-        MachineEvent::LoadStep(LoadNumber(2)),
-        MachineEvent::LoadStep(LoadNumber(2)),
-    ]?;
-    let told = run_on_paged_out(alloc, 1, events)?;
-    let expected = vec![in alloc;
-        Told::Begun,
-        Told::Refused(Error::Storage(7), 1),
-        Told::NotOpen(Error::NoSuchHandle),
-        Told::Begun,
-        Told::GoesOn(1),
-        Told::Pinned(2),
-    ]?;
-    assert!(rt;
-        told == expected,
-        "the second load finds what the first didn't"
-    );
-    Ok(())
+    let mut machine = machine_of(rt.alloc(), "x", 1)?;
+    run(
+        &rt,
+        rt.alloc(),
+        &mut machine,
+        &A_LOAD_WHOSE_FETCH_FAILS_IS_CLOSED,
+    )
 }
