@@ -1,2 +1,4 @@
 pub mod Dishes
+pub mod Expressions
+pub mod Levels
 pub mod Menus

@@ -1,3 +1,5 @@
 pub mod Dishes
 pub mod Portions
 pub mod Menus
+pub mod Expressions
+pub mod Sizes

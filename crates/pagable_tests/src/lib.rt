@@ -1,6 +1,6 @@
-//! Tests of the crates below that are no data: cursors of readers and writers, byte arrays, second readings, boxes, cells,
-//! references, registries, types of one's own, sessions, JSON values that are written, regular expressions, laws, the pager's
-//! calls, and lists of events on the machine.
+//! Tests of the crates below that are no data: cursors of readers and writers, byte arrays, slices, second readings, boxes,
+//! cells, references, registries, types of one's own, an eager one among them, sessions, JSON values that are written, regular
+//! expressions, laws, the pager's calls, and lists of events on the machine.
 #![tactic(auto)]
 
 #[cfg(test)]
@@ -15,6 +15,8 @@ mod calls;
 mod cells;
 #[cfg(test)]
 mod cursors;
+#[cfg(test)]
+mod eager;
 #[cfg(test)]
 mod equal;
 #[cfg(test)]
@@ -39,5 +41,7 @@ mod references;
 mod registries;
 #[cfg(test)]
 mod session;
+#[cfg(test)]
+mod slices;
 #[cfg(test)]
 mod storage;

@@ -5,8 +5,8 @@ use pagable::{
     Env, Error, NoReferences, PagableDeserialize, PagableDeserializerImpl, PagableSerialize,
     PagableSerializerImpl, SessionContext, WeighHash,
 };
-use pagable_examples::{Dish, Guest, Menu, Portion};
-use std::alloc::Global;
+use pagable_examples::{Dish, Expression, Guest, Menu, Portion, Sheet, Size};
+use std::alloc::{AllocError, Global};
 use std::fmt::Debug;
 use std::process::Abort;
 use std::test::Fail;
@@ -99,4 +99,52 @@ fn a_struct_is_the_tuple_of_its_fields(rt: HostRuntime) -> Result<(), Fail> {
     };
     let bytes = b"\x03Ann\xac\x02\x01\x01\x05\x01\x04soup";
     carried(&rt, alloc, &Card::new(), ann, bytes)
+}
+
+#[test]
+fn an_enum_is_an_option(rt: HostRuntime) -> Result<(), Fail> {
+    let alloc = rt.alloc();
+    let env = Card::new();
+    carried(&rt, alloc, &env, Size::Small, b"\x00")?;
+    carried(&rt, alloc, &env, Size::Large(200), b"\x01\xc8")
+}
+
+/// The sum of this and the number 1.
+fn plus_one(alloc: Global, left: Expression) -> Result<Expression, AllocError> {
+    let left = Box::new(alloc, left)?;
+    let right = Box::new(alloc, Expression::Number(1))?;
+    Ok(Expression::Sum(left, right))
+}
+
+#[test]
+fn a_tree_is_its_case_and_its_parts(rt: HostRuntime) -> Result<(), Fail> {
+    let alloc = rt.alloc();
+    let sum = plus_one(alloc, Expression::Number(300))?;
+    carried(&rt, alloc, &Sheet, sum, b"\x00\x01\xac\x02\x01\x01")
+}
+
+#[test]
+fn a_tree_has_at_most_128_levels(rt: HostRuntime) -> Result<(), Fail> {
+    let alloc = rt.alloc();
+    let mut tree = Expression::Number(1);
+    for _ in 1..128 {
+        tree = plus_one(alloc, tree)?;
+    }
+    // 127 sums of a byte each, and 128 numbers of two.
+    let bytes = written(alloc, &Sheet, &tree).ok().ok_or("not written")?;
+    equal(&rt, bytes.len(), 383, "128 levels, written");
+    let found = read(alloc, &Sheet, bytes.as_slice());
+    equal(&rt, found.as_ref(), Ok(&tree), "128 levels, read");
+    let deeper = written(alloc, &Sheet, &plus_one(alloc, tree)?).err();
+    equal(&rt, deeper, Some(Error::TooDeep), "129 levels, written");
+    Ok(())
+}
+
+#[test]
+fn no_tree_of_129_levels_is_read(rt: HostRuntime) {
+    // The left part of the last sum is looked for on the next level.
+    let deep = read::<Sheet, Expression>(rt.alloc(), &Sheet, &[0; 127]);
+    equal(&rt, deep.err(), Some(Error::UnexpectedEnd), "128 levels");
+    let deeper = read::<Sheet, Expression>(rt.alloc(), &Sheet, &[0; 128]);
+    equal(&rt, deeper.err(), Some(Error::TooDeep), "129 levels");
 }

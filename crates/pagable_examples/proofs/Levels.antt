@@ -1,0 +1,46 @@
+-- A part one level further down, in any environment: what writing and reading it on the deeper level says of it.
+use Rattle.std.proofs.Common.{◌≡◌, ℕ, suc, ◌+◌, ◌-◌, ◌<◌, ◌≤◌, arith, refl, sym, subst, Result, Ok, Err, inl}
+use Rattle.std.specs.Prelude.{IfErr, IsTrue}
+use Rattle.pagable_model.specs.declared.error.Error.{Error}
+use Rattle.pagable_model.specs.declared.error.Error.TheVariants as errors
+use Rattle.pagable_model.specs.declared.numbers.ArcRef.{ArcRef}
+use Rattle.pagable_model.specs.Refusals.{is_writing_fault}
+use Rattle.pagable_model.specs.Meaning.{Meaning}
+use Rattle.pagable_model.specs.Shape.{Shape, nested}
+use Rattle.pagable_model.specs.Form.{nested-form}
+use Rattle.pagable_model.specs.Reading.{Rest, deepest, read, read_with, below}
+use Rattle.pagable_model.specs.Standing.{Answer, handles_at}
+use Rattle.pagable_model.specs.Writing.{Out, nesting, WritesSome, NoForm, Refused, IsRefusal}
+
+module _ (parts : ℕ → Shape) (part : ℕ) where
+  pub writes-down : (M : Meaning ArcRef → Type 0) (levels : ℕ) (old new : Out) → levels < deepest → WritesSome M (nesting (levels + 1) parts) (parts part) old new → WritesSome M (nesting levels parts) (nested part) old new
+  writes-down M levels old new lt w =
+      let one : deepest - levels ≡ suc (deepest - (levels + 1)) = omega arith in
+      record { m = w.m; is = w.is; wrote = record { bytes = w.wrote.bytes; refs = w.wrote.refs; form = nested-form _ (deepest - (levels + 1)) part w.m w.wrote.bytes w.wrote.refs one w.wrote.form; grown = w.wrote.grown } }
+
+  no-down : (levels : ℕ) (m : Meaning ArcRef) → levels < deepest → NoForm (nesting (levels + 1) parts) (parts part) m → NoForm (nesting levels parts) (nested part) m
+  no-down levels m lt none b k (nested-form left less n m' b' k' e f) =
+      let same : less ≡ deepest - (levels + 1) = omega arith in
+      none b' k' (rw (← same) f)
+
+  no-deep : (levels : ℕ) (m : Meaning ArcRef) → deepest ≤ levels → NoForm (nesting levels parts) (nested part) m
+  no-deep levels m le b k (nested-form left less n m' b' k' e f) = absurd (omega arith)
+
+  pub refused-down : {X : Type 0} (r : Result X Error) (M : Meaning ArcRef → Type 0) (levels : ℕ) → levels < deepest → IfErr r (Refused M (nesting (levels + 1) parts) (parts part)) → IfErr r (Refused M (nesting levels parts) (nested part))
+  refused-down (Ok x) M levels lt h = tt
+  refused-down (Err e) M levels lt h = λ fault. let no = h fault in record { m = no.m; is = no.is; no_form = no-down levels no.m lt no.no_form }
+
+  pub refused-deep : (e : Error) (M : Meaning ArcRef → Type 0) (m : Meaning ArcRef) (levels : ℕ) → M m → deepest ≤ levels → Refused M (nesting levels parts) (nested part) e
+  refused-deep e M m levels is le = λ fault. record { m = m; is = is; no_form = no-deep levels m le }
+
+  pub reads-deep : (levels : ℕ) (rest : Rest Answer) → deepest ≤ levels → read (handles_at levels parts) (nested part) rest ≡ Err errors.TooDeep
+  unfolding read read_with below
+  reads-deep levels rest le = let none : deepest - levels ≡ 0 = omega arith in rw none refl
+
+  pub reads-down : (levels : ℕ) (rest : Rest Answer) → levels < deepest → read (handles_at levels parts) (nested part) rest ≡ read (handles_at (levels + 1) parts) (parts part) rest
+  unfolding read read_with below
+  reads-down levels rest lt = let one : deepest - levels ≡ suc (deepest - (levels + 1)) = omega arith in rw one refl
+
+-- no level is left
+pub only-deep : (own : Error → Type 0) (e : Error) → e ≡ errors.TooDeep → IsRefusal own e
+only-deep own e h = inl (let P : Error → Type 0 = λ x. IsTrue (is_writing_fault x) in subst P (sym h) refl)

@@ -1,0 +1,67 @@
+//! An enum of two cases that is carried as an `Option`: the shortest way where one of them has no part.
+
+ghost use Rattle.std.specs.Prelude.{◌≡◌};
+ghost use Rattle.pagable_model.specs.Causes.{memory_is_own_writing, memory_or_is_own_writing, never_is_own_reading};
+ghost use Rattle.pagable_model.specs.Gives.{memory};
+ghost use Rattle.pagable_examples.specs.Sizes.{tenths_of};
+
+use pagable::{
+    Carried, Env, Error, PagableDeserialize, PagableDeserializer, PagableSerialize,
+    PagableSerializer,
+};
+use std::alloc::Global;
+
+/// The size of a glass.
+#[derive(Clone, Copy, Debug, PartialEq)]
+pub enum Size {
+    Small,
+    /// So many tenths of a litre.
+    Large(u8),
+}
+
+impl Size {
+    /// How many tenths of a litre a large glass holds.
+    pub fn tenths(self) -> Option<u8>
+        ensures { result ≡ tenths_of self }
+    {
+        match self {
+            Size::Small => None,
+            Size::Large(tenths) => Some(tenths),
+        }
+    }
+}
+
+impl<E: Env> Carried<E> for Size {
+    ghost shape = { ⟦<Option<u8> as Carried<E>>⟧.shape };
+
+    ghost means = { λ s. ⟦<Option<u8> as Carried<E>>⟧.means (tenths_of s) };
+
+    ghost has_meaning = { λ s. ⟦<Option<u8> as Carried<E>>⟧.has_meaning (tenths_of s) };
+}
+
+impl<E: Env> PagableSerialize<E> for Size {
+    ghost write_causes = { ⟦<Option<u8> as PagableSerialize<E>>⟧.write_causes };
+
+    ghost write_causes_are_own = { memory_or_is_own_writing memory memory_is_own_writing };
+
+    fn pagable_serialize<S: PagableSerializer<E>>(&self, serializer: &mut S) -> Result<(), Error> {
+        self.tenths().pagable_serialize(serializer)
+    }
+}
+
+impl<'de, E: Env> PagableDeserialize<'de, E> for Size {
+    ghost read_causes = { ⟦<Option<u8> as PagableDeserialize<'de, E>>⟧.read_causes };
+
+    ghost read_causes_are_own = { never_is_own_reading };
+
+    fn pagable_deserialize<D: PagableDeserializer<E>>(
+        alloc: Global,
+        deserializer: &mut D,
+    ) -> Result<Self, Error> {
+        let tenths: Option<u8> = PagableDeserialize::pagable_deserialize(alloc, deserializer)?;
+        match tenths {
+            None => Ok(Size::Small),
+            Some(tenths) => Ok(Size::Large(tenths)),
+        }
+    }
+}

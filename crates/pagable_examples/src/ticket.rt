@@ -1,0 +1,58 @@
+//! A type that is written and read eagerly: it holds no reference, and needs not be carried besides.
+
+ghost use Rattle.std.specs.Prelude.{refl};
+ghost use Rattle.std.specs.Int.{w16};
+ghost use Rattle.pagable_model.specs.Causes.{memory_is_own_writing, never_is_own_reading};
+ghost use Rattle.pagable_model.specs.Gives.{memory, never};
+ghost use Rattle.pagable_model.specs.Meaning.{number};
+ghost use Rattle.pagable_model.specs.Shape.{unsigned};
+ghost use Rattle.pagable_model.specs.Standing.{Is};
+
+use pagable::{
+    EagerlyCarried, Env, Error, PagableDeserializer, PagableEagerDeserialize,
+    PagableEagerSerialize, PagableSerializer, Reader,
+};
+use std::alloc::Global;
+
+/// A ticket.
+#[derive(Clone, Copy, Debug, PartialEq)]
+pub struct Ticket {
+    pub number: u16,
+}
+
+impl<E: Env> EagerlyCarried<E> for Ticket {
+    ghost eager_shape = { λ e. unsigned w16 };
+
+    ghost eager_means = { Is (λ t. number t.number) };
+
+    ghost has_eager_meaning = { λ t. (number t.number, refl) };
+}
+
+impl<E: Env> PagableEagerSerialize<E> for Ticket {
+    ghost eager_write_causes = { memory };
+
+    ghost eager_write_causes_are_own = { memory_is_own_writing };
+
+    #[tactic(auto, using(pagable_codec::proofs::Writing::parts))]
+    fn eager_pagable_serialize<S: PagableSerializer<E>>(
+        &self,
+        serializer: &mut S,
+    ) -> Result<(), Error> {
+        serializer.serde().write_u16(self.number)
+    }
+}
+
+impl<'de, E: Env> PagableEagerDeserialize<'de, E> for Ticket {
+    ghost eager_read_causes = { never };
+
+    ghost eager_read_causes_are_own = { never_is_own_reading };
+
+    #[tactic(auto, unfolding(pagable_model::specs::Reading::read, pagable_model::specs::Reading::read_with), using(pagable_codec::proofs::Reading::parts))]
+    fn eager_pagable_deserialize<D: PagableDeserializer<E>>(
+        _alloc: Global,
+        deserializer: &mut D,
+    ) -> Result<Self, Error> {
+        let number = deserializer.serde().read_u16()?;
+        Ok(Ticket { number })
+    }
+}
