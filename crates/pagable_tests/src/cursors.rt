@@ -30,3 +30,12 @@ fn places_are_kept(rt: HostRuntime) {
     equal(&rt, reader.try_take_n_temp(1), Ok([2].as_slice()), "one");
     equal(&rt, reader.finalize(), [3, 4].as_slice(), "rest");
 }
+
+#[test]
+fn a_default_writer_is_empty(rt: HostRuntime) -> Result<(), Fail> {
+    let mut writer = PagableVecFlavor::default(rt.alloc());
+    equal(&rt, writer.position(), 0, "position");
+    writer.try_push(7)?;
+    equal(&rt, writer.finalize().as_slice(), [7].as_slice(), "bytes");
+    Ok(())
+}
