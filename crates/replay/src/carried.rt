@@ -222,6 +222,7 @@ fn joined(alloc: Global, name: &str, input: &[u8]) -> anyhow::Result<Option<Answ
 /// Arrays and headers with lists, and what comes after them.
 fn array(alloc: Global, name: &str, input: &[u8]) -> anyhow::Result<Option<Answer>> {
     match name {
+        "[u8;2]" => replay_as::<[u8; 2]>(alloc, input),
         "[u16;2]" => replay_as::<[u16; 2]>(alloc, input),
         "[String;3]" => replay_as::<[String; 3]>(alloc, input),
         "[u8;31]" => replay_as::<[u8; 31]>(alloc, input),
