@@ -24,7 +24,11 @@ mod json;
 #[cfg(test)]
 mod json_values;
 #[cfg(test)]
+mod keys;
+#[cfg(test)]
 mod laws;
+#[cfg(test)]
+mod lent;
 #[cfg(test)]
 mod levels;
 #[cfg(test)]
