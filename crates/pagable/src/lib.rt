@@ -19,7 +19,7 @@ pub use pagable_patterns::SavedRegex;
 pub use pagable_registries::{
     ForTag, HasStaticValueRegistry, HasTypetagRegistry, PagableRegisteredFor, PagableTagged,
     StaticBytes, StaticStr, StaticValue, StaticValueEntry, StaticValueRegistry, TagReader,
-    TypetagRegistration, TypetagRegistry,
+    TypetagRegistration, TypetagRegistry, deserialize_tagged,
 };
 pub use pagable_traits::{
     Canonical, Carried, EagerlyCarried, Env, InNode, KeyHash, NodeSet, OneMeaning, Pagable,

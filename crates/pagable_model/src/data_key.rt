@@ -1,6 +1,6 @@
 //! The keys of blobs.
 
-ghost use Rattle.std.specs.Prelude.{◌≡◌, ◌<◌, ◌↔◌, IsTrue, IsSome, IfSome};
+ghost use Rattle.std.specs.Prelude.{◌≡◌, ◌<◌, ◌↔◌, IsTrue, IsSome, IfSome, Some, decimal};
 ghost use Rattle.pagable_model.specs.Optional.{HasKey};
 ghost use Rattle.pagable_model.specs.declared.data_key.OptionalDataKey.TheVariants as optional;
 
@@ -46,7 +46,10 @@ impl DataKey {
     }
 }
 
+/// The number, in decimal digits.
 impl fmt::Display for DataKey {
+    ghost output = { λ k. Some (decimal k) };
+
     fn fmt<W: fmt::Write>(&self, f: &mut fmt::Formatter<W>) -> fmt::Result {
         let number = self.number;
         write!(f, "{number}")

@@ -12,5 +12,5 @@ pub use static_value::{
 };
 pub use typetag::{
     ForTag, HasTypetagRegistry, PagableRegisteredFor, PagableTagged, TagReader,
-    TypetagRegistration, TypetagRegistry,
+    TypetagRegistration, TypetagRegistry, deserialize_tagged,
 };
