@@ -1,6 +1,5 @@
 pub mod Leading
 pub mod Alone
-pub mod Sights
 pub mod Loads
 pub mod Closing
 pub mod Ending

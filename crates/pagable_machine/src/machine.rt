@@ -1,10 +1,8 @@
 //! A pager that is driven by lists of events.
 
 ghost use Rattle.std.specs.Prelude.{◌≡◌, [], IfOk, IfErr, OnErr};
-ghost use Rattle.std.specs.Arc.{arc_value};
-ghost use Rattle.pagable_model.specs.Blob.{key_of};
-ghost use Rattle.pagable_core.specs.Data.{blob_of};
 ghost use Rattle.pagable_world.specs.MachineRuns.{HasRun};
+ghost use Rattle.pagable_machine.specs.Sights.{events_by, machine_by, values_by};
 
 use crate::events;
 use crate::fetched::FetchedBlob;
@@ -35,21 +33,16 @@ where
     E::Node: NodeSet<E>,
 {
     ghost use Rattle.std.specs.Prelude.{All, map};
-    ghost use Rattle.std.specs.Arc.{arc_value};
-    ghost use Rattle.pagable_model.specs.Blob.{key_of};
-    ghost use Rattle.pagable_core.specs.Data.{blob_of};
-    ghost use Rattle.std.specs.Global.{Global};
-    ghost use Rattle.std.specs.declared.sync.Arc.{Arc};
-    ghost use Rattle.pagable_core.specs.declared.storage.data.PagableData.{PagableData};
     ghost use Rattle.pagable_world.specs.LoadMoves.{Driven};
     ghost use Rattle.pagable_world.specs.MachineRuns.{FetchedFits};
     ghost use Rattle.pagable_machine.specs.Rows.{fetched_of};
+    ghost use Rattle.pagable_machine.specs.Sights.{events_by, machine_by, values_by};
 
     ghost Value = { Driven E.Node S E };
 
     ghost view = { λ m. record { pager = m.pager; fetched = map fetched_of m.fetched.items } };
 
-    ghost invariant = { λ m. All (FetchedFits (record { machine = record { sight = record { type_of = E.Node.type_of; means = E.Node.means; shape_of = E.Node.shape_of; parts = E.parts; stored = S.stored }; references = E.Node.refs_of; digest = key_of E.Hash.digest; blob_of = blob_of; found = λ (b : Arc PagableData Global). blob_of (arc_value b); is_closed = S.is_closed; failed = S.failed }; read_causes = E.Node.read_causes }) m.pager) (map fetched_of m.fetched.items) };
+    ghost invariant = { λ m. All (FetchedFits (events_by (machine_by (values_by E.Node.type_of E.Node.means E.Node.shape_of E.parts S.stored) E.Node.refs_of E.Hash.digest S.is_closed S.failed) E.Node.read_causes) m.pager) (map fetched_of m.fetched.items) };
 }
 
 impl<E: Env, S: PagableStorage<E>> Machine<E, S>
@@ -92,7 +85,7 @@ where
         Vec<EventReply<E::Node, Arc<PagableData>, ()>>,
         (Error, Vec<MachineEvent<E::Node, PagableData>>),
     >
-        ensures run { IfOk result (λ replies. HasRun (record { machine = record { sight = record { type_of = E.Node.type_of; means = E.Node.means; shape_of = E.Node.shape_of; parts = E.parts; stored = S.stored }; references = E.Node.refs_of; digest = key_of E.Hash.digest; blob_of = blob_of; found = λ (b : Arc PagableData Global). blob_of (arc_value b); is_closed = S.is_closed; failed = S.failed }; read_causes = E.Node.read_causes }) self.old events.items replies.items self.new) }
+        ensures run { IfOk result (λ replies. HasRun (events_by (machine_by (values_by E.Node.type_of E.Node.means E.Node.shape_of E.parts S.stored) E.Node.refs_of E.Hash.digest S.is_closed S.failed) E.Node.read_causes) self.old events.items replies.items self.new) }
         ensures nothing { OnErr result (self.new ≡ self.old) }
         ensures back { IfErr result (λ e. (e.0 ≡ Error.OutOfMemory) × (e.1 ≡ events)) }
     {

@@ -1,13 +1,10 @@
 //! Each call of the pager as the machine makes it: a step of the plain world, with a reply of the call's type.
 
 ghost use Rattle.std.specs.Prelude.{◌≡◌, map};
-ghost use Rattle.std.specs.Arc.{arc_value};
-ghost use Rattle.pagable_model.specs.Blob.{key_of};
-ghost use Rattle.pagable_core.specs.Data.{blob_of};
-ghost use Rattle.pagable_world.specs.MachineSteps.{CallDoes, world_of};
 ghost use Rattle.pagable_world.specs.MachineEvents.{fetched_after};
 ghost use Rattle.pagable_world.specs.MachineRuns.{IsWholeToday, LeadsOn};
 ghost use Rattle.pagable_machine.specs.Rows.{ended_by, fetched_of};
+ghost use Rattle.pagable_machine.specs.Sights.{machine_by, MakesCall, values_by};
 
 use crate::fetched;
 use crate::fetched::FetchedBlob;
@@ -29,8 +26,8 @@ fn new_loose<E: Env, S: PagableStorage<E>>(
 ) -> Reply<E::Node, Arc<PagableData>>
 where
     E::Node: NodeSet<E>,
-    ensures does { CallDoes (record { sight = record { type_of = E.Node.type_of; means = E.Node.means; shape_of = E.Node.shape_of; parts = E.parts; stored = S.stored }; references = E.Node.refs_of; digest = key_of E.Hash.digest; blob_of = blob_of; found = λ (b : Arc PagableData Global). blob_of (arc_value b); is_closed = S.is_closed; failed = S.failed }) (world_of (record { sight = record { type_of = E.Node.type_of; means = E.Node.means; shape_of = E.Node.shape_of; parts = E.parts; stored = S.stored }; references = E.Node.refs_of; digest = key_of E.Hash.digest; blob_of = blob_of; found = λ (b : Arc PagableData Global). blob_of (arc_value b); is_closed = S.is_closed; failed = S.failed }) pager.old) (MachineCall.NewLoose node) result (world_of (record { sight = record { type_of = E.Node.type_of; means = E.Node.means; shape_of = E.Node.shape_of; parts = E.parts; stored = S.stored }; references = E.Node.refs_of; digest = key_of E.Hash.digest; blob_of = blob_of; found = λ (b : Arc PagableData Global). blob_of (arc_value b); is_closed = S.is_closed; failed = S.failed }) pager.new) }
-    ensures leads { LeadsOn (record { sight = record { type_of = E.Node.type_of; means = E.Node.means; shape_of = E.Node.shape_of; parts = E.parts; stored = S.stored }; references = E.Node.refs_of; digest = key_of E.Hash.digest; blob_of = blob_of; found = λ (b : Arc PagableData Global). blob_of (arc_value b); is_closed = S.is_closed; failed = S.failed }) pager.old (MachineCall.NewLoose node) result pager.new }
+    ensures does { MakesCall (machine_by (values_by E.Node.type_of E.Node.means E.Node.shape_of E.parts S.stored) E.Node.refs_of E.Hash.digest S.is_closed S.failed) pager.old (MachineCall.NewLoose node) result pager.new }
+    ensures leads { LeadsOn (machine_by (values_by E.Node.type_of E.Node.means E.Node.shape_of E.parts S.stored) E.Node.refs_of E.Hash.digest S.is_closed S.failed) pager.old (MachineCall.NewLoose node) result pager.new }
 {
     Reply::Made(pager.new_loose(alloc, node))
 }
@@ -43,8 +40,8 @@ fn new_pinned<E: Env, S: PagableStorage<E>>(
 ) -> Reply<E::Node, Arc<PagableData>>
 where
     E::Node: NodeSet<E>,
-    ensures does { CallDoes (record { sight = record { type_of = E.Node.type_of; means = E.Node.means; shape_of = E.Node.shape_of; parts = E.parts; stored = S.stored }; references = E.Node.refs_of; digest = key_of E.Hash.digest; blob_of = blob_of; found = λ (b : Arc PagableData Global). blob_of (arc_value b); is_closed = S.is_closed; failed = S.failed }) (world_of (record { sight = record { type_of = E.Node.type_of; means = E.Node.means; shape_of = E.Node.shape_of; parts = E.parts; stored = S.stored }; references = E.Node.refs_of; digest = key_of E.Hash.digest; blob_of = blob_of; found = λ (b : Arc PagableData Global). blob_of (arc_value b); is_closed = S.is_closed; failed = S.failed }) pager.old) (MachineCall.NewPinned node) result (world_of (record { sight = record { type_of = E.Node.type_of; means = E.Node.means; shape_of = E.Node.shape_of; parts = E.parts; stored = S.stored }; references = E.Node.refs_of; digest = key_of E.Hash.digest; blob_of = blob_of; found = λ (b : Arc PagableData Global). blob_of (arc_value b); is_closed = S.is_closed; failed = S.failed }) pager.new) }
-    ensures leads { LeadsOn (record { sight = record { type_of = E.Node.type_of; means = E.Node.means; shape_of = E.Node.shape_of; parts = E.parts; stored = S.stored }; references = E.Node.refs_of; digest = key_of E.Hash.digest; blob_of = blob_of; found = λ (b : Arc PagableData Global). blob_of (arc_value b); is_closed = S.is_closed; failed = S.failed }) pager.old (MachineCall.NewPinned node) result pager.new }
+    ensures does { MakesCall (machine_by (values_by E.Node.type_of E.Node.means E.Node.shape_of E.parts S.stored) E.Node.refs_of E.Hash.digest S.is_closed S.failed) pager.old (MachineCall.NewPinned node) result pager.new }
+    ensures leads { LeadsOn (machine_by (values_by E.Node.type_of E.Node.means E.Node.shape_of E.parts S.stored) E.Node.refs_of E.Hash.digest S.is_closed S.failed) pager.old (MachineCall.NewPinned node) result pager.new }
 {
     Reply::Made(pager.new_pinned(alloc, node))
 }
@@ -57,8 +54,8 @@ fn new_paged_out<E: Env, S: PagableStorage<E>>(
 ) -> Reply<E::Node, Arc<PagableData>>
 where
     E::Node: NodeSet<E>,
-    ensures does { CallDoes (record { sight = record { type_of = E.Node.type_of; means = E.Node.means; shape_of = E.Node.shape_of; parts = E.parts; stored = S.stored }; references = E.Node.refs_of; digest = key_of E.Hash.digest; blob_of = blob_of; found = λ (b : Arc PagableData Global). blob_of (arc_value b); is_closed = S.is_closed; failed = S.failed }) (world_of (record { sight = record { type_of = E.Node.type_of; means = E.Node.means; shape_of = E.Node.shape_of; parts = E.parts; stored = S.stored }; references = E.Node.refs_of; digest = key_of E.Hash.digest; blob_of = blob_of; found = λ (b : Arc PagableData Global). blob_of (arc_value b); is_closed = S.is_closed; failed = S.failed }) pager.old) (MachineCall.NewPagedOut node_type key) result (world_of (record { sight = record { type_of = E.Node.type_of; means = E.Node.means; shape_of = E.Node.shape_of; parts = E.parts; stored = S.stored }; references = E.Node.refs_of; digest = key_of E.Hash.digest; blob_of = blob_of; found = λ (b : Arc PagableData Global). blob_of (arc_value b); is_closed = S.is_closed; failed = S.failed }) pager.new) }
-    ensures leads { LeadsOn (record { sight = record { type_of = E.Node.type_of; means = E.Node.means; shape_of = E.Node.shape_of; parts = E.parts; stored = S.stored }; references = E.Node.refs_of; digest = key_of E.Hash.digest; blob_of = blob_of; found = λ (b : Arc PagableData Global). blob_of (arc_value b); is_closed = S.is_closed; failed = S.failed }) pager.old (MachineCall.NewPagedOut node_type key) result pager.new }
+    ensures does { MakesCall (machine_by (values_by E.Node.type_of E.Node.means E.Node.shape_of E.parts S.stored) E.Node.refs_of E.Hash.digest S.is_closed S.failed) pager.old (MachineCall.NewPagedOut node_type key) result pager.new }
+    ensures leads { LeadsOn (machine_by (values_by E.Node.type_of E.Node.means E.Node.shape_of E.parts S.stored) E.Node.refs_of E.Hash.digest S.is_closed S.failed) pager.old (MachineCall.NewPagedOut node_type key) result pager.new }
 {
     Reply::Handle(pager.new_paged_out(node_type, key))
 }
@@ -70,8 +67,8 @@ fn clone<E: Env, S: PagableStorage<E>>(
 ) -> Reply<E::Node, Arc<PagableData>>
 where
     E::Node: NodeSet<E>,
-    ensures does { CallDoes (record { sight = record { type_of = E.Node.type_of; means = E.Node.means; shape_of = E.Node.shape_of; parts = E.parts; stored = S.stored }; references = E.Node.refs_of; digest = key_of E.Hash.digest; blob_of = blob_of; found = λ (b : Arc PagableData Global). blob_of (arc_value b); is_closed = S.is_closed; failed = S.failed }) (world_of (record { sight = record { type_of = E.Node.type_of; means = E.Node.means; shape_of = E.Node.shape_of; parts = E.parts; stored = S.stored }; references = E.Node.refs_of; digest = key_of E.Hash.digest; blob_of = blob_of; found = λ (b : Arc PagableData Global). blob_of (arc_value b); is_closed = S.is_closed; failed = S.failed }) pager.old) (MachineCall.Clone handle) result (world_of (record { sight = record { type_of = E.Node.type_of; means = E.Node.means; shape_of = E.Node.shape_of; parts = E.parts; stored = S.stored }; references = E.Node.refs_of; digest = key_of E.Hash.digest; blob_of = blob_of; found = λ (b : Arc PagableData Global). blob_of (arc_value b); is_closed = S.is_closed; failed = S.failed }) pager.new) }
-    ensures leads { LeadsOn (record { sight = record { type_of = E.Node.type_of; means = E.Node.means; shape_of = E.Node.shape_of; parts = E.parts; stored = S.stored }; references = E.Node.refs_of; digest = key_of E.Hash.digest; blob_of = blob_of; found = λ (b : Arc PagableData Global). blob_of (arc_value b); is_closed = S.is_closed; failed = S.failed }) pager.old (MachineCall.Clone handle) result pager.new }
+    ensures does { MakesCall (machine_by (values_by E.Node.type_of E.Node.means E.Node.shape_of E.parts S.stored) E.Node.refs_of E.Hash.digest S.is_closed S.failed) pager.old (MachineCall.Clone handle) result pager.new }
+    ensures leads { LeadsOn (machine_by (values_by E.Node.type_of E.Node.means E.Node.shape_of E.parts S.stored) E.Node.refs_of E.Hash.digest S.is_closed S.failed) pager.old (MachineCall.Clone handle) result pager.new }
 {
     Reply::Handle(pager.clone(handle))
 }
@@ -83,8 +80,8 @@ fn into_pagable<E: Env, S: PagableStorage<E>>(
 ) -> Reply<E::Node, Arc<PagableData>>
 where
     E::Node: NodeSet<E>,
-    ensures does { CallDoes (record { sight = record { type_of = E.Node.type_of; means = E.Node.means; shape_of = E.Node.shape_of; parts = E.parts; stored = S.stored }; references = E.Node.refs_of; digest = key_of E.Hash.digest; blob_of = blob_of; found = λ (b : Arc PagableData Global). blob_of (arc_value b); is_closed = S.is_closed; failed = S.failed }) (world_of (record { sight = record { type_of = E.Node.type_of; means = E.Node.means; shape_of = E.Node.shape_of; parts = E.parts; stored = S.stored }; references = E.Node.refs_of; digest = key_of E.Hash.digest; blob_of = blob_of; found = λ (b : Arc PagableData Global). blob_of (arc_value b); is_closed = S.is_closed; failed = S.failed }) pager.old) (MachineCall.IntoPagable handle) result (world_of (record { sight = record { type_of = E.Node.type_of; means = E.Node.means; shape_of = E.Node.shape_of; parts = E.parts; stored = S.stored }; references = E.Node.refs_of; digest = key_of E.Hash.digest; blob_of = blob_of; found = λ (b : Arc PagableData Global). blob_of (arc_value b); is_closed = S.is_closed; failed = S.failed }) pager.new) }
-    ensures leads { LeadsOn (record { sight = record { type_of = E.Node.type_of; means = E.Node.means; shape_of = E.Node.shape_of; parts = E.parts; stored = S.stored }; references = E.Node.refs_of; digest = key_of E.Hash.digest; blob_of = blob_of; found = λ (b : Arc PagableData Global). blob_of (arc_value b); is_closed = S.is_closed; failed = S.failed }) pager.old (MachineCall.IntoPagable handle) result pager.new }
+    ensures does { MakesCall (machine_by (values_by E.Node.type_of E.Node.means E.Node.shape_of E.parts S.stored) E.Node.refs_of E.Hash.digest S.is_closed S.failed) pager.old (MachineCall.IntoPagable handle) result pager.new }
+    ensures leads { LeadsOn (machine_by (values_by E.Node.type_of E.Node.means E.Node.shape_of E.parts S.stored) E.Node.refs_of E.Hash.digest S.is_closed S.failed) pager.old (MachineCall.IntoPagable handle) result pager.new }
 {
     Reply::Handle(pager.into_pagable(handle))
 }
@@ -96,8 +93,8 @@ fn pin<E: Env, S: PagableStorage<E>>(
 ) -> Reply<E::Node, Arc<PagableData>>
 where
     E::Node: NodeSet<E>,
-    ensures does { CallDoes (record { sight = record { type_of = E.Node.type_of; means = E.Node.means; shape_of = E.Node.shape_of; parts = E.parts; stored = S.stored }; references = E.Node.refs_of; digest = key_of E.Hash.digest; blob_of = blob_of; found = λ (b : Arc PagableData Global). blob_of (arc_value b); is_closed = S.is_closed; failed = S.failed }) (world_of (record { sight = record { type_of = E.Node.type_of; means = E.Node.means; shape_of = E.Node.shape_of; parts = E.parts; stored = S.stored }; references = E.Node.refs_of; digest = key_of E.Hash.digest; blob_of = blob_of; found = λ (b : Arc PagableData Global). blob_of (arc_value b); is_closed = S.is_closed; failed = S.failed }) pager.old) (MachineCall.Pin handle) result (world_of (record { sight = record { type_of = E.Node.type_of; means = E.Node.means; shape_of = E.Node.shape_of; parts = E.parts; stored = S.stored }; references = E.Node.refs_of; digest = key_of E.Hash.digest; blob_of = blob_of; found = λ (b : Arc PagableData Global). blob_of (arc_value b); is_closed = S.is_closed; failed = S.failed }) pager.new) }
-    ensures leads { LeadsOn (record { sight = record { type_of = E.Node.type_of; means = E.Node.means; shape_of = E.Node.shape_of; parts = E.parts; stored = S.stored }; references = E.Node.refs_of; digest = key_of E.Hash.digest; blob_of = blob_of; found = λ (b : Arc PagableData Global). blob_of (arc_value b); is_closed = S.is_closed; failed = S.failed }) pager.old (MachineCall.Pin handle) result pager.new }
+    ensures does { MakesCall (machine_by (values_by E.Node.type_of E.Node.means E.Node.shape_of E.parts S.stored) E.Node.refs_of E.Hash.digest S.is_closed S.failed) pager.old (MachineCall.Pin handle) result pager.new }
+    ensures leads { LeadsOn (machine_by (values_by E.Node.type_of E.Node.means E.Node.shape_of E.parts S.stored) E.Node.refs_of E.Hash.digest S.is_closed S.failed) pager.old (MachineCall.Pin handle) result pager.new }
 {
     Reply::Pin(pager.pin(handle))
 }
@@ -109,8 +106,8 @@ fn unpin<E: Env, S: PagableStorage<E>>(
 ) -> Reply<E::Node, Arc<PagableData>>
 where
     E::Node: NodeSet<E>,
-    ensures does { CallDoes (record { sight = record { type_of = E.Node.type_of; means = E.Node.means; shape_of = E.Node.shape_of; parts = E.parts; stored = S.stored }; references = E.Node.refs_of; digest = key_of E.Hash.digest; blob_of = blob_of; found = λ (b : Arc PagableData Global). blob_of (arc_value b); is_closed = S.is_closed; failed = S.failed }) (world_of (record { sight = record { type_of = E.Node.type_of; means = E.Node.means; shape_of = E.Node.shape_of; parts = E.parts; stored = S.stored }; references = E.Node.refs_of; digest = key_of E.Hash.digest; blob_of = blob_of; found = λ (b : Arc PagableData Global). blob_of (arc_value b); is_closed = S.is_closed; failed = S.failed }) pager.old) (MachineCall.Unpin handle) result (world_of (record { sight = record { type_of = E.Node.type_of; means = E.Node.means; shape_of = E.Node.shape_of; parts = E.parts; stored = S.stored }; references = E.Node.refs_of; digest = key_of E.Hash.digest; blob_of = blob_of; found = λ (b : Arc PagableData Global). blob_of (arc_value b); is_closed = S.is_closed; failed = S.failed }) pager.new) }
-    ensures leads { LeadsOn (record { sight = record { type_of = E.Node.type_of; means = E.Node.means; shape_of = E.Node.shape_of; parts = E.parts; stored = S.stored }; references = E.Node.refs_of; digest = key_of E.Hash.digest; blob_of = blob_of; found = λ (b : Arc PagableData Global). blob_of (arc_value b); is_closed = S.is_closed; failed = S.failed }) pager.old (MachineCall.Unpin handle) result pager.new }
+    ensures does { MakesCall (machine_by (values_by E.Node.type_of E.Node.means E.Node.shape_of E.parts S.stored) E.Node.refs_of E.Hash.digest S.is_closed S.failed) pager.old (MachineCall.Unpin handle) result pager.new }
+    ensures leads { LeadsOn (machine_by (values_by E.Node.type_of E.Node.means E.Node.shape_of E.parts S.stored) E.Node.refs_of E.Hash.digest S.is_closed S.failed) pager.old (MachineCall.Unpin handle) result pager.new }
 {
     Reply::Done(pager.unpin(handle))
 }
@@ -122,8 +119,8 @@ fn release<E: Env, S: PagableStorage<E>>(
 ) -> Reply<E::Node, Arc<PagableData>>
 where
     E::Node: NodeSet<E>,
-    ensures does { CallDoes (record { sight = record { type_of = E.Node.type_of; means = E.Node.means; shape_of = E.Node.shape_of; parts = E.parts; stored = S.stored }; references = E.Node.refs_of; digest = key_of E.Hash.digest; blob_of = blob_of; found = λ (b : Arc PagableData Global). blob_of (arc_value b); is_closed = S.is_closed; failed = S.failed }) (world_of (record { sight = record { type_of = E.Node.type_of; means = E.Node.means; shape_of = E.Node.shape_of; parts = E.parts; stored = S.stored }; references = E.Node.refs_of; digest = key_of E.Hash.digest; blob_of = blob_of; found = λ (b : Arc PagableData Global). blob_of (arc_value b); is_closed = S.is_closed; failed = S.failed }) pager.old) (MachineCall.Release handle) result (world_of (record { sight = record { type_of = E.Node.type_of; means = E.Node.means; shape_of = E.Node.shape_of; parts = E.parts; stored = S.stored }; references = E.Node.refs_of; digest = key_of E.Hash.digest; blob_of = blob_of; found = λ (b : Arc PagableData Global). blob_of (arc_value b); is_closed = S.is_closed; failed = S.failed }) pager.new) }
-    ensures leads { LeadsOn (record { sight = record { type_of = E.Node.type_of; means = E.Node.means; shape_of = E.Node.shape_of; parts = E.parts; stored = S.stored }; references = E.Node.refs_of; digest = key_of E.Hash.digest; blob_of = blob_of; found = λ (b : Arc PagableData Global). blob_of (arc_value b); is_closed = S.is_closed; failed = S.failed }) pager.old (MachineCall.Release handle) result pager.new }
+    ensures does { MakesCall (machine_by (values_by E.Node.type_of E.Node.means E.Node.shape_of E.parts S.stored) E.Node.refs_of E.Hash.digest S.is_closed S.failed) pager.old (MachineCall.Release handle) result pager.new }
+    ensures leads { LeadsOn (machine_by (values_by E.Node.type_of E.Node.means E.Node.shape_of E.parts S.stored) E.Node.refs_of E.Hash.digest S.is_closed S.failed) pager.old (MachineCall.Release handle) result pager.new }
 {
     Reply::Done(pager.release(handle))
 }
@@ -136,8 +133,8 @@ fn set_data_key<E: Env, S: PagableStorage<E>>(
 ) -> Reply<E::Node, Arc<PagableData>>
 where
     E::Node: NodeSet<E>,
-    ensures does { CallDoes (record { sight = record { type_of = E.Node.type_of; means = E.Node.means; shape_of = E.Node.shape_of; parts = E.parts; stored = S.stored }; references = E.Node.refs_of; digest = key_of E.Hash.digest; blob_of = blob_of; found = λ (b : Arc PagableData Global). blob_of (arc_value b); is_closed = S.is_closed; failed = S.failed }) (world_of (record { sight = record { type_of = E.Node.type_of; means = E.Node.means; shape_of = E.Node.shape_of; parts = E.parts; stored = S.stored }; references = E.Node.refs_of; digest = key_of E.Hash.digest; blob_of = blob_of; found = λ (b : Arc PagableData Global). blob_of (arc_value b); is_closed = S.is_closed; failed = S.failed }) pager.old) (MachineCall.SetDataKey handle key) result (world_of (record { sight = record { type_of = E.Node.type_of; means = E.Node.means; shape_of = E.Node.shape_of; parts = E.parts; stored = S.stored }; references = E.Node.refs_of; digest = key_of E.Hash.digest; blob_of = blob_of; found = λ (b : Arc PagableData Global). blob_of (arc_value b); is_closed = S.is_closed; failed = S.failed }) pager.new) }
-    ensures leads { LeadsOn (record { sight = record { type_of = E.Node.type_of; means = E.Node.means; shape_of = E.Node.shape_of; parts = E.parts; stored = S.stored }; references = E.Node.refs_of; digest = key_of E.Hash.digest; blob_of = blob_of; found = λ (b : Arc PagableData Global). blob_of (arc_value b); is_closed = S.is_closed; failed = S.failed }) pager.old (MachineCall.SetDataKey handle key) result pager.new }
+    ensures does { MakesCall (machine_by (values_by E.Node.type_of E.Node.means E.Node.shape_of E.parts S.stored) E.Node.refs_of E.Hash.digest S.is_closed S.failed) pager.old (MachineCall.SetDataKey handle key) result pager.new }
+    ensures leads { LeadsOn (machine_by (values_by E.Node.type_of E.Node.means E.Node.shape_of E.parts S.stored) E.Node.refs_of E.Hash.digest S.is_closed S.failed) pager.old (MachineCall.SetDataKey handle key) result pager.new }
 {
     Reply::Done(pager.set_data_key(handle, key))
 }
@@ -149,8 +146,8 @@ fn count<E: Env, S: PagableStorage<E>>(
 ) -> Reply<E::Node, Arc<PagableData>>
 where
     E::Node: NodeSet<E>,
-    ensures does { CallDoes (record { sight = record { type_of = E.Node.type_of; means = E.Node.means; shape_of = E.Node.shape_of; parts = E.parts; stored = S.stored }; references = E.Node.refs_of; digest = key_of E.Hash.digest; blob_of = blob_of; found = λ (b : Arc PagableData Global). blob_of (arc_value b); is_closed = S.is_closed; failed = S.failed }) (world_of (record { sight = record { type_of = E.Node.type_of; means = E.Node.means; shape_of = E.Node.shape_of; parts = E.parts; stored = S.stored }; references = E.Node.refs_of; digest = key_of E.Hash.digest; blob_of = blob_of; found = λ (b : Arc PagableData Global). blob_of (arc_value b); is_closed = S.is_closed; failed = S.failed }) pager.old) (MachineCall.Count handle) result (world_of (record { sight = record { type_of = E.Node.type_of; means = E.Node.means; shape_of = E.Node.shape_of; parts = E.parts; stored = S.stored }; references = E.Node.refs_of; digest = key_of E.Hash.digest; blob_of = blob_of; found = λ (b : Arc PagableData Global). blob_of (arc_value b); is_closed = S.is_closed; failed = S.failed }) pager.new) }
-    ensures leads { LeadsOn (record { sight = record { type_of = E.Node.type_of; means = E.Node.means; shape_of = E.Node.shape_of; parts = E.parts; stored = S.stored }; references = E.Node.refs_of; digest = key_of E.Hash.digest; blob_of = blob_of; found = λ (b : Arc PagableData Global). blob_of (arc_value b); is_closed = S.is_closed; failed = S.failed }) pager.old (MachineCall.Count handle) result pager.new }
+    ensures does { MakesCall (machine_by (values_by E.Node.type_of E.Node.means E.Node.shape_of E.parts S.stored) E.Node.refs_of E.Hash.digest S.is_closed S.failed) pager.old (MachineCall.Count handle) result pager.new }
+    ensures leads { LeadsOn (machine_by (values_by E.Node.type_of E.Node.means E.Node.shape_of E.parts S.stored) E.Node.refs_of E.Hash.digest S.is_closed S.failed) pager.old (MachineCall.Count handle) result pager.new }
 {
     Reply::Count(pager.count(handle))
 }
@@ -162,8 +159,8 @@ fn key<E: Env, S: PagableStorage<E>>(
 ) -> Reply<E::Node, Arc<PagableData>>
 where
     E::Node: NodeSet<E>,
-    ensures does { CallDoes (record { sight = record { type_of = E.Node.type_of; means = E.Node.means; shape_of = E.Node.shape_of; parts = E.parts; stored = S.stored }; references = E.Node.refs_of; digest = key_of E.Hash.digest; blob_of = blob_of; found = λ (b : Arc PagableData Global). blob_of (arc_value b); is_closed = S.is_closed; failed = S.failed }) (world_of (record { sight = record { type_of = E.Node.type_of; means = E.Node.means; shape_of = E.Node.shape_of; parts = E.parts; stored = S.stored }; references = E.Node.refs_of; digest = key_of E.Hash.digest; blob_of = blob_of; found = λ (b : Arc PagableData Global). blob_of (arc_value b); is_closed = S.is_closed; failed = S.failed }) pager.old) (MachineCall.Key handle) result (world_of (record { sight = record { type_of = E.Node.type_of; means = E.Node.means; shape_of = E.Node.shape_of; parts = E.parts; stored = S.stored }; references = E.Node.refs_of; digest = key_of E.Hash.digest; blob_of = blob_of; found = λ (b : Arc PagableData Global). blob_of (arc_value b); is_closed = S.is_closed; failed = S.failed }) pager.new) }
-    ensures leads { LeadsOn (record { sight = record { type_of = E.Node.type_of; means = E.Node.means; shape_of = E.Node.shape_of; parts = E.parts; stored = S.stored }; references = E.Node.refs_of; digest = key_of E.Hash.digest; blob_of = blob_of; found = λ (b : Arc PagableData Global). blob_of (arc_value b); is_closed = S.is_closed; failed = S.failed }) pager.old (MachineCall.Key handle) result pager.new }
+    ensures does { MakesCall (machine_by (values_by E.Node.type_of E.Node.means E.Node.shape_of E.parts S.stored) E.Node.refs_of E.Hash.digest S.is_closed S.failed) pager.old (MachineCall.Key handle) result pager.new }
+    ensures leads { LeadsOn (machine_by (values_by E.Node.type_of E.Node.means E.Node.shape_of E.parts S.stored) E.Node.refs_of E.Hash.digest S.is_closed S.failed) pager.old (MachineCall.Key handle) result pager.new }
 {
     Reply::KeyFound(pager.key(handle))
 }
@@ -175,8 +172,8 @@ fn is_paged_out<E: Env, S: PagableStorage<E>>(
 ) -> Reply<E::Node, Arc<PagableData>>
 where
     E::Node: NodeSet<E>,
-    ensures does { CallDoes (record { sight = record { type_of = E.Node.type_of; means = E.Node.means; shape_of = E.Node.shape_of; parts = E.parts; stored = S.stored }; references = E.Node.refs_of; digest = key_of E.Hash.digest; blob_of = blob_of; found = λ (b : Arc PagableData Global). blob_of (arc_value b); is_closed = S.is_closed; failed = S.failed }) (world_of (record { sight = record { type_of = E.Node.type_of; means = E.Node.means; shape_of = E.Node.shape_of; parts = E.parts; stored = S.stored }; references = E.Node.refs_of; digest = key_of E.Hash.digest; blob_of = blob_of; found = λ (b : Arc PagableData Global). blob_of (arc_value b); is_closed = S.is_closed; failed = S.failed }) pager.old) (MachineCall.IsPagedOut handle) result (world_of (record { sight = record { type_of = E.Node.type_of; means = E.Node.means; shape_of = E.Node.shape_of; parts = E.parts; stored = S.stored }; references = E.Node.refs_of; digest = key_of E.Hash.digest; blob_of = blob_of; found = λ (b : Arc PagableData Global). blob_of (arc_value b); is_closed = S.is_closed; failed = S.failed }) pager.new) }
-    ensures leads { LeadsOn (record { sight = record { type_of = E.Node.type_of; means = E.Node.means; shape_of = E.Node.shape_of; parts = E.parts; stored = S.stored }; references = E.Node.refs_of; digest = key_of E.Hash.digest; blob_of = blob_of; found = λ (b : Arc PagableData Global). blob_of (arc_value b); is_closed = S.is_closed; failed = S.failed }) pager.old (MachineCall.IsPagedOut handle) result pager.new }
+    ensures does { MakesCall (machine_by (values_by E.Node.type_of E.Node.means E.Node.shape_of E.parts S.stored) E.Node.refs_of E.Hash.digest S.is_closed S.failed) pager.old (MachineCall.IsPagedOut handle) result pager.new }
+    ensures leads { LeadsOn (machine_by (values_by E.Node.type_of E.Node.means E.Node.shape_of E.parts S.stored) E.Node.refs_of E.Hash.digest S.is_closed S.failed) pager.old (MachineCall.IsPagedOut handle) result pager.new }
 {
     Reply::Away(pager.is_paged_out(handle))
 }
@@ -188,8 +185,8 @@ fn node_of<E: Env, S: PagableStorage<E>>(
 ) -> Reply<E::Node, Arc<PagableData>>
 where
     E::Node: NodeSet<E>,
-    ensures does { CallDoes (record { sight = record { type_of = E.Node.type_of; means = E.Node.means; shape_of = E.Node.shape_of; parts = E.parts; stored = S.stored }; references = E.Node.refs_of; digest = key_of E.Hash.digest; blob_of = blob_of; found = λ (b : Arc PagableData Global). blob_of (arc_value b); is_closed = S.is_closed; failed = S.failed }) (world_of (record { sight = record { type_of = E.Node.type_of; means = E.Node.means; shape_of = E.Node.shape_of; parts = E.parts; stored = S.stored }; references = E.Node.refs_of; digest = key_of E.Hash.digest; blob_of = blob_of; found = λ (b : Arc PagableData Global). blob_of (arc_value b); is_closed = S.is_closed; failed = S.failed }) pager.old) (MachineCall.NodeOf handle) result (world_of (record { sight = record { type_of = E.Node.type_of; means = E.Node.means; shape_of = E.Node.shape_of; parts = E.parts; stored = S.stored }; references = E.Node.refs_of; digest = key_of E.Hash.digest; blob_of = blob_of; found = λ (b : Arc PagableData Global). blob_of (arc_value b); is_closed = S.is_closed; failed = S.failed }) pager.new) }
-    ensures leads { LeadsOn (record { sight = record { type_of = E.Node.type_of; means = E.Node.means; shape_of = E.Node.shape_of; parts = E.parts; stored = S.stored }; references = E.Node.refs_of; digest = key_of E.Hash.digest; blob_of = blob_of; found = λ (b : Arc PagableData Global). blob_of (arc_value b); is_closed = S.is_closed; failed = S.failed }) pager.old (MachineCall.NodeOf handle) result pager.new }
+    ensures does { MakesCall (machine_by (values_by E.Node.type_of E.Node.means E.Node.shape_of E.parts S.stored) E.Node.refs_of E.Hash.digest S.is_closed S.failed) pager.old (MachineCall.NodeOf handle) result pager.new }
+    ensures leads { LeadsOn (machine_by (values_by E.Node.type_of E.Node.means E.Node.shape_of E.parts S.stored) E.Node.refs_of E.Hash.digest S.is_closed S.failed) pager.old (MachineCall.NodeOf handle) result pager.new }
 {
     Reply::Node(pager.node_of(handle))
 }
@@ -201,8 +198,8 @@ fn node_live<E: Env, S: PagableStorage<E>>(
 ) -> Reply<E::Node, Arc<PagableData>>
 where
     E::Node: NodeSet<E>,
-    ensures does { CallDoes (record { sight = record { type_of = E.Node.type_of; means = E.Node.means; shape_of = E.Node.shape_of; parts = E.parts; stored = S.stored }; references = E.Node.refs_of; digest = key_of E.Hash.digest; blob_of = blob_of; found = λ (b : Arc PagableData Global). blob_of (arc_value b); is_closed = S.is_closed; failed = S.failed }) (world_of (record { sight = record { type_of = E.Node.type_of; means = E.Node.means; shape_of = E.Node.shape_of; parts = E.parts; stored = S.stored }; references = E.Node.refs_of; digest = key_of E.Hash.digest; blob_of = blob_of; found = λ (b : Arc PagableData Global). blob_of (arc_value b); is_closed = S.is_closed; failed = S.failed }) pager.old) (MachineCall.NodeLive node) result (world_of (record { sight = record { type_of = E.Node.type_of; means = E.Node.means; shape_of = E.Node.shape_of; parts = E.parts; stored = S.stored }; references = E.Node.refs_of; digest = key_of E.Hash.digest; blob_of = blob_of; found = λ (b : Arc PagableData Global). blob_of (arc_value b); is_closed = S.is_closed; failed = S.failed }) pager.new) }
-    ensures leads { LeadsOn (record { sight = record { type_of = E.Node.type_of; means = E.Node.means; shape_of = E.Node.shape_of; parts = E.parts; stored = S.stored }; references = E.Node.refs_of; digest = key_of E.Hash.digest; blob_of = blob_of; found = λ (b : Arc PagableData Global). blob_of (arc_value b); is_closed = S.is_closed; failed = S.failed }) pager.old (MachineCall.NodeLive node) result pager.new }
+    ensures does { MakesCall (machine_by (values_by E.Node.type_of E.Node.means E.Node.shape_of E.parts S.stored) E.Node.refs_of E.Hash.digest S.is_closed S.failed) pager.old (MachineCall.NodeLive node) result pager.new }
+    ensures leads { LeadsOn (machine_by (values_by E.Node.type_of E.Node.means E.Node.shape_of E.parts S.stored) E.Node.refs_of E.Hash.digest S.is_closed S.failed) pager.old (MachineCall.NodeLive node) result pager.new }
 {
     Reply::NodeType(pager.node_live(node))
 }
@@ -213,8 +210,8 @@ fn pending<E: Env, S: PagableStorage<E>>(
 ) -> Reply<E::Node, Arc<PagableData>>
 where
     E::Node: NodeSet<E>,
-    ensures does { CallDoes (record { sight = record { type_of = E.Node.type_of; means = E.Node.means; shape_of = E.Node.shape_of; parts = E.parts; stored = S.stored }; references = E.Node.refs_of; digest = key_of E.Hash.digest; blob_of = blob_of; found = λ (b : Arc PagableData Global). blob_of (arc_value b); is_closed = S.is_closed; failed = S.failed }) (world_of (record { sight = record { type_of = E.Node.type_of; means = E.Node.means; shape_of = E.Node.shape_of; parts = E.parts; stored = S.stored }; references = E.Node.refs_of; digest = key_of E.Hash.digest; blob_of = blob_of; found = λ (b : Arc PagableData Global). blob_of (arc_value b); is_closed = S.is_closed; failed = S.failed }) pager.old) (MachineCall.Pending) result (world_of (record { sight = record { type_of = E.Node.type_of; means = E.Node.means; shape_of = E.Node.shape_of; parts = E.parts; stored = S.stored }; references = E.Node.refs_of; digest = key_of E.Hash.digest; blob_of = blob_of; found = λ (b : Arc PagableData Global). blob_of (arc_value b); is_closed = S.is_closed; failed = S.failed }) pager.new) }
-    ensures leads { LeadsOn (record { sight = record { type_of = E.Node.type_of; means = E.Node.means; shape_of = E.Node.shape_of; parts = E.parts; stored = S.stored }; references = E.Node.refs_of; digest = key_of E.Hash.digest; blob_of = blob_of; found = λ (b : Arc PagableData Global). blob_of (arc_value b); is_closed = S.is_closed; failed = S.failed }) pager.old (MachineCall.Pending) result pager.new }
+    ensures does { MakesCall (machine_by (values_by E.Node.type_of E.Node.means E.Node.shape_of E.parts S.stored) E.Node.refs_of E.Hash.digest S.is_closed S.failed) pager.old MachineCall.Pending result pager.new }
+    ensures leads { LeadsOn (machine_by (values_by E.Node.type_of E.Node.means E.Node.shape_of E.parts S.stored) E.Node.refs_of E.Hash.digest S.is_closed S.failed) pager.old (MachineCall.Pending) result pager.new }
 {
     Reply::Length(pager.pending() as u64)
 }
@@ -226,8 +223,8 @@ fn take_pending<E: Env, S: PagableStorage<E>>(
 ) -> Reply<E::Node, Arc<PagableData>>
 where
     E::Node: NodeSet<E>,
-    ensures does { CallDoes (record { sight = record { type_of = E.Node.type_of; means = E.Node.means; shape_of = E.Node.shape_of; parts = E.parts; stored = S.stored }; references = E.Node.refs_of; digest = key_of E.Hash.digest; blob_of = blob_of; found = λ (b : Arc PagableData Global). blob_of (arc_value b); is_closed = S.is_closed; failed = S.failed }) (world_of (record { sight = record { type_of = E.Node.type_of; means = E.Node.means; shape_of = E.Node.shape_of; parts = E.parts; stored = S.stored }; references = E.Node.refs_of; digest = key_of E.Hash.digest; blob_of = blob_of; found = λ (b : Arc PagableData Global). blob_of (arc_value b); is_closed = S.is_closed; failed = S.failed }) pager.old) (MachineCall.TakePending place) result (world_of (record { sight = record { type_of = E.Node.type_of; means = E.Node.means; shape_of = E.Node.shape_of; parts = E.parts; stored = S.stored }; references = E.Node.refs_of; digest = key_of E.Hash.digest; blob_of = blob_of; found = λ (b : Arc PagableData Global). blob_of (arc_value b); is_closed = S.is_closed; failed = S.failed }) pager.new) }
-    ensures leads { LeadsOn (record { sight = record { type_of = E.Node.type_of; means = E.Node.means; shape_of = E.Node.shape_of; parts = E.parts; stored = S.stored }; references = E.Node.refs_of; digest = key_of E.Hash.digest; blob_of = blob_of; found = λ (b : Arc PagableData Global). blob_of (arc_value b); is_closed = S.is_closed; failed = S.failed }) pager.old (MachineCall.TakePending place) result pager.new }
+    ensures does { MakesCall (machine_by (values_by E.Node.type_of E.Node.means E.Node.shape_of E.parts S.stored) E.Node.refs_of E.Hash.digest S.is_closed S.failed) pager.old (MachineCall.TakePending place) result pager.new }
+    ensures leads { LeadsOn (machine_by (values_by E.Node.type_of E.Node.means E.Node.shape_of E.parts S.stored) E.Node.refs_of E.Hash.digest S.is_closed S.failed) pager.old (MachineCall.TakePending place) result pager.new }
 {
     Reply::Taken(pager.take_pending(place as usize))
 }
@@ -240,8 +237,8 @@ fn fetch<E: Env, S: PagableStorage<E>>(
 ) -> Reply<E::Node, Arc<PagableData>>
 where
     E::Node: NodeSet<E>,
-    ensures does { CallDoes (record { sight = record { type_of = E.Node.type_of; means = E.Node.means; shape_of = E.Node.shape_of; parts = E.parts; stored = S.stored }; references = E.Node.refs_of; digest = key_of E.Hash.digest; blob_of = blob_of; found = λ (b : Arc PagableData Global). blob_of (arc_value b); is_closed = S.is_closed; failed = S.failed }) (world_of (record { sight = record { type_of = E.Node.type_of; means = E.Node.means; shape_of = E.Node.shape_of; parts = E.parts; stored = S.stored }; references = E.Node.refs_of; digest = key_of E.Hash.digest; blob_of = blob_of; found = λ (b : Arc PagableData Global). blob_of (arc_value b); is_closed = S.is_closed; failed = S.failed }) pager.old) (MachineCall.Fetch key) result (world_of (record { sight = record { type_of = E.Node.type_of; means = E.Node.means; shape_of = E.Node.shape_of; parts = E.parts; stored = S.stored }; references = E.Node.refs_of; digest = key_of E.Hash.digest; blob_of = blob_of; found = λ (b : Arc PagableData Global). blob_of (arc_value b); is_closed = S.is_closed; failed = S.failed }) pager.new) }
-    ensures leads { LeadsOn (record { sight = record { type_of = E.Node.type_of; means = E.Node.means; shape_of = E.Node.shape_of; parts = E.parts; stored = S.stored }; references = E.Node.refs_of; digest = key_of E.Hash.digest; blob_of = blob_of; found = λ (b : Arc PagableData Global). blob_of (arc_value b); is_closed = S.is_closed; failed = S.failed }) pager.old (MachineCall.Fetch key) result pager.new }
+    ensures does { MakesCall (machine_by (values_by E.Node.type_of E.Node.means E.Node.shape_of E.parts S.stored) E.Node.refs_of E.Hash.digest S.is_closed S.failed) pager.old (MachineCall.Fetch key) result pager.new }
+    ensures leads { LeadsOn (machine_by (values_by E.Node.type_of E.Node.means E.Node.shape_of E.parts S.stored) E.Node.refs_of E.Hash.digest S.is_closed S.failed) pager.old (MachineCall.Fetch key) result pager.new }
 {
     Reply::Fetched(pager.fetch(alloc, key))
 }
@@ -254,8 +251,8 @@ fn store<E: Env, S: PagableStorage<E>>(
 ) -> Reply<E::Node, Arc<PagableData>>
 where
     E::Node: NodeSet<E>,
-    ensures does { CallDoes (record { sight = record { type_of = E.Node.type_of; means = E.Node.means; shape_of = E.Node.shape_of; parts = E.parts; stored = S.stored }; references = E.Node.refs_of; digest = key_of E.Hash.digest; blob_of = blob_of; found = λ (b : Arc PagableData Global). blob_of (arc_value b); is_closed = S.is_closed; failed = S.failed }) (world_of (record { sight = record { type_of = E.Node.type_of; means = E.Node.means; shape_of = E.Node.shape_of; parts = E.parts; stored = S.stored }; references = E.Node.refs_of; digest = key_of E.Hash.digest; blob_of = blob_of; found = λ (b : Arc PagableData Global). blob_of (arc_value b); is_closed = S.is_closed; failed = S.failed }) pager.old) (MachineCall.Store blob) result (world_of (record { sight = record { type_of = E.Node.type_of; means = E.Node.means; shape_of = E.Node.shape_of; parts = E.parts; stored = S.stored }; references = E.Node.refs_of; digest = key_of E.Hash.digest; blob_of = blob_of; found = λ (b : Arc PagableData Global). blob_of (arc_value b); is_closed = S.is_closed; failed = S.failed }) pager.new) }
-    ensures leads { LeadsOn (record { sight = record { type_of = E.Node.type_of; means = E.Node.means; shape_of = E.Node.shape_of; parts = E.parts; stored = S.stored }; references = E.Node.refs_of; digest = key_of E.Hash.digest; blob_of = blob_of; found = λ (b : Arc PagableData Global). blob_of (arc_value b); is_closed = S.is_closed; failed = S.failed }) pager.old (MachineCall.Store blob) result pager.new }
+    ensures does { MakesCall (machine_by (values_by E.Node.type_of E.Node.means E.Node.shape_of E.parts S.stored) E.Node.refs_of E.Hash.digest S.is_closed S.failed) pager.old (MachineCall.Store blob) result pager.new }
+    ensures leads { LeadsOn (machine_by (values_by E.Node.type_of E.Node.means E.Node.shape_of E.parts S.stored) E.Node.refs_of E.Hash.digest S.is_closed S.failed) pager.old (MachineCall.Store blob) result pager.new }
 {
     Reply::Stored(pager.store(alloc, blob))
 }
@@ -267,8 +264,8 @@ fn load_begin<E: Env, S: PagableStorage<E>>(
 ) -> Reply<E::Node, Arc<PagableData>>
 where
     E::Node: NodeSet<E>,
-    ensures does { CallDoes (record { sight = record { type_of = E.Node.type_of; means = E.Node.means; shape_of = E.Node.shape_of; parts = E.parts; stored = S.stored }; references = E.Node.refs_of; digest = key_of E.Hash.digest; blob_of = blob_of; found = λ (b : Arc PagableData Global). blob_of (arc_value b); is_closed = S.is_closed; failed = S.failed }) (world_of (record { sight = record { type_of = E.Node.type_of; means = E.Node.means; shape_of = E.Node.shape_of; parts = E.parts; stored = S.stored }; references = E.Node.refs_of; digest = key_of E.Hash.digest; blob_of = blob_of; found = λ (b : Arc PagableData Global). blob_of (arc_value b); is_closed = S.is_closed; failed = S.failed }) pager.old) (MachineCall.LoadBegin handle) result (world_of (record { sight = record { type_of = E.Node.type_of; means = E.Node.means; shape_of = E.Node.shape_of; parts = E.parts; stored = S.stored }; references = E.Node.refs_of; digest = key_of E.Hash.digest; blob_of = blob_of; found = λ (b : Arc PagableData Global). blob_of (arc_value b); is_closed = S.is_closed; failed = S.failed }) pager.new) }
-    ensures leads { LeadsOn (record { sight = record { type_of = E.Node.type_of; means = E.Node.means; shape_of = E.Node.shape_of; parts = E.parts; stored = S.stored }; references = E.Node.refs_of; digest = key_of E.Hash.digest; blob_of = blob_of; found = λ (b : Arc PagableData Global). blob_of (arc_value b); is_closed = S.is_closed; failed = S.failed }) pager.old (MachineCall.LoadBegin handle) result pager.new }
+    ensures does { MakesCall (machine_by (values_by E.Node.type_of E.Node.means E.Node.shape_of E.parts S.stored) E.Node.refs_of E.Hash.digest S.is_closed S.failed) pager.old (MachineCall.LoadBegin handle) result pager.new }
+    ensures leads { LeadsOn (machine_by (values_by E.Node.type_of E.Node.means E.Node.shape_of E.parts S.stored) E.Node.refs_of E.Hash.digest S.is_closed S.failed) pager.old (MachineCall.LoadBegin handle) result pager.new }
 {
     Reply::Begun(pager.load_begin(handle))
 }
@@ -292,8 +289,8 @@ fn end_load<E: Env, S: PagableStorage<E>>(
 ) -> Result<HandleNumber, (Error, Option<E::Node>)>
 where
     E::Node: NodeSet<E>,
-    ensures does { CallDoes (record { sight = record { type_of = E.Node.type_of; means = E.Node.means; shape_of = E.Node.shape_of; parts = E.parts; stored = S.stored }; references = E.Node.refs_of; digest = key_of E.Hash.digest; blob_of = blob_of; found = λ (b : Arc PagableData Global). blob_of (arc_value b); is_closed = S.is_closed; failed = S.failed }) (world_of (record { sight = record { type_of = E.Node.type_of; means = E.Node.means; shape_of = E.Node.shape_of; parts = E.parts; stored = S.stored }; references = E.Node.refs_of; digest = key_of E.Hash.digest; blob_of = blob_of; found = λ (b : Arc PagableData Global). blob_of (arc_value b); is_closed = S.is_closed; failed = S.failed }) pager.old) (MachineCall.LoadEnd load node) (Reply.LoadEnded result) (world_of (record { sight = record { type_of = E.Node.type_of; means = E.Node.means; shape_of = E.Node.shape_of; parts = E.parts; stored = S.stored }; references = E.Node.refs_of; digest = key_of E.Hash.digest; blob_of = blob_of; found = λ (b : Arc PagableData Global). blob_of (arc_value b); is_closed = S.is_closed; failed = S.failed }) pager.new) }
-    ensures leads { LeadsOn (record { sight = record { type_of = E.Node.type_of; means = E.Node.means; shape_of = E.Node.shape_of; parts = E.parts; stored = S.stored }; references = E.Node.refs_of; digest = key_of E.Hash.digest; blob_of = blob_of; found = λ (b : Arc PagableData Global). blob_of (arc_value b); is_closed = S.is_closed; failed = S.failed }) pager.old (MachineCall.LoadEnd load node) (Reply.LoadEnded result) pager.new }
+    ensures does { MakesCall (machine_by (values_by E.Node.type_of E.Node.means E.Node.shape_of E.parts S.stored) E.Node.refs_of E.Hash.digest S.is_closed S.failed) pager.old (MachineCall.LoadEnd load node) (Reply.LoadEnded result) pager.new }
+    ensures leads { LeadsOn (machine_by (values_by E.Node.type_of E.Node.means E.Node.shape_of E.parts S.stored) E.Node.refs_of E.Hash.digest S.is_closed S.failed) pager.old (MachineCall.LoadEnd load node) (Reply.LoadEnded result) pager.new }
 {
     pager.load_end(alloc, load, node)
 }
@@ -308,8 +305,8 @@ fn load_end<E: Env, S: PagableStorage<E>>(
 ) -> Reply<E::Node, Arc<PagableData>>
 where
     E::Node: NodeSet<E>,
-    ensures does { CallDoes (record { sight = record { type_of = E.Node.type_of; means = E.Node.means; shape_of = E.Node.shape_of; parts = E.parts; stored = S.stored }; references = E.Node.refs_of; digest = key_of E.Hash.digest; blob_of = blob_of; found = λ (b : Arc PagableData Global). blob_of (arc_value b); is_closed = S.is_closed; failed = S.failed }) (world_of (record { sight = record { type_of = E.Node.type_of; means = E.Node.means; shape_of = E.Node.shape_of; parts = E.parts; stored = S.stored }; references = E.Node.refs_of; digest = key_of E.Hash.digest; blob_of = blob_of; found = λ (b : Arc PagableData Global). blob_of (arc_value b); is_closed = S.is_closed; failed = S.failed }) pager.old) (MachineCall.LoadEnd load node) result (world_of (record { sight = record { type_of = E.Node.type_of; means = E.Node.means; shape_of = E.Node.shape_of; parts = E.parts; stored = S.stored }; references = E.Node.refs_of; digest = key_of E.Hash.digest; blob_of = blob_of; found = λ (b : Arc PagableData Global). blob_of (arc_value b); is_closed = S.is_closed; failed = S.failed }) pager.new) }
-    ensures leads { LeadsOn (record { sight = record { type_of = E.Node.type_of; means = E.Node.means; shape_of = E.Node.shape_of; parts = E.parts; stored = S.stored }; references = E.Node.refs_of; digest = key_of E.Hash.digest; blob_of = blob_of; found = λ (b : Arc PagableData Global). blob_of (arc_value b); is_closed = S.is_closed; failed = S.failed }) pager.old (MachineCall.LoadEnd load node) result pager.new }
+    ensures does { MakesCall (machine_by (values_by E.Node.type_of E.Node.means E.Node.shape_of E.parts S.stored) E.Node.refs_of E.Hash.digest S.is_closed S.failed) pager.old (MachineCall.LoadEnd load node) result pager.new }
+    ensures leads { LeadsOn (machine_by (values_by E.Node.type_of E.Node.means E.Node.shape_of E.parts S.stored) E.Node.refs_of E.Hash.digest S.is_closed S.failed) pager.old (MachineCall.LoadEnd load node) result pager.new }
     ensures forgets { map fetched_of fetched.new.items ≡ fetched_after {B = PagableData} (MachineCall.LoadEnd load node) result (map fetched_of fetched.old.items) }
 {
     let outcome = end_load(pager, alloc, load, node);
@@ -326,8 +323,8 @@ fn load_drop<E: Env, S: PagableStorage<E>>(
 ) -> Reply<E::Node, Arc<PagableData>>
 where
     E::Node: NodeSet<E>,
-    ensures does { CallDoes (record { sight = record { type_of = E.Node.type_of; means = E.Node.means; shape_of = E.Node.shape_of; parts = E.parts; stored = S.stored }; references = E.Node.refs_of; digest = key_of E.Hash.digest; blob_of = blob_of; found = λ (b : Arc PagableData Global). blob_of (arc_value b); is_closed = S.is_closed; failed = S.failed }) (world_of (record { sight = record { type_of = E.Node.type_of; means = E.Node.means; shape_of = E.Node.shape_of; parts = E.parts; stored = S.stored }; references = E.Node.refs_of; digest = key_of E.Hash.digest; blob_of = blob_of; found = λ (b : Arc PagableData Global). blob_of (arc_value b); is_closed = S.is_closed; failed = S.failed }) pager.old) (MachineCall.LoadDrop load) result (world_of (record { sight = record { type_of = E.Node.type_of; means = E.Node.means; shape_of = E.Node.shape_of; parts = E.parts; stored = S.stored }; references = E.Node.refs_of; digest = key_of E.Hash.digest; blob_of = blob_of; found = λ (b : Arc PagableData Global). blob_of (arc_value b); is_closed = S.is_closed; failed = S.failed }) pager.new) }
-    ensures leads { LeadsOn (record { sight = record { type_of = E.Node.type_of; means = E.Node.means; shape_of = E.Node.shape_of; parts = E.parts; stored = S.stored }; references = E.Node.refs_of; digest = key_of E.Hash.digest; blob_of = blob_of; found = λ (b : Arc PagableData Global). blob_of (arc_value b); is_closed = S.is_closed; failed = S.failed }) pager.old (MachineCall.LoadDrop load) result pager.new }
+    ensures does { MakesCall (machine_by (values_by E.Node.type_of E.Node.means E.Node.shape_of E.parts S.stored) E.Node.refs_of E.Hash.digest S.is_closed S.failed) pager.old (MachineCall.LoadDrop load) result pager.new }
+    ensures leads { LeadsOn (machine_by (values_by E.Node.type_of E.Node.means E.Node.shape_of E.parts S.stored) E.Node.refs_of E.Hash.digest S.is_closed S.failed) pager.old (MachineCall.LoadDrop load) result pager.new }
     ensures forgets { map fetched_of fetched.new.items ≡ fetched_after {B = PagableData} (MachineCall.LoadDrop load) result (map fetched_of fetched.old.items) }
 {
     let outcome = pager.load_drop(load);
@@ -344,8 +341,8 @@ fn load_fetch<E: Env, S: PagableStorage<E>>(
 ) -> Reply<E::Node, Arc<PagableData>>
 where
     E::Node: NodeSet<E>,
-    ensures does { CallDoes (record { sight = record { type_of = E.Node.type_of; means = E.Node.means; shape_of = E.Node.shape_of; parts = E.parts; stored = S.stored }; references = E.Node.refs_of; digest = key_of E.Hash.digest; blob_of = blob_of; found = λ (b : Arc PagableData Global). blob_of (arc_value b); is_closed = S.is_closed; failed = S.failed }) (world_of (record { sight = record { type_of = E.Node.type_of; means = E.Node.means; shape_of = E.Node.shape_of; parts = E.parts; stored = S.stored }; references = E.Node.refs_of; digest = key_of E.Hash.digest; blob_of = blob_of; found = λ (b : Arc PagableData Global). blob_of (arc_value b); is_closed = S.is_closed; failed = S.failed }) pager.old) (MachineCall.LoadFetch load) result (world_of (record { sight = record { type_of = E.Node.type_of; means = E.Node.means; shape_of = E.Node.shape_of; parts = E.parts; stored = S.stored }; references = E.Node.refs_of; digest = key_of E.Hash.digest; blob_of = blob_of; found = λ (b : Arc PagableData Global). blob_of (arc_value b); is_closed = S.is_closed; failed = S.failed }) pager.new) }
-    ensures leads { LeadsOn (record { sight = record { type_of = E.Node.type_of; means = E.Node.means; shape_of = E.Node.shape_of; parts = E.parts; stored = S.stored }; references = E.Node.refs_of; digest = key_of E.Hash.digest; blob_of = blob_of; found = λ (b : Arc PagableData Global). blob_of (arc_value b); is_closed = S.is_closed; failed = S.failed }) pager.old (MachineCall.LoadFetch load) result pager.new }
+    ensures does { MakesCall (machine_by (values_by E.Node.type_of E.Node.means E.Node.shape_of E.parts S.stored) E.Node.refs_of E.Hash.digest S.is_closed S.failed) pager.old (MachineCall.LoadFetch load) result pager.new }
+    ensures leads { LeadsOn (machine_by (values_by E.Node.type_of E.Node.means E.Node.shape_of E.parts S.stored) E.Node.refs_of E.Hash.digest S.is_closed S.failed) pager.old (MachineCall.LoadFetch load) result pager.new }
 {
     match pager.load_fetch(alloc, load, Want::Root) {
         Ok(Either::Right(blob)) => Reply::LoadFound(Ok(Found::Blob(blob))),
@@ -363,8 +360,8 @@ fn dispatch<E: Env, S: PagableStorage<E>>(
 ) -> Reply<E::Node, Arc<PagableData>>
 where
     E::Node: NodeSet<E>,
-    ensures does { CallDoes (record { sight = record { type_of = E.Node.type_of; means = E.Node.means; shape_of = E.Node.shape_of; parts = E.parts; stored = S.stored }; references = E.Node.refs_of; digest = key_of E.Hash.digest; blob_of = blob_of; found = λ (b : Arc PagableData Global). blob_of (arc_value b); is_closed = S.is_closed; failed = S.failed }) (world_of (record { sight = record { type_of = E.Node.type_of; means = E.Node.means; shape_of = E.Node.shape_of; parts = E.parts; stored = S.stored }; references = E.Node.refs_of; digest = key_of E.Hash.digest; blob_of = blob_of; found = λ (b : Arc PagableData Global). blob_of (arc_value b); is_closed = S.is_closed; failed = S.failed }) pager.old) (call) result (world_of (record { sight = record { type_of = E.Node.type_of; means = E.Node.means; shape_of = E.Node.shape_of; parts = E.parts; stored = S.stored }; references = E.Node.refs_of; digest = key_of E.Hash.digest; blob_of = blob_of; found = λ (b : Arc PagableData Global). blob_of (arc_value b); is_closed = S.is_closed; failed = S.failed }) pager.new) }
-    ensures leads { LeadsOn (record { sight = record { type_of = E.Node.type_of; means = E.Node.means; shape_of = E.Node.shape_of; parts = E.parts; stored = S.stored }; references = E.Node.refs_of; digest = key_of E.Hash.digest; blob_of = blob_of; found = λ (b : Arc PagableData Global). blob_of (arc_value b); is_closed = S.is_closed; failed = S.failed }) pager.old (call) result pager.new }
+    ensures does { MakesCall (machine_by (values_by E.Node.type_of E.Node.means E.Node.shape_of E.parts S.stored) E.Node.refs_of E.Hash.digest S.is_closed S.failed) pager.old call result pager.new }
+    ensures leads { LeadsOn (machine_by (values_by E.Node.type_of E.Node.means E.Node.shape_of E.parts S.stored) E.Node.refs_of E.Hash.digest S.is_closed S.failed) pager.old (call) result pager.new }
     ensures forgets { map fetched_of fetched.new.items ≡ fetched_after call result (map fetched_of fetched.old.items) }
 {
     match call {
@@ -403,9 +400,9 @@ pub fn apply<E: Env, S: PagableStorage<E>>(
 ) -> Reply<E::Node, Arc<PagableData>>
 where
     E::Node: NodeSet<E>,
-    ensures does { CallDoes (record { sight = record { type_of = E.Node.type_of; means = E.Node.means; shape_of = E.Node.shape_of; parts = E.parts; stored = S.stored }; references = E.Node.refs_of; digest = key_of E.Hash.digest; blob_of = blob_of; found = λ (b : Arc PagableData Global). blob_of (arc_value b); is_closed = S.is_closed; failed = S.failed }) (world_of (record { sight = record { type_of = E.Node.type_of; means = E.Node.means; shape_of = E.Node.shape_of; parts = E.parts; stored = S.stored }; references = E.Node.refs_of; digest = key_of E.Hash.digest; blob_of = blob_of; found = λ (b : Arc PagableData Global). blob_of (arc_value b); is_closed = S.is_closed; failed = S.failed }) pager.old) (call) result (world_of (record { sight = record { type_of = E.Node.type_of; means = E.Node.means; shape_of = E.Node.shape_of; parts = E.parts; stored = S.stored }; references = E.Node.refs_of; digest = key_of E.Hash.digest; blob_of = blob_of; found = λ (b : Arc PagableData Global). blob_of (arc_value b); is_closed = S.is_closed; failed = S.failed }) pager.new) }
-    ensures leads { LeadsOn (record { sight = record { type_of = E.Node.type_of; means = E.Node.means; shape_of = E.Node.shape_of; parts = E.parts; stored = S.stored }; references = E.Node.refs_of; digest = key_of E.Hash.digest; blob_of = blob_of; found = λ (b : Arc PagableData Global). blob_of (arc_value b); is_closed = S.is_closed; failed = S.failed }) pager.old (call) result pager.new }
-    ensures whole { IsWholeToday (record { sight = record { type_of = E.Node.type_of; means = E.Node.means; shape_of = E.Node.shape_of; parts = E.parts; stored = S.stored }; references = E.Node.refs_of; digest = key_of E.Hash.digest; blob_of = blob_of; found = λ (b : Arc PagableData Global). blob_of (arc_value b); is_closed = S.is_closed; failed = S.failed }) pager.new }
+    ensures does { MakesCall (machine_by (values_by E.Node.type_of E.Node.means E.Node.shape_of E.parts S.stored) E.Node.refs_of E.Hash.digest S.is_closed S.failed) pager.old call result pager.new }
+    ensures leads { LeadsOn (machine_by (values_by E.Node.type_of E.Node.means E.Node.shape_of E.parts S.stored) E.Node.refs_of E.Hash.digest S.is_closed S.failed) pager.old (call) result pager.new }
+    ensures whole { IsWholeToday (machine_by (values_by E.Node.type_of E.Node.means E.Node.shape_of E.parts S.stored) E.Node.refs_of E.Hash.digest S.is_closed S.failed) pager.new }
     ensures forgets { map fetched_of fetched.new.items ≡ fetched_after call result (map fetched_of fetched.old.items) }
 {
     let reply = dispatch(pager, fetched, alloc, call);

@@ -2,7 +2,6 @@
 
 ghost use Rattle.std.specs.Prelude.{◌≡◌, ℕ, ◌<◌, ◌+◌, ◌++◌, ◌∷◌, [], All, IfOk, IfErr, Ok, length, map, slice_index_or, vec_len};
 ghost use Rattle.std.specs.Arc.{arc_value};
-ghost use Rattle.pagable_model.specs.Blob.{key_of};
 ghost use Rattle.pagable_core.specs.Data.{blob_of};
 ghost use Rattle.pagable_world.specs.Cells.{Cell};
 ghost use Rattle.pagable_world.specs.World.{plain, HasCell};
@@ -10,12 +9,13 @@ ghost use Rattle.pagable_world.specs.Calls.{LoadTypeIs};
 ghost use Rattle.pagable_world.specs.Shown.{OnlyStore, SameStore};
 ghost use Rattle.pagable_world.specs.TodayTrees.{Always, EachWorld, ReadFits};
 ghost use Rattle.pagable_world.specs.MachineSteps.{world_of};
-ghost use Rattle.pagable_world.specs.LoadMoves.{event_world_of, LoadStepped, StepFetches};
+ghost use Rattle.pagable_world.specs.LoadMoves.{event_world_of, StepFetches};
 ghost use Rattle.pagable_world.specs.MachineRuns.{FetchedFits};
 ghost use Rattle.pagable_machine.specs.Rows.{driven_by, fetched_of};
 ghost use Rattle.pagable_machine.specs.Moves.{ClosesOnly, EachLoad, EndsRead, EndsWith, FetchesRoot, GetsRoot, LeadsIf};
 ghost use Rattle.pagable_machine.specs.Reading.{ReadsAlone, MeansItsTree};
 ghost use Rattle.pagable_machine.specs.declared.fetched.FetchedBlob.{FetchedBlob};
+ghost use Rattle.pagable_machine.specs.Sights.{events_by, machine_by, StepsLoad, values_by};
 
 use crate::fetched;
 use crate::fetched::FetchedBlob;
@@ -35,7 +35,7 @@ use std::sync::Arc;
 fn close<E: Env, S: PagableStorage<E>>(pager: &mut Pager<E, S>, load: LoadNumber)
 where
     E::Node: NodeSet<E>,
-    ensures closes { EachLoad (plain pager.old.book) load (λ p row. ClosesOnly (world_of (record { sight = record { type_of = E.Node.type_of; means = E.Node.means; shape_of = E.Node.shape_of; parts = E.parts; stored = S.stored }; references = E.Node.refs_of; digest = key_of E.Hash.digest; blob_of = blob_of; found = λ (b : Arc PagableData Global). blob_of (arc_value b); is_closed = S.is_closed; failed = S.failed }) pager.old) p row (world_of (record { sight = record { type_of = E.Node.type_of; means = E.Node.means; shape_of = E.Node.shape_of; parts = E.parts; stored = S.stored }; references = E.Node.refs_of; digest = key_of E.Hash.digest; blob_of = blob_of; found = λ (b : Arc PagableData Global). blob_of (arc_value b); is_closed = S.is_closed; failed = S.failed }) pager.new)) }
+    ensures closes { EachLoad (plain pager.old.book) load (λ p row. ClosesOnly (world_of (machine_by (values_by E.Node.type_of E.Node.means E.Node.shape_of E.parts S.stored) E.Node.refs_of E.Hash.digest S.is_closed S.failed) pager.old) p row (world_of (machine_by (values_by E.Node.type_of E.Node.means E.Node.shape_of E.parts S.stored) E.Node.refs_of E.Hash.digest S.is_closed S.failed) pager.new)) }
     ensures env { pager.new.env ≡ pager.old.env }
     ensures trees { LeadsIf (record { type_of = E.Node.type_of; means = E.Node.means; shape_of = E.Node.shape_of; parts = E.parts; stored = S.stored }) Always pager.old pager.new }
 {
@@ -51,7 +51,7 @@ fn get_root<E: Env, S: PagableStorage<E>>(
 ) -> Result<Arc<PagableData>, Error>
 where
     E::Node: NodeSet<E>,
-    ensures does { GetsRoot (record { sight = record { type_of = E.Node.type_of; means = E.Node.means; shape_of = E.Node.shape_of; parts = E.parts; stored = S.stored }; references = E.Node.refs_of; digest = key_of E.Hash.digest; blob_of = blob_of; found = λ (b : Arc PagableData Global). blob_of (arc_value b); is_closed = S.is_closed; failed = S.failed }) (world_of (record { sight = record { type_of = E.Node.type_of; means = E.Node.means; shape_of = E.Node.shape_of; parts = E.parts; stored = S.stored }; references = E.Node.refs_of; digest = key_of E.Hash.digest; blob_of = blob_of; found = λ (b : Arc PagableData Global). blob_of (arc_value b); is_closed = S.is_closed; failed = S.failed }) pager.old) load result (world_of (record { sight = record { type_of = E.Node.type_of; means = E.Node.means; shape_of = E.Node.shape_of; parts = E.parts; stored = S.stored }; references = E.Node.refs_of; digest = key_of E.Hash.digest; blob_of = blob_of; found = λ (b : Arc PagableData Global). blob_of (arc_value b); is_closed = S.is_closed; failed = S.failed }) pager.new) }
+    ensures does { GetsRoot (machine_by (values_by E.Node.type_of E.Node.means E.Node.shape_of E.parts S.stored) E.Node.refs_of E.Hash.digest S.is_closed S.failed) (world_of (machine_by (values_by E.Node.type_of E.Node.means E.Node.shape_of E.parts S.stored) E.Node.refs_of E.Hash.digest S.is_closed S.failed) pager.old) load result (world_of (machine_by (values_by E.Node.type_of E.Node.means E.Node.shape_of E.parts S.stored) E.Node.refs_of E.Hash.digest S.is_closed S.failed) pager.new) }
     ensures trees { EachWorld (record { type_of = E.Node.type_of; means = E.Node.means; shape_of = E.Node.shape_of; parts = E.parts; stored = S.stored }) pager.old pager.new Always (λ w w'. w'.plain ≡ w.plain) }
 {
     match pager.load_fetch(alloc, load, Want::Root) {
@@ -69,7 +69,7 @@ fn fetch_root<E: Env, S: PagableStorage<E>>(
 ) -> Result<Arc<PagableData>, Error>
 where
     E::Node: NodeSet<E>,
-    ensures does { EachLoad (plain pager.old.book) load (λ p row. FetchesRoot (record { sight = record { type_of = E.Node.type_of; means = E.Node.means; shape_of = E.Node.shape_of; parts = E.parts; stored = S.stored }; references = E.Node.refs_of; digest = key_of E.Hash.digest; blob_of = blob_of; found = λ (b : Arc PagableData Global). blob_of (arc_value b); is_closed = S.is_closed; failed = S.failed }) (world_of (record { sight = record { type_of = E.Node.type_of; means = E.Node.means; shape_of = E.Node.shape_of; parts = E.parts; stored = S.stored }; references = E.Node.refs_of; digest = key_of E.Hash.digest; blob_of = blob_of; found = λ (b : Arc PagableData Global). blob_of (arc_value b); is_closed = S.is_closed; failed = S.failed }) pager.old) p row result (world_of (record { sight = record { type_of = E.Node.type_of; means = E.Node.means; shape_of = E.Node.shape_of; parts = E.parts; stored = S.stored }; references = E.Node.refs_of; digest = key_of E.Hash.digest; blob_of = blob_of; found = λ (b : Arc PagableData Global). blob_of (arc_value b); is_closed = S.is_closed; failed = S.failed }) pager.new)) }
+    ensures does { EachLoad (plain pager.old.book) load (λ p row. FetchesRoot (machine_by (values_by E.Node.type_of E.Node.means E.Node.shape_of E.parts S.stored) E.Node.refs_of E.Hash.digest S.is_closed S.failed) (world_of (machine_by (values_by E.Node.type_of E.Node.means E.Node.shape_of E.parts S.stored) E.Node.refs_of E.Hash.digest S.is_closed S.failed) pager.old) p row result (world_of (machine_by (values_by E.Node.type_of E.Node.means E.Node.shape_of E.parts S.stored) E.Node.refs_of E.Hash.digest S.is_closed S.failed) pager.new)) }
     ensures trees { LeadsIf (record { type_of = E.Node.type_of; means = E.Node.means; shape_of = E.Node.shape_of; parts = E.parts; stored = S.stored }) Always pager.old pager.new }
 {
     pager.is_whole();
@@ -91,7 +91,7 @@ fn first_step<E: Env, S: PagableStorage<E>>(
 ) -> Option<LoadAnswer<E::Node>>
 where
     E::Node: NodeSet<E>,
-    ensures does { EachLoad (plain pager.old.book) load (λ p row. StepFetches (event_world_of (record { machine = record { sight = record { type_of = E.Node.type_of; means = E.Node.means; shape_of = E.Node.shape_of; parts = E.parts; stored = S.stored }; references = E.Node.refs_of; digest = key_of E.Hash.digest; blob_of = blob_of; found = λ (b : Arc PagableData Global). blob_of (arc_value b); is_closed = S.is_closed; failed = S.failed }; read_causes = E.Node.read_causes }) (driven_by pager.old fetched.old.items)) p row result (event_world_of (record { machine = record { sight = record { type_of = E.Node.type_of; means = E.Node.means; shape_of = E.Node.shape_of; parts = E.parts; stored = S.stored }; references = E.Node.refs_of; digest = key_of E.Hash.digest; blob_of = blob_of; found = λ (b : Arc PagableData Global). blob_of (arc_value b); is_closed = S.is_closed; failed = S.failed }; read_causes = E.Node.read_causes }) (driven_by pager.new fetched.new.items))) }
+    ensures does { EachLoad (plain pager.old.book) load (λ p row. StepFetches (event_world_of (events_by (machine_by (values_by E.Node.type_of E.Node.means E.Node.shape_of E.parts S.stored) E.Node.refs_of E.Hash.digest S.is_closed S.failed) E.Node.read_causes) (driven_by pager.old fetched.old.items)) p row result (event_world_of (events_by (machine_by (values_by E.Node.type_of E.Node.means E.Node.shape_of E.parts S.stored) E.Node.refs_of E.Hash.digest S.is_closed S.failed) E.Node.read_causes) (driven_by pager.new fetched.new.items))) }
     ensures trees { LeadsIf (record { type_of = E.Node.type_of; means = E.Node.means; shape_of = E.Node.shape_of; parts = E.parts; stored = S.stored }) Always pager.old pager.new }
 {
     if fetched.reserve(1).is_err() {
@@ -125,7 +125,7 @@ where
     E::Node: NodeSet<E>,
     requires typed { LoadTypeIs (plain pager.old.book) load (Ok (E.Node.type_of value)) }
     requires alone { E.Node.refs_of value ≡ [] }
-    ensures does { EachLoad (plain pager.old.book) load (λ p row. EndsWith (world_of (record { sight = record { type_of = E.Node.type_of; means = E.Node.means; shape_of = E.Node.shape_of; parts = E.parts; stored = S.stored }; references = E.Node.refs_of; digest = key_of E.Hash.digest; blob_of = blob_of; found = λ (b : Arc PagableData Global). blob_of (arc_value b); is_closed = S.is_closed; failed = S.failed }) pager.old) p row result (world_of (record { sight = record { type_of = E.Node.type_of; means = E.Node.means; shape_of = E.Node.shape_of; parts = E.parts; stored = S.stored }; references = E.Node.refs_of; digest = key_of E.Hash.digest; blob_of = blob_of; found = λ (b : Arc PagableData Global). blob_of (arc_value b); is_closed = S.is_closed; failed = S.failed }) pager.new)) }
+    ensures does { EachLoad (plain pager.old.book) load (λ p row. EndsWith (world_of (machine_by (values_by E.Node.type_of E.Node.means E.Node.shape_of E.parts S.stored) E.Node.refs_of E.Hash.digest S.is_closed S.failed) pager.old) p row result (world_of (machine_by (values_by E.Node.type_of E.Node.means E.Node.shape_of E.parts S.stored) E.Node.refs_of E.Hash.digest S.is_closed S.failed) pager.new)) }
     ensures trees { LeadsIf (record { type_of = E.Node.type_of; means = E.Node.means; shape_of = E.Node.shape_of; parts = E.parts; stored = S.stored }) (ReadFits (record { type_of = E.Node.type_of; means = E.Node.means; shape_of = E.Node.shape_of; parts = E.parts; stored = S.stored }) load value) pager.old pager.new }
 {
     pager.is_whole();
@@ -150,7 +150,7 @@ where
     E::Node: NodeSet<E>,
     requires typed { IfOk read (λ x. LoadTypeIs (plain pager.old.book) load (Ok (E.Node.type_of x))) }
     requires alone { IfOk read (λ x. E.Node.refs_of x ≡ []) }
-    ensures does { EachLoad (plain pager.old.book) load (λ p row. EndsRead (world_of (record { sight = record { type_of = E.Node.type_of; means = E.Node.means; shape_of = E.Node.shape_of; parts = E.parts; stored = S.stored }; references = E.Node.refs_of; digest = key_of E.Hash.digest; blob_of = blob_of; found = λ (b : Arc PagableData Global). blob_of (arc_value b); is_closed = S.is_closed; failed = S.failed }) pager.old) p row read result (world_of (record { sight = record { type_of = E.Node.type_of; means = E.Node.means; shape_of = E.Node.shape_of; parts = E.parts; stored = S.stored }; references = E.Node.refs_of; digest = key_of E.Hash.digest; blob_of = blob_of; found = λ (b : Arc PagableData Global). blob_of (arc_value b); is_closed = S.is_closed; failed = S.failed }) pager.new)) }
+    ensures does { EachLoad (plain pager.old.book) load (λ p row. EndsRead (world_of (machine_by (values_by E.Node.type_of E.Node.means E.Node.shape_of E.parts S.stored) E.Node.refs_of E.Hash.digest S.is_closed S.failed) pager.old) p row read result (world_of (machine_by (values_by E.Node.type_of E.Node.means E.Node.shape_of E.parts S.stored) E.Node.refs_of E.Hash.digest S.is_closed S.failed) pager.new)) }
     ensures trees { LeadsIf (record { type_of = E.Node.type_of; means = E.Node.means; shape_of = E.Node.shape_of; parts = E.parts; stored = S.stored }) (λ w. IfOk read (λ x. ReadFits (record { type_of = E.Node.type_of; means = E.Node.means; shape_of = E.Node.shape_of; parts = E.parts; stored = S.stored }) load x w)) pager.old pager.new }
 {
     match read {
@@ -194,8 +194,8 @@ where
     requires typed { LoadTypeIs (plain pager.old.book) load (Ok node_type) }
     requires within { place < length fetched.old.items }
     requires there { (row : FetchedBlob) → (slice_index_or fetched.old.items place row).load.0 ≡ load.0 }
-    requires fits { All (FetchedFits (record { machine = record { sight = record { type_of = E.Node.type_of; means = E.Node.means; shape_of = E.Node.shape_of; parts = E.parts; stored = S.stored }; references = E.Node.refs_of; digest = key_of E.Hash.digest; blob_of = blob_of; found = λ (b : Arc PagableData Global). blob_of (arc_value b); is_closed = S.is_closed; failed = S.failed }; read_causes = E.Node.read_causes }) pager.old) (map fetched_of fetched.old.items) }
-    ensures does { LoadStepped (record { machine = record { sight = record { type_of = E.Node.type_of; means = E.Node.means; shape_of = E.Node.shape_of; parts = E.parts; stored = S.stored }; references = E.Node.refs_of; digest = key_of E.Hash.digest; blob_of = blob_of; found = λ (b : Arc PagableData Global). blob_of (arc_value b); is_closed = S.is_closed; failed = S.failed }; read_causes = E.Node.read_causes }) pager.old.env (event_world_of (record { machine = record { sight = record { type_of = E.Node.type_of; means = E.Node.means; shape_of = E.Node.shape_of; parts = E.parts; stored = S.stored }; references = E.Node.refs_of; digest = key_of E.Hash.digest; blob_of = blob_of; found = λ (b : Arc PagableData Global). blob_of (arc_value b); is_closed = S.is_closed; failed = S.failed }; read_causes = E.Node.read_causes }) (driven_by pager.old fetched.old.items)) load (Ok result) (event_world_of (record { machine = record { sight = record { type_of = E.Node.type_of; means = E.Node.means; shape_of = E.Node.shape_of; parts = E.parts; stored = S.stored }; references = E.Node.refs_of; digest = key_of E.Hash.digest; blob_of = blob_of; found = λ (b : Arc PagableData Global). blob_of (arc_value b); is_closed = S.is_closed; failed = S.failed }; read_causes = E.Node.read_causes }) (driven_by pager.new fetched.new.items)) }
+    requires fits { All (FetchedFits (events_by (machine_by (values_by E.Node.type_of E.Node.means E.Node.shape_of E.parts S.stored) E.Node.refs_of E.Hash.digest S.is_closed S.failed) E.Node.read_causes) pager.old) (map fetched_of fetched.old.items) }
+    ensures does { StepsLoad (events_by (machine_by (values_by E.Node.type_of E.Node.means E.Node.shape_of E.parts S.stored) E.Node.refs_of E.Hash.digest S.is_closed S.failed) E.Node.read_causes) (driven_by pager.old fetched.old.items) load (Ok result) (driven_by pager.new fetched.new.items) }
     ensures trees { LeadsIf (record { type_of = E.Node.type_of; means = E.Node.means; shape_of = E.Node.shape_of; parts = E.parts; stored = S.stored }) Always pager.old pager.new }
 {
     pager.is_whole();
@@ -221,8 +221,8 @@ fn open_step<E: Env, S: PagableStorage<E>>(
 where
     E::Node: NodeSet<E>,
     requires typed { LoadTypeIs (plain pager.old.book) load (Ok node_type) }
-    requires fits { All (FetchedFits (record { machine = record { sight = record { type_of = E.Node.type_of; means = E.Node.means; shape_of = E.Node.shape_of; parts = E.parts; stored = S.stored }; references = E.Node.refs_of; digest = key_of E.Hash.digest; blob_of = blob_of; found = λ (b : Arc PagableData Global). blob_of (arc_value b); is_closed = S.is_closed; failed = S.failed }; read_causes = E.Node.read_causes }) pager.old) (map fetched_of fetched.old.items) }
-    ensures does { LoadStepped (record { machine = record { sight = record { type_of = E.Node.type_of; means = E.Node.means; shape_of = E.Node.shape_of; parts = E.parts; stored = S.stored }; references = E.Node.refs_of; digest = key_of E.Hash.digest; blob_of = blob_of; found = λ (b : Arc PagableData Global). blob_of (arc_value b); is_closed = S.is_closed; failed = S.failed }; read_causes = E.Node.read_causes }) pager.old.env (event_world_of (record { machine = record { sight = record { type_of = E.Node.type_of; means = E.Node.means; shape_of = E.Node.shape_of; parts = E.parts; stored = S.stored }; references = E.Node.refs_of; digest = key_of E.Hash.digest; blob_of = blob_of; found = λ (b : Arc PagableData Global). blob_of (arc_value b); is_closed = S.is_closed; failed = S.failed }; read_causes = E.Node.read_causes }) (driven_by pager.old fetched.old.items)) load (Ok result) (event_world_of (record { machine = record { sight = record { type_of = E.Node.type_of; means = E.Node.means; shape_of = E.Node.shape_of; parts = E.parts; stored = S.stored }; references = E.Node.refs_of; digest = key_of E.Hash.digest; blob_of = blob_of; found = λ (b : Arc PagableData Global). blob_of (arc_value b); is_closed = S.is_closed; failed = S.failed }; read_causes = E.Node.read_causes }) (driven_by pager.new fetched.new.items)) }
+    requires fits { All (FetchedFits (events_by (machine_by (values_by E.Node.type_of E.Node.means E.Node.shape_of E.parts S.stored) E.Node.refs_of E.Hash.digest S.is_closed S.failed) E.Node.read_causes) pager.old) (map fetched_of fetched.old.items) }
+    ensures does { StepsLoad (events_by (machine_by (values_by E.Node.type_of E.Node.means E.Node.shape_of E.parts S.stored) E.Node.refs_of E.Hash.digest S.is_closed S.failed) E.Node.read_causes) (driven_by pager.old fetched.old.items) load (Ok result) (driven_by pager.new fetched.new.items) }
     ensures trees { LeadsIf (record { type_of = E.Node.type_of; means = E.Node.means; shape_of = E.Node.shape_of; parts = E.parts; stored = S.stored }) Always pager.old pager.new }
 {
     match fetched::place_of(fetched, load) {
@@ -244,8 +244,8 @@ pub fn load_step<E: Env, S: PagableStorage<E>>(
 ) -> Result<LoadReply<E::Node>, Error>
 where
     E::Node: NodeSet<E>,
-    requires fits { All (FetchedFits (record { machine = record { sight = record { type_of = E.Node.type_of; means = E.Node.means; shape_of = E.Node.shape_of; parts = E.parts; stored = S.stored }; references = E.Node.refs_of; digest = key_of E.Hash.digest; blob_of = blob_of; found = λ (b : Arc PagableData Global). blob_of (arc_value b); is_closed = S.is_closed; failed = S.failed }; read_causes = E.Node.read_causes }) pager.old) (map fetched_of fetched.old.items) }
-    ensures does { LoadStepped (record { machine = record { sight = record { type_of = E.Node.type_of; means = E.Node.means; shape_of = E.Node.shape_of; parts = E.parts; stored = S.stored }; references = E.Node.refs_of; digest = key_of E.Hash.digest; blob_of = blob_of; found = λ (b : Arc PagableData Global). blob_of (arc_value b); is_closed = S.is_closed; failed = S.failed }; read_causes = E.Node.read_causes }) pager.old.env (event_world_of (record { machine = record { sight = record { type_of = E.Node.type_of; means = E.Node.means; shape_of = E.Node.shape_of; parts = E.parts; stored = S.stored }; references = E.Node.refs_of; digest = key_of E.Hash.digest; blob_of = blob_of; found = λ (b : Arc PagableData Global). blob_of (arc_value b); is_closed = S.is_closed; failed = S.failed }; read_causes = E.Node.read_causes }) (driven_by pager.old fetched.old.items)) load result (event_world_of (record { machine = record { sight = record { type_of = E.Node.type_of; means = E.Node.means; shape_of = E.Node.shape_of; parts = E.parts; stored = S.stored }; references = E.Node.refs_of; digest = key_of E.Hash.digest; blob_of = blob_of; found = λ (b : Arc PagableData Global). blob_of (arc_value b); is_closed = S.is_closed; failed = S.failed }; read_causes = E.Node.read_causes }) (driven_by pager.new fetched.new.items)) }
+    requires fits { All (FetchedFits (events_by (machine_by (values_by E.Node.type_of E.Node.means E.Node.shape_of E.parts S.stored) E.Node.refs_of E.Hash.digest S.is_closed S.failed) E.Node.read_causes) pager.old) (map fetched_of fetched.old.items) }
+    ensures does { StepsLoad (events_by (machine_by (values_by E.Node.type_of E.Node.means E.Node.shape_of E.parts S.stored) E.Node.refs_of E.Hash.digest S.is_closed S.failed) E.Node.read_causes) (driven_by pager.old fetched.old.items) load result (driven_by pager.new fetched.new.items) }
     ensures trees { LeadsIf (record { type_of = E.Node.type_of; means = E.Node.means; shape_of = E.Node.shape_of; parts = E.parts; stored = S.stored }) Always pager.old pager.new }
 {
     match pager.load_type(load) {

@@ -1,13 +1,13 @@
 use Rattle.pagable_model.specs.Blob.{key_of}
 use Rattle.pagable_machine.proofs.Closing.{load-ends}
 use Rattle.pagable_machine.proofs.Leading.{end-leads}
-use Rattle.pagable_machine.proofs.Sights.{values-by, machine-by}
+use Rattle.pagable_machine.specs.Sights.{values_by, machine_by}
 use Rattle.pagable_machine.proofs.single.end_load.Goals as goal
 
 pub returns-clause-does : goal.returns-clause-does
 returns-clause-does g c =
-    let g-sight = values-by g.E.Node.NodeSet.type_of g.E.Node.NodeSet.means g.E.Node.NodeSet.shape_of g.E.Env.parts g.S.PagableStorage.stored in
-    let m = machine-by g-sight g.E.Node.NodeSet.refs_of (key_of g.E.Hash.KeyHash.digest) g.S.PagableStorage.is_closed g.S.PagableStorage.failed in
+    let g-sight = values_by g.E.Node.NodeSet.type_of g.E.Node.NodeSet.means g.E.Node.NodeSet.shape_of g.E.Env.parts g.S.PagableStorage.stored in
+    let m = machine_by g-sight g.E.Node.NodeSet.refs_of g.E.Hash.KeyHash.digest g.S.PagableStorage.is_closed g.S.PagableStorage.failed in
     let e = c.load_end.ensures in
     load-ends m c.args.pager.now c.load_end.new.self c.args.load c.args.node c.load_end.result e.step e.alone e.installs e.closed e.back e.same
 

@@ -1,5 +1,5 @@
 use Rattle.pagable_model.specs.Blob.{key_of}
-use Rattle.pagable_machine.proofs.Sights.{values-by, machine-by, events-by}
+use Rattle.pagable_machine.specs.Sights.{values_by, machine_by, events_by}
 use Rattle.std.proofs.Common.{map, IfOk}
 use Rattle.pagable_machine.specs.Rows.{fetched_of}
 use Rattle.pagable_machine.proofs.Closing.{leads-anyway}
@@ -9,9 +9,9 @@ use Rattle.pagable_machine.proofs.steps.second_step.Goals as goal
 
 pub returns-clause-does : goal.returns-clause-does
 returns-clause-does g c =
-    let g-sight = values-by g.E.Node.NodeSet.type_of g.E.Node.NodeSet.means g.E.Node.NodeSet.shape_of g.E.Env.parts g.S.PagableStorage.stored in
-    let m = machine-by g-sight g.E.Node.NodeSet.refs_of (key_of g.E.Hash.KeyHash.digest) g.S.PagableStorage.is_closed g.S.PagableStorage.failed in
-    let em = events-by m g.E.Node.NodeSet.read_causes in
+    let g-sight = values_by g.E.Node.NodeSet.type_of g.E.Node.NodeSet.means g.E.Node.NodeSet.shape_of g.E.Env.parts g.S.PagableStorage.stored in
+    let m = machine_by g-sight g.E.Node.NodeSet.refs_of g.E.Hash.KeyHash.digest g.S.PagableStorage.is_closed g.S.PagableStorage.failed in
+    let em = events_by m g.E.Node.NodeSet.read_causes in
     let row = c.index-row.result.now in
     let number = row-number c.args.fetched.now.items c.args.load c.args.place row c.requires.within c.index-row.ensures c.requires.there in
     let here = kept-at c.args.fetched.now.items c.args.load c.args.place row c.requires.within c.index-row.ensures number in
@@ -19,9 +19,9 @@ returns-clause-does g c =
 
 pub returns-clause-trees : goal.returns-clause-trees
 returns-clause-trees g c =
-    let g-sight = values-by g.E.Node.NodeSet.type_of g.E.Node.NodeSet.means g.E.Node.NodeSet.shape_of g.E.Env.parts g.S.PagableStorage.stored in
-    let m = machine-by g-sight g.E.Node.NodeSet.refs_of (key_of g.E.Hash.KeyHash.digest) g.S.PagableStorage.is_closed g.S.PagableStorage.failed in
-    let em = events-by m g.E.Node.NodeSet.read_causes in
+    let g-sight = values_by g.E.Node.NodeSet.type_of g.E.Node.NodeSet.means g.E.Node.NodeSet.shape_of g.E.Env.parts g.S.PagableStorage.stored in
+    let m = machine_by g-sight g.E.Node.NodeSet.refs_of g.E.Hash.KeyHash.digest g.S.PagableStorage.is_closed g.S.PagableStorage.failed in
+    let em = events_by m g.E.Node.NodeSet.read_causes in
     let row = c.index-row.result.now in
     let number = row-number c.args.fetched.now.items c.args.load c.args.place row c.requires.within c.index-row.ensures c.requires.there in
     let here = kept-at c.args.fetched.now.items c.args.load c.args.place row c.requires.within c.index-row.ensures number in
