@@ -2,8 +2,9 @@
 use Rattle.std.proofs.Common.{◌≡◌, ℕ, ◌+◌, ◌<◌, ◌≤◌, ◌==◌, Bool, true, false, List, [], ◌∷◌, ◌++◌, sum_by, refl, ap, sym, ◌∙◌, subst, arith, get_or, Some, None, Option, Ok, Err, Result, OnOk, OnErr, IfOk, IfErr, slice_get, inl, inr}
 use Rattle.std.specs.Prelude.{nat_lt, not, ◌||◌, ◌⊎◌, ◌≢◌}
 use Rattle.std.specs.List.{remove}
+use Rattle.std.proofs.Math.Nat.{eq-zero-or-pos}
 use Rattle.std.proofs.lemmas.Bool.Decides.{nat_tests}
-use Rattle.std.proofs.lemmas.Bool.{cases_eq}
+use Rattle.std.proofs.lemmas.Bool.{cases_eq, cases_order, cases_Bool}
 use Rattle.std.proofs.lemmas.Option.{get_or_from_slice_get, slice_get_within}
 use Rattle.std.proofs.lemmas.List.Sums.{sum_by_push, sum_by-le-sum_by}
 use Rattle.pagable_model.specs.declared.error.Error.{Error}
@@ -41,13 +42,10 @@ same-plain old new w w' same = same-here old new w w' (λ fits q. ap (λ (x : Wo
 less-here : (fits : ℕ → Bool) (q : ℕ) (old new : State) → WellFormed old → WellFormed new → here fits q (plain new) ≤ here fits q (plain old) → values_of fits q new ≤ values_of fits q old
 less-here fits q old new w w' less = let a = values-here fits q new w' in let b = values-here fits q old w in omega arith
 
-cases_some : (n : ℕ) → (n ≡ 0) ⊎ (0 < n)
-cases_some n = grind arith
-
 -- where no value comes, one that is there after is the one from before
 stays-or-goes : (old new : State) → WellFormed old → ((fits : ℕ → Bool) (q : ℕ) → values_of fits q new ≤ values_of fits q old) → (fits : ℕ → Bool) (q : ℕ) → (values_of fits q new ≡ values_of fits q old) ⊎ (value_of_node q new ≡ 0)
 stays-or-goes old new w less fits q =
-    elim (cases_some (value_of_node q new)) [
+    elim (eq-zero-or-pos (value_of_node q new)) [
       | inl none ↦ inr none
       | inr some ↦
           let le = value-le-one q old w in
@@ -189,9 +187,6 @@ goes-unpin w i row w' at step =
       others = λ fits q other. let e = unpin-pins q w i row at in let f = ap (λ (x : World). pins q x.rows) step in let none : pin_of q row ≡ 0 = grind (arith, nat_tests) in here-as-many fits q w w' (ap (λ (x : World). x.cells) step) (omega arith);
     }
 
-cases_held : (n : ℕ) → (n ≡ 0) ⊎ (0 < n)
-cases_held n = grind arith
-
 -- a cell that leaves had at most its own value
 removed-less : (fits : ℕ → Bool) (q j : ℕ) (cells cells' : List Cell) (cell : Cell) (m n : ℕ) → slice_get cells j ≡ Some cell → cells' ≡ remove cells j → m ≤ n → sum_by (cell_here fits q (nat_lt 0 m)) cells' ≤ sum_by (cell_here fits q (nat_lt 0 n)) cells
 removed-less fits q j cells cells' cell m n at gone le =
@@ -215,7 +210,7 @@ goes-leave w i row w' at rows follows =
           let e = sum-remove (pin_of q) w.rows i row at in
           let f = ap (λ (l : List HandleRow). pins q l) rows in
           let fewer : pins q w'.rows ≤ pins q w.rows = omega arith in
-          elim (cases_held (held row.node.0 (remove w.rows i))) [
+          elim (eq-zero-or-pos (held row.node.0 (remove w.rows i))) [
             | inl none ↦ let g = follows.goes none in removed-less fits q g.0 w.cells w'.cells g.1 (pins q w'.rows) (pins q w.rows) g.2 g.4 fewer
             | inr some ↦ here-less fits q w w' (follows.stays some) fewer
           ];
@@ -224,7 +219,7 @@ goes-leave w i row w' at rows follows =
           let f = ap (λ (l : List HandleRow). pins q l) rows in
           let free : pin_of q row ≡ 0 = grind (arith, nat_tests) in
           let same : pins q w'.rows ≡ pins q w.rows = omega arith in
-          elim (cases_held (held row.node.0 (remove w.rows i))) [
+          elim (eq-zero-or-pos (held row.node.0 (remove w.rows i))) [
             | inl none ↦
                 let g = follows.goes none in
                 let apart : g.1.number ≢ q = λ is. other (sym g.3 ∙ is) in
@@ -405,9 +400,6 @@ away-values old new node_type key (Ok k) w w' s =
     omega arith)
 away-values old new node_type key (Err e) w w' s = same-plain old new w w' s.1
 
-cases_order : (a b : ℕ) → (a < b) ⊎ (a ≡ b) ⊎ (b < a)
-cases_order a b = grind arith
-
 -- a handle's number is its row's alone
 handle-once : (s : State) (p p' : ℕ) (a b : HandleRow) → WellFormed s → slice_get s.handles p ≡ Some a → slice_get s.handles p' ≡ Some b → a.number.0 ≡ b.number.0 → a ≡ b
 handle-once s p p' a b w at there same =
@@ -418,8 +410,8 @@ handle-once s p p' a b w at there same =
     let lt = slice_get_within s.handles p a at in
     let lt' = slice_get_within s.handles p' b there in
     elim (cases_order p p') [
-      | inl before ↦ absurd (let o = w.handles.ordered p p' a before lt' in omega arith)
-      | inr (inl equal) ↦ sym is ∙ ap (λ (i : ℕ). get_or s.handles i a) equal ∙ is'
+      | inl equal ↦ sym is ∙ ap (λ (i : ℕ). get_or s.handles i a) equal ∙ is'
+      | inr (inl before) ↦ absurd (let o = w.handles.ordered p p' a before lt' in omega arith)
       | inr (inr after) ↦ absurd (let o = w.handles.ordered p' p a after lt in omega arith)
     ]
 
@@ -484,8 +476,8 @@ load-once s p p' a b w at there same =
     let lt = slice_get_within s.loads p a at in
     let lt' = slice_get_within s.loads p' b there in
     elim (cases_order p p') [
-      | inl before ↦ absurd (let o = w.loads.ordered p p' a before lt' in omega arith)
-      | inr (inl equal) ↦ sym is ∙ ap (λ (i : ℕ). get_or s.loads i a) equal ∙ is'
+      | inl equal ↦ sym is ∙ ap (λ (i : ℕ). get_or s.loads i a) equal ∙ is'
+      | inr (inl before) ↦ absurd (let o = w.loads.ordered p p' a before lt' in omega arith)
       | inr (inr after) ↦ absurd (let o = w.loads.ordered p' p a after lt in omega arith)
     ]
 
@@ -503,10 +495,6 @@ end-now fits old i row h p load w' cell w once own node c has =
     let some = subst P node (through-more (plain old) i row own.there) in
     here-pinned fits load.node.0 has.0 w' cell once there has.2 (omega arith)
 
-cases_test : (b : Bool) → (b ≡ true) ⊎ (b ≡ false)
-cases_test true = inl refl
-cases_test false = inr refl
-
 was-there : (fits : ℕ → Bool) (q : ℕ) (b : Bool) (cell : Cell) → cell.number ≡ q → (b || not (has_key cell.key)) ≡ true → cell_here fits q b cell ≡ one (fits cell.node_type)
 was-there fits q b cell number is = grind (arith, nat_tests)
 
@@ -518,7 +506,7 @@ comes-or-stays : (old new : State) (q j : ℕ) (cell : Cell) → WellFormed old 
 comes-or-stays old new q j cell w at number now others =
     let b : Bool = nat_lt 0 (pins q old.handles) in
     let its : (fits : ℕ → Bool) → values_of fits q old ≡ cell_here fits q b cell = λ fits. values-here fits q old w ∙ here-at fits b q j (plain old).cells cell ((once-whole old w).each q) at number in
-    elim (cases_test (b || not (has_key cell.key))) [
+    elim (cases_Bool (b || not (has_key cell.key))) [
       | inl is ↦
           let same : (fits : ℕ → Bool) → values_of fits q new ≡ values_of fits q old = λ fits. now fits ∙ sym (its fits ∙ was-there fits q b cell number is) in
           inr (its (λ _. true) ∙ was-there (λ _. true) q b cell number is, record { each = λ fits p. each-of fits p (same fits) (others fits p) })

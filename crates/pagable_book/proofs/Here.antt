@@ -1,8 +1,9 @@
 -- Whose value is in memory, by the rows and the cells of a plain world.
 use Rattle.std.proofs.Common.{◌≡◌, ℕ, ◌+◌, ◌<◌, ◌≤◌, ◌==◌, Bool, true, false, List, [], ◌∷◌, sum_by, refl, ap, sym, ◌∙◌, arith, All, get_or, Some, slice_get, inl, inr}
-use Rattle.std.specs.Prelude.{nat_lt, not, ◌⊎◌, ◌≢◌}
+use Rattle.std.specs.Prelude.{nat_lt, not, ◌≢◌}
 use Rattle.std.specs.List.{remove}
 use Rattle.std.proofs.lemmas.Bool.Decides.{nat_tests}
+use Rattle.std.proofs.lemmas.Bool.{cases_Bool}
 use Rattle.std.proofs.lemmas.List.Sums.{sum_by-cons, sum_by-le-sum_by, get_or-le-sum_by}
 use Rattle.pagable_model.specs.declared.data_key.OptionalDataKey.TheVariants as optional
 use Rattle.pagable_model.specs.declared.numbers.NodeNumber.{NodeNumber}
@@ -59,15 +60,11 @@ other-is fits q b n is =
     let c = cell-le fits q b (cell_of n) in
     (none, grind (arith, nat_tests), omega arith, omega arith)
 
-cases_test : (b : Bool) → (b ≡ true) ⊎ (b ≡ false)
-cases_test true = inl refl
-cases_test false = inr refl
-
 -- What the rows of the nodes say of a value is what the cells say, if it is told whether the node is pinned.
 pub values-cells : (fits : ℕ → Bool) (q c : ℕ) (nodes : List NodeRow) → sum_by (is_node q) nodes ≤ 1 → sum_by (count_at q) nodes ≡ c → sum_by (value_with fits q) nodes ≡ sum_by (cell_here fits q (nat_lt 0 c)) (cells_of nodes)
 values-cells fits q c [] once counted = refl
 values-cells fits q c (n ∷ nodes) once counted =
-    elim (cases_test (n.number.0 == q)) [
+    elim (cases_Bool (n.number.0 == q)) [
       | inl is ↦ first-is fits q c n nodes is once counted
       | inr is ↦
           let o = other-is fits q (nat_lt 0 c) n is in

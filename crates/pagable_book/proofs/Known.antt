@@ -86,7 +86,7 @@ listed_owner owners.List h = refl
 listed_owner (owners.Load l) h = absurd (cc)
 listed_owner (owners.Worker v) h = absurd (cc)
 
-unpinned_mode : (m : Mode) → is_pinning m ≡ false → m ≡ modes.LooseUnpinned
+pub unpinned_mode : (m : Mode) → is_pinning m ≡ false → m ≡ modes.LooseUnpinned
 unpinned_mode modes.LoosePinned h = absurd (cc)
 unpinned_mode modes.LooseUnpinned h = refl
 unpinned_mode modes.Pinned h = absurd (cc)
@@ -140,7 +140,8 @@ own-row s p i load x w there at same =
     let row = its-row s.handles s.last_handle i x (is_own load.number.0 load.own.0 load.node.0) w.handles at (λ h. grind (arith, nat_tests)) in
     grind (arith, nat_tests)
 
-same_number : (a b : LoadNumber) → a.0 ≡ b.0 → a ≡ b
+-- numbers of loads are what is in them
+pub same_number : (a b : LoadNumber) → a.0 ≡ b.0 → a ≡ b
 same_number a b e = let make : ℕ → LoadNumber = λ n. record { 0 = n } in ap make e
 
 load_owner : (o : Owner) (l : LoadNumber) → is_of_load l.0 o ≡ true → o ≡ owners.Load l

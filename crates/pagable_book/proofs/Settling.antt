@@ -85,7 +85,7 @@ whole-loosen s i x w at owner mode =
 pub none-held : (handles seen : List HandleRow) (node : ℕ) (b : Bool) → seen ≡ handles → b ≡ nat_lt 0 (held node seen) → b ≡ false → held node handles ≡ 0
 none-held handles seen node b same is off = let e = ap (held node) same in grind (arith, nat_tests)
 
-pinned_mode : (m : Mode) → is_loose m ≡ true → is_pinning m ≡ true → m ≡ modes.LoosePinned
+pub pinned_mode : (m : Mode) → is_loose m ≡ true → is_pinning m ≡ true → m ≡ modes.LoosePinned
 pinned_mode modes.LoosePinned loose h = refl
 pinned_mode modes.LooseUnpinned loose h = absurd (cc)
 pinned_mode modes.Pinned loose h = absurd (cc)

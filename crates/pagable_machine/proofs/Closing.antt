@@ -1,6 +1,7 @@
 -- What the parts of a load's step do.
 use Rattle.std.proofs.Common.{◌≡◌, ℕ, ◌≤◌, List, [], ◌∷◌, ◌++◌, map, Some, None, Result, Ok, Err, OnOk, refl, ap, sym, ◌∙◌, subst, arith, inl, inr}
 use Rattle.std.specs.Prelude.{Option, IfOk, IfErr, IfNone, IfSome}
+use Rattle.std.proofs.lemmas.List.{map-append}
 use Rattle.pagable_model.specs.declared.error.Error.{Error}
 use Rattle.pagable_model.specs.declared.error.Error.TheVariants as errors
 use Rattle.pagable_model.specs.declared.numbers.ArcRef.{ArcRef}
@@ -116,13 +117,9 @@ root-kept {N} m old new l b before after grows does p row has =
     let P : LoadNumber → Type 0 = λ n. after ≡ before ++ record { load = n; blob = m.machine.found b; steps = 1 } ∷ [] in
     (m.machine.found b, it.0, it.1, subst P (sym has.1) grows)
 
-map-more : {X Y : Type 0} (f : X → Y) (xs : List X) (x : X) → map f (xs ++ x ∷ []) ≡ map f xs ++ f x ∷ []
-map-more f [] x = refl
-map-more f (y ∷ ys) x = ap (λ zs. f y ∷ zs) (map-more f ys x)
-
 -- one row more
 pub kept-more : (before mid after : List FetchedBlob) (x : FetchedBlob) → after ≡ mid ++ x ∷ [] → mid ≡ before → map fetched_of after ≡ map fetched_of before ++ fetched_of x ∷ []
-kept-more before mid after x grows same = ap (map fetched_of) grows ∙ map-more fetched_of mid x ∙ ap (λ (rows : List FetchedBlob). map fetched_of rows ++ fetched_of x ∷ []) same
+kept-more before mid after x grows same = ap (map fetched_of) grows ∙ map-append fetched_of mid (x ∷ []) ∙ ap (λ (rows : List FetchedBlob). map fetched_of rows ++ fetched_of x ∷ []) same
 
 -- the end of a load, by what the pager says of it
 pub load-ends : {N S E B C : Type 0} (m : MachineSight N S E B C) (old new : Shown N S E) (l : LoadNumber) (x : N) (r : Result HandleNumber (Error × Option N)) → IfOk r (λ k. Ended (plain old.book) l (Ok k) (plain new.book)) → OnOk r (m.references x ≡ []) → OnOk r (InstallsValue m.sight.type_of l x old new)

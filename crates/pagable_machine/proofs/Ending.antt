@@ -1,10 +1,8 @@
 -- A load's second step, and the step of a load that is open.
-use Rattle.std.proofs.Common.{◌≡◌, ℕ, ◌+◌, ◌<◌, ◌≤◌, List, [], ◌∷◌, length, get_or, map, sum_by, All, Option, Some, Result, Ok, Err, IfOk, refl, ap, sym, ◌∙◌, subst, arith, inl, inr, slice_index_or}
+use Rattle.std.proofs.Common.{◌≡◌, ℕ, ◌+◌, ◌<◌, List, [], ◌∷◌, length, get_or, map, sum_by, All, Option, Some, Result, Ok, Err, IfOk, refl, ap, sym, ◌∙◌, subst, inl, inr, slice_index_or}
 use Rattle.std.specs.Prelude.{◌≢◌, ◌==◌}
-use Rattle.std.proofs.lemmas.Bool.Decides.{nat_tests}
 use Rattle.std.specs.Option.{option_map}
 use Rattle.std.proofs.lemmas.List.Elements.{All-map}
-use Rattle.std.proofs.lemmas.List.Sums.{get_or-le-sum_by}
 use Rattle.std.proofs.lemmas.Option.{get_or_from_slice_get, slice_get_within, slice_get-get_or, slice_get-map}
 use Rattle.pagable_model.specs.declared.error.Error.{Error}
 use Rattle.pagable_model.specs.declared.error.Error.TheVariants as errors
@@ -30,16 +28,14 @@ use Rattle.pagable_machine.specs.declared.fetched.FetchedBlob.{FetchedBlob}
 use Rattle.pagable_machine.specs.Rows.{fetched_of}
 use Rattle.pagable_machine.specs.Moves.{EachLoad, EndsRead}
 use Rattle.pagable_machine.specs.Reading.{refused_rest, ReadsAlone, MeansItsTree}
+use Rattle.pagable_pager.proofs.Kept.{all-apart}
 use Rattle.pagable_machine.proofs.Loads.{one-load}
 
 -- ---- where a load stands
 
-apart-from : (n q m : ℕ) → one (n == q) ≤ m → m ≡ 0 → n ≢ q
-apart-from n q m le none = λ same. let bad : one (n == q) ≡ 1 = grind (arith, nat_tests) in absurd (omega arith)
-
 -- the load stands nowhere
 pub nothing-kept : (rows : List FetchedBlob) (l : LoadNumber) → sum_by (λ row. one (row.load.0 == l.0)) rows ≡ 0 → HasFetchedNothing (map fetched_of rows) l
-nothing-kept rows l none = All-map (λ (f : FetchedRoot). f.load.0 ≢ l.0) fetched_of rows (λ k d lt. apart-from (get_or rows k d).load.0 l.0 _ (get_or-le-sum_by (λ row. one (row.load.0 == l.0)) rows k d lt) none)
+nothing-kept rows l none = All-map (λ (f : FetchedRoot). f.load.0 ≢ l.0) fetched_of rows (all-apart (λ row. row.load.0) l.0 rows none)
 
 -- the load stands at this place
 pub kept-at : (rows : List FetchedBlob) (l : LoadNumber) (place : ℕ) (row : FetchedBlob) → place < length rows → row ≡ get_or rows place row → row.load.0 ≡ l.0 → HasFetched (map fetched_of rows) l (fetched_of row)
@@ -128,7 +124,3 @@ read-means {E = E} m old l t f (Ok x) whole of_load fits number typed env same t
     let Means : E → Type 0 = λ v. MeansItsTree (m.machine.sight.means x) (record { nodes = m.machine.sight.shape_of v; parts = m.machine.sight.parts v }) t f.blob in
     means-tree m old w l t f x whole rep of_load fits number typed (subst Means same tree)
 read-means m old l t f (Err e) whole of_load fits number typed env same tree w rep = tt
-
--- numbers of loads are what is in them
-pub same-load : (a b : LoadNumber) → a.0 ≡ b.0 → a ≡ b
-same-load a b same = ap (λ (n : ℕ). let l : LoadNumber = record { 0 = n } in l) same

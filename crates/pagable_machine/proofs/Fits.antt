@@ -1,8 +1,9 @@
 -- What each event keeps of open loads and of what is stored, so that a load that has got its root's blob stays open and right.
-use Rattle.std.proofs.Common.{◌≡◌, ℕ, zero, suc, Bool, true, false, List, [], ◌∷◌, ◌++◌, get_or, All, Option, Some, None, Result, Ok, Err, refl, ap, sym, ◌∙◌, subst, arith, inl, inr, slice_get}
-use Rattle.std.specs.Prelude.{◌⊎◌, ◌≢◌, ◌==◌, not, if◌then◌else◌}
+use Rattle.std.proofs.Common.{◌≡◌, ℕ, zero, suc, Bool, true, List, [], ◌∷◌, ◌++◌, get_or, All, Option, Some, None, Result, Ok, Err, refl, ap, sym, ◌∙◌, subst, arith, inl, inr, slice_get}
+use Rattle.std.specs.Prelude.{◌≢◌, ◌==◌, not, if◌then◌else◌}
 use Rattle.std.specs.List.{remove}
 use Rattle.std.proofs.lemmas.Bool.Decides.{nat_tests}
+use Rattle.std.proofs.lemmas.Bool.{cases_Bool}
 use Rattle.std.proofs.lemmas.List.Elements.{All-same, All-push, All-filter, filter_passes}
 use Rattle.pagable_model.specs.declared.error.Error.{Error}
 use Rattle.pagable_model.specs.declared.numbers.HandleNumber.{HandleNumber}
@@ -97,16 +98,12 @@ begun w w' new loads only =
       stored = same-stored w w' (ap (λ (x : MachineWorld). x.stored) only);
     }
 
-cases_test : (b : Bool) → (b ≡ true) ⊎ (b ≡ false)
-cases_test true = inl refl
-cases_test false = inr refl
-
 -- a blob is stored
 adds : (w w' : MachineWorld) (key : ℕ) (b : Blob) → w'.tables ≡ w.tables → Adds key b w.stored w'.stored → Keeps None w w'
 adds w w' key b tables a =
     record {
       loads = λ l p row stays has. (p, (ap (λ (x : World). slice_get x.loads p) tables ∙ has.0, has.1));
-      stored = λ q c at. elim (cases_test (q == key)) [
+      stored = λ q c at. elim (cases_Bool (q == key)) [
         | inl is ↦
             let number : q ≡ key = grind (arith, nat_tests) in
             let there : w.stored key ≡ Some c = ap w.stored (sym number) ∙ at in

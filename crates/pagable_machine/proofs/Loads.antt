@@ -1,9 +1,9 @@
 -- Open loads and cells by their numbers, and what closes a load.
 use Rattle.std.proofs.Common.{◌≡◌, ℕ, ◌<◌, List, get_or, Option, Some, None, refl, ap, sym, ◌∙◌, subst, arith, inl, inr, slice_get}
-use Rattle.std.specs.Prelude.{◌⊎◌}
 use Rattle.std.specs.List.{AllPairs}
 use Rattle.std.specs.Option.{option_map}
 use Rattle.std.proofs.lemmas.Bool.Decides.{nat_tests}
+use Rattle.std.proofs.lemmas.Bool.{cases_order}
 use Rattle.std.proofs.lemmas.List.Sums.{get_or-le-sum_by}
 use Rattle.std.proofs.lemmas.Option.{get_or_from_slice_get, slice_get_within, slice_get-map}
 use Rattle.pagable_model.specs.declared.numbers.LoadNumber.{LoadNumber}
@@ -16,9 +16,6 @@ use Rattle.pagable_world.specs.World.{World, plain, HasCell}
 use Rattle.pagable_world.specs.Calls.{HasLoad, IsNoLoad}
 use Rattle.pagable_machine.specs.Moves.{EachLoad}
 
-cases_order : (a b : ℕ) → (a < b) ⊎ (a ≡ b) ⊎ (b < a)
-cases_order a b = grind arith
-
 -- where numbers rise, each stands once
 once-at : {A : Type 0} (f : A → ℕ) (xs : List A) (p q : ℕ) (a b : A) → AllPairs (λ x y. f x < f y) xs → slice_get xs p ≡ Some a → slice_get xs q ≡ Some b → f a ≡ f b → p ≡ q
 once-at f xs p q a b ordered at there same =
@@ -27,8 +24,8 @@ once-at f xs p q a b ordered at there same =
     let lt = slice_get_within xs p a at in
     let lt' = slice_get_within xs q b there in
     elim (cases_order p q) [
-      | inl before ↦ absurd (let o = ordered p q a before lt' in omega arith)
-      | inr (inl equal) ↦ equal
+      | inl equal ↦ equal
+      | inr (inl before) ↦ absurd (let o = ordered p q a before lt' in omega arith)
       | inr (inr after) ↦ absurd (let o = ordered q p a after lt in omega arith)
     ]
 

@@ -1,6 +1,6 @@
 -- A run goes on by one more event.
-use Rattle.std.proofs.Common.{◌≡◌, List, [], ◌∷◌, ◌++◌, map, length, refl, ap, sym, ◌∙◌, subst}
-use Rattle.std.proofs.lemmas.List.{append-nil}
+use Rattle.std.proofs.Common.{◌≡◌, List, [], ◌∷◌, ◌++◌, length, refl, ap, sym, ◌∙◌, subst}
+use Rattle.std.proofs.lemmas.List.{append-nil, map-append}
 use Rattle.pagable_world.specs.declared.machine.MachineEvent.{MachineEvent}
 use Rattle.pagable_world.specs.declared.events.EventReply.{EventReply}
 use Rattle.pagable_world.specs.TodayTrees.{TodayWorld, RepresentsToday}
@@ -19,10 +19,6 @@ trees-more m v (y ∷ ys) x w rep all leads = λ asks. let next = all asks in (n
 after-more : {N S E B C : Type 0} (v : Driven N S E) (xs : List (MachineMoment N S E B C)) (x : MachineMoment N S E B C) → driven_after v (xs ++ x ∷ []) ≡ x.after
 after-more v [] x = refl
 after-more v (y ∷ ys) x = after-more y.after ys x
-
-map-more : {X Y : Type 0} (f : X → Y) (xs : List X) (x : X) → map f (xs ++ x ∷ []) ≡ map f xs ++ f x ∷ []
-map-more f [] x = refl
-map-more f (y ∷ ys) x = ap (λ zs. f y ∷ zs) (map-more f ys x)
 
 -- a list of length 0 is empty
 pub nothing-left : {X : Type 0} (xs : List X) → length xs ≡ 0 → xs ≡ []
@@ -47,8 +43,8 @@ run-more m old mid new happened replied event reply run does leads whole =
     let back = sym run.ends in
     record {
       moments = run.moments ++ x ∷ [];
-      events_are = map-more (λ y. y.event) run.moments x ∙ ap (λ (ys : List (MachineEvent _ _)). ys ++ event ∷ []) run.events_are;
-      replies_are = map-more (λ y. y.reply) run.moments x ∙ ap (λ (ys : List (EventReply _ _ _)). ys ++ reply ∷ []) run.replies_are;
+      events_are = map-append (λ y. y.event) run.moments (x ∷ []) ∙ ap (λ (ys : List (MachineEvent _ _)). ys ++ event ∷ []) run.events_are;
+      replies_are = map-append (λ y. y.reply) run.moments (x ∷ []) ∙ ap (λ (ys : List (EventReply _ _ _)). ys ++ reply ∷ []) run.replies_are;
       ends = after-more old run.moments x;
       steps = steps-more m old run.moments x run.steps (subst (λ v. EventDoes m v.pager.env (event_world_of m v) event reply (event_world_of m new)) back does) whole;
       trees = λ w rep. trees-more m old run.moments x w rep (run.trees w rep) (subst (λ v. EventLeadsOn m v event reply new) back leads);

@@ -1,15 +1,15 @@
 -- Values that are kept, and values in step with the tables.
-use Rattle.std.proofs.Common.{◌≡◌, ℕ, ◌+◌, ◌≤◌, cond, Bool, true, false, List, [], ◌∷◌, ◌++◌, map, sum_by, refl, ap, sym, ◌∙◌, subst, arith, inl, inr}
+use Rattle.std.proofs.Common.{◌≡◌, ℕ, ◌+◌, cond, Bool, true, false, List, [], ◌∷◌, ◌++◌, map, sum_by, refl, ap, sym, ◌∙◌, subst, arith, inl, inr}
 use Rattle.std.specs.Prelude.{nat_lt, filter, ◌⊎◌}
 use Rattle.std.proofs.lemmas.Bool.Decides.{nat_tests}
-use Rattle.std.proofs.lemmas.Bool.{cases_eq}
+use Rattle.std.proofs.lemmas.Bool.{cases_eq, cases_Bool}
 use Rattle.std.proofs.lemmas.List.{map-append}
 use Rattle.pagable_model.specs.declared.numbers.NodeNumber.{NodeNumber}
-use Rattle.std.proofs.lemmas.List.Sums.{sum_by-cons, sum_by_push, sum_by-le-sum_by}
+use Rattle.std.proofs.lemmas.List.Sums.{sum_by-cons, sum_by_push}
 use Rattle.pagable_world.specs.State.{State, one, value_at}
-use Rattle.pagable_world.specs.Values.{value_with, values_of, value_of_node, SameValues, ValueComes}
-use Rattle.pagable_world.specs.declared.rows.NodeRow.{NodeRow}
+use Rattle.pagable_world.specs.Values.{values_of, value_of_node, SameValues, ValueComes}
 use Rattle.pagable_world.specs.InStep.{is_value, InStep, kept}
+use Rattle.pagable_book.proofs.Here.{fitting-le}
 use Rattle.pagable_pager.specs.Rows.{value_of}
 use Rattle.pagable_pager.specs.declared.pagable_arc.values.ValueRow.{ValueRow}
 
@@ -17,7 +17,7 @@ one-more : {X Y : Type 0} (g : X → Y) (b : Bool) (x : X) (l : List X) (m : Lis
 one-more {Y = Y} g true x l m h = ap (λ (ys : List Y). g x ∷ ys) h
 one-more g false x l m h = h
 
-map-filter : {X Y : Type 0} (g : X → Y) (p : Y → Bool) (xs : List X) → map g (filter (λ x. p (g x)) xs) ≡ filter p (map g xs)
+pub map-filter : {X Y : Type 0} (g : X → Y) (p : Y → Bool) (xs : List X) → map g (filter (λ x. p (g x)) xs) ≡ filter p (map g xs)
 map-filter g p [] = refl
 map-filter g p (x ∷ xs) = one-more g (p (g x)) x (filter (λ y. p (g y)) xs) (filter p (map g xs)) (map-filter g p xs)
 
@@ -29,10 +29,6 @@ kept-rows book rows = map-filter value_of (λ v. nat_lt 0 (sum_by (value_at v.0)
 pub in-same : {N : Type 0} (type_of : N → ℕ) (old new : State) (values : List (ℕ × N)) → InStep type_of old values → SameValues old new → InStep type_of new values
 in-same type_of old new values i s = record { each = λ fits q. i.each fits q ∙ sym (s.each fits q) }
 
-cases_test : (b : Bool) → (b ≡ true) ⊎ (b ≡ false)
-cases_test true = inl refl
-cases_test false = inr refl
-
 other-number : {N : Type 0} (type_of : N → ℕ) (fits : ℕ → Bool) (q : ℕ) (v : ℕ × N) → (v.0 ≡ q → ⊥) → is_value type_of fits q v ≡ 0
 other-number type_of fits q v other = grind (arith, nat_tests)
 
@@ -41,7 +37,7 @@ dropped-one type_of fits keep q v l stays =
     elim (cases_eq v.0 q) [
       | inl same ↦ let yes' : keep v.0 ≡ true = ap keep same ∙ stays in rw yes' (sum_by-cons (is_value type_of fits q) v l)
       | inr other ↦
-          elim (cases_test (keep v.0)) [
+          elim (cases_Bool (keep v.0)) [
             | inl is ↦ rw is (sum_by-cons (is_value type_of fits q) v l)
             | inr is ↦ rw is (let none = other-number type_of fits q v other in omega arith)
           ]
@@ -58,7 +54,7 @@ gone-one type_of fits keep q v l goes none =
     elim (cases_eq v.0 q) [
       | inl same ↦ let no : keep v.0 ≡ false = ap keep same ∙ goes in rw no none
       | inr other ↦
-          elim (cases_test (keep v.0)) [
+          elim (cases_Bool (keep v.0)) [
             | inl is ↦ rw is (let e = sum_by-cons (is_value type_of fits q) v l in let z = other-number type_of fits q v other in omega arith)
             | inr is ↦ rw is none
           ]
@@ -69,12 +65,9 @@ filter-goes : {N : Type 0} (type_of : N → ℕ) (fits : ℕ → Bool) (keep : �
 filter-goes type_of fits keep q [] goes = refl
 filter-goes type_of fits keep q (v ∷ values) goes = gone-one type_of fits keep q v (filter (λ x. keep x.0) values) goes (filter-goes type_of fits keep q values goes)
 
-value-fits : (fits : ℕ → Bool) (q : ℕ) (n : NodeRow) → value_with fits q n ≤ value_with (λ _. true) q n
-value-fits fits q n = grind (arith, nat_tests)
-
 -- a node without its value has none of any type
 pub none-fits : (fits : ℕ → Bool) (q : ℕ) (s : State) → value_of_node q s ≡ 0 → values_of fits q s ≡ 0
-none-fits fits q s none = let le = sum_by-le-sum_by (value_with fits q) (value_with (λ _. true) q) s.nodes (value-fits fits q) in omega arith
+none-fits fits q s none = let le = fitting-le fits q s in omega arith
 
 -- what is kept after a call by which no value comes is in step
 pub in-kept : {N : Type 0} (type_of : N → ℕ) (old new : State) (values : List (ℕ × N)) → InStep type_of old values → ((fits : ℕ → Bool) (q : ℕ) → (values_of fits q new ≡ values_of fits q old) ⊎ (value_of_node q new ≡ 0)) → InStep type_of new (kept new values)
@@ -82,7 +75,7 @@ in-kept type_of old new values i each =
     record {
       each = λ fits q.
           let keep : ℕ → Bool = λ n. nat_lt 0 (value_of_node n new) in
-          elim (cases_test (keep q)) [
+          elim (cases_Bool (keep q)) [
             | inl stays ↦
                 elim (each fits q) [
                   | inl same ↦ filter-stays type_of fits keep q values stays ∙ i.each fits q ∙ sym same

@@ -1,9 +1,9 @@
 -- Each call keeps the trees of the nodes.
-use Rattle.std.proofs.Common.{◌≡◌, ℕ, ◌+◌, ◌<◌, ◌≤◌, List, [], ◌∷◌, ◌++◌, length, set, suc, take, drop, sum_by, refl, ap, sym, ◌∙◌, subst, arith, map, get_or, All, Some, None, Option, Ok, Err, Result, OnOk, OnErr, IfOk, IfErr, slice_get, inl, inr}
+use Rattle.std.proofs.Common.{◌≡◌, ℕ, ◌+◌, ◌<◌, List, [], ◌∷◌, ◌++◌, length, set, suc, take, drop, refl, ap, sym, ◌∙◌, subst, arith, map, get_or, All, Some, None, Option, Ok, Err, Result, OnOk, OnErr, IfOk, IfErr, slice_get, inl, inr}
 use Rattle.std.specs.Prelude.{◌⊎◌, ◌==◌, Bool, true, false, if◌then◌else◌, ◌≢◌, IfNone, IfSome}
 use Rattle.std.specs.Option.{option_map}
+use Rattle.std.proofs.Math.Nat.{eq-zero-or-pos}
 use Rattle.std.proofs.lemmas.Bool.Decides.{nat_tests}
-use Rattle.std.proofs.lemmas.List.Sums.{get_or-le-sum_by}
 use Rattle.std.proofs.lemmas.Bool.{eqb-true}
 use Rattle.std.proofs.lemmas.Option.{get_or_from_slice_get, slice_get_within, slice_get-map, slice_get-get_or}
 use Rattle.std.specs.List.{remove}
@@ -17,7 +17,7 @@ use Rattle.pagable_model.specs.Blob.{Blob}
 use Rattle.pagable_model.specs.Meaning.{Meaning}
 use Rattle.pagable_model.specs.Trees.{Tree, Types, KeyRef, type_of, ReadsAs, ReadsTree, IsFollowed, number-followed, integer-followed, text-followed, pattern-followed, none-followed, pair-followed, variant-followed, reference-followed}
 use Rattle.pagable_model.specs.Stored.{Adds}
-use Rattle.pagable_world.specs.State.{State, one, held}
+use Rattle.pagable_world.specs.State.{State, held}
 use Rattle.pagable_world.specs.Refusals.{HasRow, IsOwn}
 use Rattle.pagable_world.specs.declared.answers.Pinning.{Pinning}
 use Rattle.pagable_world.specs.declared.answers.Pinning.TheVariants as pinnings
@@ -35,11 +35,14 @@ use Rattle.pagable_world.specs.Calls.{Cloned, Loosened, PinnedBy, Unpinned, Rele
 use Rattle.pagable_world.specs.declared.rows.HandleRow.{HandleRow}
 use Rattle.pagable_world.specs.declared.rows.LoadRow.{LoadRow}
 use Rattle.pagable_world.specs.Shown.{Shown, SameStore, OnlyStore, Unchanged}
+-- the machine cites these two as well
+pub use Rattle.pagable_book.proofs.Known.{same_number}
+pub use Rattle.pagable_book.proofs.Here.{all-apart}
 use Rattle.pagable_pager.specs.Rows.{value_of}
 use Rattle.pagable_world.specs.LoadEnds.{InstallsValue, ClosedBy, StaysOpen, EndedAs}
 use Rattle.pagable_pager.specs.declared.pagable_arc.values.ValueRow.{ValueRow}
 use Rattle.pagable_world.specs.Lending.{IsLent}
-use Rattle.pagable_world.specs.InStep.{InStep, is_value, kept}
+use Rattle.pagable_world.specs.InStep.{InStep, kept}
 use Rattle.pagable_world.specs.Stands.{SameTrees}
 use Rattle.pagable_world.specs.TodayTrees.{Sight, MeansTree, CellFits, TodayWorld, RepresentsToday, EachWorld, Always, KeyReads, SetKeyFits, LendsTree, StandsEmpty, AwayBirthOf, BirthOf, ReadFits}
 
@@ -61,15 +64,12 @@ same-tables w w' cells loads = record { each = λ P all. All-same P w'.cells w.c
 same-world : (w w' : World) → w' ≡ w → KeepsTables w w'
 same-world w w' same = same-tables w w' (ap (λ (x : World). x.cells) same) (ap (λ (x : World). x.loads) same)
 
-cases_held : (n : ℕ) → (n ≡ 0) ⊎ (0 < n)
-cases_held n = grind arith
-
 pub all-removed : {X : Type 0} (P : X → Type 0) (xs : List X) (i : ℕ) → All P xs → All P (remove xs i)
 all-removed P xs i all = All-append P (take i xs) (drop (suc i) xs) (All-take P i xs all) (All-drop P (suc i) xs all)
 
 follow-cells : (node : ℕ) (handles : List HandleRow) (w w' : World) → CellsFollow node handles w.cells w'.cells → KeepsLoads w w' → KeepsTables w w'
 follow-cells node handles w w' follows loads =
-    elim (cases_held (held node handles)) [
+    elim (eq-zero-or-pos (held node handles)) [
       | inl none ↦ let gone = follows.goes none in record { each = λ P all. All-same P w'.cells (remove w.cells gone.0) gone.4 (all-removed P w.cells gone.0 all); loads = loads }
       | inr some ↦ record { each = λ P all. All-same P w'.cells w.cells (follows.stays some) all; loads = loads }
     ]
@@ -300,12 +300,9 @@ lends {N} g v h x (i, row, has, pinning, (j, at)) w rep =
     let M : ℕ × N → Type 0 = λ y. MeansTree g y.1 (w.tree y.0) in
     (i, row, subst P (sym rep.same) has, subst M (get_or_from_slice_get v.values j (row.node.0, x) (row.node.0, x) at) (rep.values j (row.node.0, x) (slice_get_within v.values j (row.node.0, x) at)))
 
-apart-from : (n q m : ℕ) → one (n == q) ≤ m → m ≡ 0 → n ≢ q
-apart-from n q m le none = λ same. let bad : one (n == q) ≡ 1 = grind (arith, nat_tests) in absurd (omega arith)
-
 -- where a node has no value, none is under its number
 pub none-there : {N : Type 0} (type_of : N → ℕ) (book : State) (values : List (ℕ × N)) (q : ℕ) → InStep type_of book values → value_of_node q book ≡ 0 → All (λ x. x.0 ≢ q) values
-none-there type_of book values q i none = λ k d lt. apart-from (get_or values k d).0 q (sum_by (is_value type_of (λ _. true) q) values) (get_or-le-sum_by (is_value type_of (λ _. true) q) values k d lt) (i.each (λ _. true) q ∙ none)
+none-there type_of book values q i none = all-apart (λ v. v.0) q values (i.each (λ _. true) q ∙ none)
 
 at-new : (m q : ℕ) (t u : Tree) → m ≡ q → (if m == q then t else u) ≡ t
 at-new m q t u same = let is : (m == q) ≡ true = grind (arith, nat_tests) in ap (λ (b : Bool). if b then t else u) is

@@ -5,6 +5,7 @@ use Rattle.std.specs.Int.{w64}
 use Rattle.std.specs.Str.{IsUtf8}
 use Rattle.std.specs.String.{string_bytes}
 use Rattle.std.specs.declared.string.String.{String}
+use Rattle.std.proofs.lemmas.Result.{on_ok_weaker}
 use Rattle.pagable_model.specs.declared.error.Error.{Error}
 use Rattle.pagable_model.specs.declared.error.Error.TheVariants as errors
 use Rattle.pagable_model.specs.Numbers.{IsSigned, signed_form}
@@ -31,10 +32,6 @@ use Rattle.pagable_plain.proofs.Appending.{after, appends_none, entries_none}
 use Rattle.pagable_plain.proofs.ListSteps.{none_by_memory}
 use Rattle.pagable_plain.proofs.OneForm.{same-items, same-entries}
 
-on_ok : {X P Q : Type 0} (r : Result X Error) → (P → Q) → OnOk r P → OnOk r Q
-on_ok (Ok x) f p = f p
-on_ok (Err e) f p = p
-
 -- ---- a value without parts
 
 module _ {X : Type 0} (r : Result X Error) (v : Json) (left : ℕ) (old new : List ℕ) where
@@ -42,19 +39,19 @@ module _ {X : Type 0} (r : Result X Error) (v : Json) (left : ℕ) (old new : Li
   known w e h = let P : Json → Type 0 = λ x. OnOk r (Appends left json (of_json x) old new) in subst P (sym e) h
 
   pub null_written : v ≡ Null → OnOk r ((0 < 2 ^ 8) × (new ≡ old ++ 0 ∷ [])) → OnOk r (Appends left json (of_json v) old new)
-  null_written e f = known Null e (on_ok r (λ g. record { bytes = 0 ∷ []; form = json-null-form left; grown = g.1 }) f)
+  null_written e f = known Null e (on_ok_weaker r (λ g. record { bytes = 0 ∷ []; form = json-null-form left; grown = g.1 }) f)
 
   pub flag_written : (b : Bool) → v ≡ Flag b → OnOk r (new ≡ old ++ 1 ∷ bool_form b) → OnOk r (Appends left json (of_json v) old new)
-  flag_written b e f = known (Flag b) e (on_ok r (λ g. record { bytes = 1 ∷ bool_form b; form = json-flag-form left b; grown = g }) f)
+  flag_written b e f = known (Flag b) e (on_ok_weaker r (λ g. record { bytes = 1 ∷ bool_form b; form = json-flag-form left b; grown = g }) f)
 
   pub number_written : (z : ℤ) → v ≡ Number z → OnOk r (IsSigned w64 z × (new ≡ old ++ 2 ∷ 0 ∷ signed_form w64 z)) → OnOk r (Appends left json (of_json v) old new)
-  number_written z e f = known (Number z) e (on_ok r (λ g. record { bytes = 2 ∷ 0 ∷ signed_form w64 z; form = json-number-form left z g.0; grown = g.1 }) f)
+  number_written z e f = known (Number z) e (on_ok_weaker r (λ g. record { bytes = 2 ∷ 0 ∷ signed_form w64 z; form = json-number-form left z g.0; grown = g.1 }) f)
 
   pub text_written : (t : String Global) (bytes : List ℕ) → v ≡ Text t → bytes ≡ string_bytes t → IsUtf8 bytes → OnOk r ((length bytes ≤ longest) × (new ≡ old ++ 3 ∷ text_form bytes)) → OnOk r (Appends left json (of_json v) old new)
   text_written t bytes e same u f =
       let utf8 : IsUtf8 (string_bytes t) = subst IsUtf8 same u in
       let parts = let P : List ℕ → Type 0 = λ b. OnOk r ((length b ≤ longest) × (new ≡ old ++ 3 ∷ text_form b)) in subst P same f in
-      known (Text t) e (on_ok r (λ g. record { bytes = 3 ∷ text_form (string_bytes t); form = json-text-form left (string_bytes t) utf8 g.0; grown = g.1 }) parts)
+      known (Text t) e (on_ok_weaker r (λ g. record { bytes = 3 ∷ text_form (string_bytes t); form = json-text-form left (string_bytes t) utf8 g.0; grown = g.1 }) parts)
 
 -- ---- items
 
@@ -63,7 +60,7 @@ no_items_written xs left old is = rw is (appends_none old)
 
 pub items_written : {X : Type 0} (r : Result X Error) (xs ys : Items) (m : Meaning KeyRef) (left : ℕ) (old mid new : List ℕ) → items_of xs ≡ m ∷ items_of ys → Appends left json m old mid → OnOk r (AppendsAll left json (items_of ys) mid new) → OnOk r (AppendsAll left json (items_of xs) old new)
 items_written r xs ys m left old mid new is one f =
-    rw is (on_ok r (λ g. record { bytes = one.bytes ++ g.bytes; forms = more-forms left json m (items_of ys) one.bytes g.bytes [] [] one.form g.forms; grown = after old mid new one.bytes g.bytes one.grown g.grown }) f)
+    rw is (on_ok_weaker r (λ g. record { bytes = one.bytes ++ g.bytes; forms = more-forms left json m (items_of ys) one.bytes g.bytes [] [] one.form g.forms; grown = after old mid new one.bytes g.bytes one.grown g.grown }) f)
 
 later-items : {left : ℕ} {s : Shape} {ms : List (Meaning KeyRef)} {b : List ℕ} {k : List KeyRef} (m : Meaning KeyRef) (ns : List (Meaning KeyRef)) → Forms KeyRef kind_of_ref no_parts left s ms b k → ms ≡ m ∷ ns
     → ((c : List ℕ) (l : List KeyRef) → Forms KeyRef kind_of_ref no_parts left s ns c l → ⊥) → ⊥
@@ -86,7 +83,7 @@ pub members_written : {X : Type 0} (r : Result X Error) (xs ys : Members) (key t
 members_written r xs ys key t m left old mid part new is same u first one f =
     let utf8 : IsUtf8 key = subst IsUtf8 same u in
     let written : (length key ≤ longest) × (mid ≡ old ++ text_form key) = (let P : List ℕ → Type 0 = λ x. (length x ≤ longest) × (mid ≡ old ++ text_form x) in subst P same first) in
-    rw is (on_ok r (λ g. record {
+    rw is (on_ok_weaker r (λ g. record {
       bytes = text_form key ++ (one.bytes ++ g.bytes);
       entries = more-entries left shapes.text json (meanings.text key) m (members_of ys) (text_form key) one.bytes g.bytes [] [] [] (text-form left key utf8 written.0) one.form g.entries;
       grown = after old mid new (text_form key) (one.bytes ++ g.bytes) written.1 (after mid part new one.bytes g.bytes one.grown g.grown);
@@ -165,7 +162,7 @@ array_written r v xs count left old mid new is counted h f =
     let lower : left ≡ suc (left - 1) = omega arith in
     let begun : (length (items_of xs) ≤ longest) × (mid ≡ old ++ 4 ∷ length_form (length (items_of xs))) = (let P : ℕ → Type 0 = λ n. (n ≤ longest) × (mid ≡ old ++ 4 ∷ length_form n) in subst P long h.1) in
     known r v left old new (Array xs) is
-    (on_ok r (λ g. record {
+    (on_ok_weaker r (λ g. record {
       bytes = 4 ∷ (length_form (length (items_of xs)) ++ g.bytes);
       form = json-array-form left (left - 1) (items_of xs) g.bytes [] lower begun.0 g.forms;
       grown = after old mid new (4 ∷ length_form (length (items_of xs))) g.bytes begun.1 g.grown;
@@ -180,7 +177,7 @@ object_written r v xs count left old mid new is ordered counted h f =
     let begun : (length (members_of xs) ≤ longest) × (mid ≡ old ++ 5 ∷ length_form (length (members_of xs))) = (let P : ℕ → Type 0 = λ n. (n ≤ longest) × (mid ≡ old ++ 5 ∷ length_form n) in subst P long h.1) in
     let up : InOrder (Object xs) = subst InOrder is ordered in
     known r v left old new (Object xs) is
-    (on_ok r (λ g. record {
+    (on_ok_weaker r (λ g. record {
       bytes = 5 ∷ (length_form (length (members_of xs)) ++ g.bytes);
       form = json-object-form left (left - 1) (members_of xs) g.bytes [] lower begun.0 up.0 g.entries;
       grown = after old mid new (5 ∷ length_form (length (members_of xs))) g.bytes begun.1 g.grown;

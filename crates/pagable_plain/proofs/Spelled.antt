@@ -6,6 +6,7 @@ use Rattle.std.specs.Str.{IsUtf8}
 use Rattle.std.specs.Prelude.{OnOk, IfErr, ◌⊎◌}
 use Rattle.std.specs.String.{string_bytes}
 use Rattle.std.specs.declared.string.String.{String}
+use Rattle.std.proofs.lemmas.Result.{on_ok_weaker}
 use Rattle.pagable_model.specs.declared.error.Error.{Error}
 use Rattle.pagable_model.specs.declared.error.Error.TheVariants as errors
 use Rattle.pagable_model.specs.Gives.{memory}
@@ -25,10 +26,6 @@ use Rattle.pagable_model.specs.Reading.{deepest}
 use Rattle.pagable_plain.specs.Appended.{Appends, NoneWhere}
 use Rattle.pagable_plain.specs.Samples.{Spells, shape_of, sort_of, meaning_of, HasNoForm, IsJsonFault, WritesSample, IsMaybe, maybe_form, IsAttempt, attempt_form}
 
-on_ok : {X P Q : Type 0} (r : Result X Error) → (P → Q) → OnOk r P → OnOk r Q
-on_ok (Ok x) f p = f p
-on_ok (Err e) f p = p
-
 maybe-form : (o : Option ℕ) → IsMaybe o → Spells (optional (unsigned w8)) (of_option meanings.number o) (maybe_form o)
 maybe-form None h = none-form _ _
 maybe-form (Some n) h = some-form _ _ _ _ _ (unsigned-form _ w8 n h)
@@ -40,41 +37,41 @@ module _ {X : Type 0} (r : Result X Error) (v : Sample) (old new : List ℕ) whe
 
   -- a form that a part appended
   pub written_part : (w : Sample) → v ≡ w → OnOk r (Appends deepest (shape_of (sort_of w)) (meaning_of w) old new) → OnOk r (WritesSample v old new)
-  written_part w e f = known w e (on_ok r (λ g. record { bytes = g.bytes; form = g.form; grown = g.grown }) f)
+  written_part w e f = known w e (on_ok_weaker r (λ g. record { bytes = g.bytes; form = g.form; grown = g.grown }) f)
 
   pub written_byte : (n : ℕ) → v ≡ values.Byte n → OnOk r ((n < 2 ^ 8) × (new ≡ old ++ n ∷ [])) → OnOk r (WritesSample v old new)
-  written_byte n e f = known (values.Byte n) e (on_ok r (λ g. record { bytes = n ∷ []; form = unsigned-form _ w8 n g.0; grown = g.1 }) f)
+  written_byte n e f = known (values.Byte n) e (on_ok_weaker r (λ g. record { bytes = n ∷ []; form = unsigned-form _ w8 n g.0; grown = g.1 }) f)
 
   pub written_short : (n : ℕ) → v ≡ values.Short n → OnOk r ((n < 2 ^ 16) × (new ≡ old ++ unsigned_form w16 n)) → OnOk r (WritesSample v old new)
-  written_short n e f = known (values.Short n) e (on_ok r (λ g. record { bytes = unsigned_form w16 n; form = unsigned-form _ w16 n g.0; grown = g.1 }) f)
+  written_short n e f = known (values.Short n) e (on_ok_weaker r (λ g. record { bytes = unsigned_form w16 n; form = unsigned-form _ w16 n g.0; grown = g.1 }) f)
 
   pub written_long : (n : ℕ) → v ≡ values.Long n → OnOk r ((n < 2 ^ 64) × (new ≡ old ++ unsigned_form w64 n)) → OnOk r (WritesSample v old new)
-  written_long n e f = known (values.Long n) e (on_ok r (λ g. record { bytes = unsigned_form w64 n; form = unsigned-form _ w64 n g.0; grown = g.1 }) f)
+  written_long n e f = known (values.Long n) e (on_ok_weaker r (λ g. record { bytes = unsigned_form w64 n; form = unsigned-form _ w64 n g.0; grown = g.1 }) f)
 
   pub written_signed : (z : ℤ) → v ≡ values.Signed z → OnOk r (IsSigned w64 z × (new ≡ old ++ signed_form w64 z)) → OnOk r (WritesSample v old new)
-  written_signed z e f = known (values.Signed z) e (on_ok r (λ g. record { bytes = signed_form w64 z; form = signed-form _ w64 z g.0; grown = g.1 }) f)
+  written_signed z e f = known (values.Signed z) e (on_ok_weaker r (λ g. record { bytes = signed_form w64 z; form = signed-form _ w64 z g.0; grown = g.1 }) f)
 
   pub written_flag : (b : Bool) → v ≡ values.Flag b → OnOk r (new ≡ old ++ bool_form b) → OnOk r (WritesSample v old new)
-  written_flag b e f = known (values.Flag b) e (on_ok r (λ g. record { bytes = bool_form b; form = flag-form _ b; grown = g }) f)
+  written_flag b e f = known (values.Flag b) e (on_ok_weaker r (λ g. record { bytes = bool_form b; form = flag-form _ b; grown = g }) f)
 
   pub written_letter : (c : ℕ) → v ≡ values.Letter c → OnOk r (IsScalar c × (new ≡ old ++ char_form c)) → OnOk r (WritesSample v old new)
-  written_letter c e f = known (values.Letter c) e (on_ok r (λ g. record { bytes = char_form c; form = letter-form _ c g.0; grown = g.1 }) f)
+  written_letter c e f = known (values.Letter c) e (on_ok_weaker r (λ g. record { bytes = char_form c; form = letter-form _ c g.0; grown = g.1 }) f)
 
   pub written_time : (s : Span) → v ≡ values.Time s → OnOk r ((s.seconds < 2 ^ 64) × (new ≡ old ++ duration_form s.seconds s.nanos)) → OnOk r (WritesSample v old new)
-  written_time s e f = known (values.Time s) e (on_ok r (λ g. record { bytes = duration_form s.seconds s.nanos; form = duration-form _ s.seconds s.nanos g.0 s.below; grown = g.1 }) f)
+  written_time s e f = known (values.Time s) e (on_ok_weaker r (λ g. record { bytes = duration_form s.seconds s.nanos; form = duration-form _ s.seconds s.nanos g.0 s.below; grown = g.1 }) f)
 
   pub written_maybe : (o : Option ℕ) → v ≡ values.Maybe o → OnOk r (IsMaybe o × (new ≡ old ++ maybe_form o)) → OnOk r (WritesSample v old new)
-  written_maybe o e f = known (values.Maybe o) e (on_ok r (λ g. record { bytes = maybe_form o; form = maybe-form o g.0; grown = g.1 }) f)
+  written_maybe o e f = known (values.Maybe o) e (on_ok_weaker r (λ g. record { bytes = maybe_form o; form = maybe-form o g.0; grown = g.1 }) f)
 
   pub written_text : (t : String Global) (bytes : List ℕ) → v ≡ values.Text t → bytes ≡ string_bytes t → IsUtf8 bytes → OnOk r ((length bytes ≤ longest) × (new ≡ old ++ text_form bytes)) → OnOk r (WritesSample v old new)
   written_text t bytes e same u f =
       let utf8 : IsUtf8 (string_bytes t) = subst IsUtf8 same u in
       let parts = let P : List ℕ → Type 0 = λ b. OnOk r ((length b ≤ longest) × (new ≡ old ++ text_form b)) in subst P same f in
-      known (values.Text t) e (on_ok r (λ g. record { bytes = text_form (string_bytes t); form = text-form _ (string_bytes t) utf8 g.0; grown = g.1 }) parts)
+      known (values.Text t) e (on_ok_weaker r (λ g. record { bytes = text_form (string_bytes t); form = text-form _ (string_bytes t) utf8 g.0; grown = g.1 }) parts)
 
   pub written_attempt : (a : Result (String Global) (String Global)) → v ≡ values.Attempt a → OnOk r (IsAttempt a × (new ≡ old ++ attempt_form a)) → OnOk r (WritesSample v old new)
-  written_attempt (Ok t) e f = known (values.Attempt (Ok t)) e (on_ok r (λ g. record { bytes = attempt_form (Ok t); form = ok-form _ _ _ _ _ _ (text-form _ (string_bytes t) g.0.0 g.0.1); grown = g.1 }) f)
-  written_attempt (Err t) e f = known (values.Attempt (Err t)) e (on_ok r (λ g. record { bytes = attempt_form (Err t); form = err-form _ _ _ _ _ _ (text-form _ (string_bytes t) g.0.0 g.0.1); grown = g.1 }) f)
+  written_attempt (Ok t) e f = known (values.Attempt (Ok t)) e (on_ok_weaker r (λ g. record { bytes = attempt_form (Ok t); form = ok-form _ _ _ _ _ _ (text-form _ (string_bytes t) g.0.0 g.0.1); grown = g.1 }) f)
+  written_attempt (Err t) e f = known (values.Attempt (Err t)) e (on_ok_weaker r (λ g. record { bytes = attempt_form (Err t); form = err-form _ _ _ _ _ _ (text-form _ (string_bytes t) g.0.0 g.0.1); grown = g.1 }) f)
 
 -- why a JSON value isn't written
 json-refusal : (v : Sample) (j : OrderedJson) (e : Error) → v ≡ values.Json j → IsJsonRefusal e → ((e ≡ errors.TooLong) ⊎ memory e) ⊎ IsJsonFault v e

@@ -3,6 +3,7 @@ use Rattle.std.proofs.Common.{◌≡◌, ℕ, suc, zero, ◌+◌, ◌<◌, ◌�
 use Rattle.std.specs.Prelude.{filter, not, nat_lt, nat_eq, Result, Ok, Err, Some, slice_get}
 use Rattle.std.specs.List.{remove}
 use Rattle.std.proofs.lemmas.Bool.Decides.{nat_tests}
+use Rattle.std.proofs.lemmas.Bool.{and_parts}
 use Rattle.std.proofs.lemmas.List.{append-nil}
 use Rattle.std.proofs.lemmas.List.Sums.{sum_by-append, sum_by_push, sum_by-cons}
 use Rattle.pagable_model.specs.declared.error.Error.{Error}
@@ -31,12 +32,13 @@ use Rattle.pagable_world.specs.Calls.{ReleasedAt}
 use Rattle.pagable_world.specs.Pages.{IsWhole}
 use Rattle.pagable_plain_world.specs.FallLaws.{OwnsNothing}
 use Rattle.pagable_plain_world.specs.Bridges.{today, ReleaseIsToday}
-use Rattle.pagable_plain_world.proofs.Sums.{sum-le, at-most-sum, sum-zero, counted}
+use Rattle.pagable_plain_world.proofs.TodayStanding.{some-key}
+use Rattle.pagable_plain_world.proofs.Sums.{self-number, one-true, sum-le, at-most-sum, sum-zero, counted}
 use Rattle.pagable_plain_world.proofs.Alone.{given-alone}
 use Rattle.pagable_plain_world.proofs.Places.{filter-all, filter-one, sum-remove, remove-append}
 use Rattle.pagable_plain_world.proofs.Filters.{entries-are}
 use Rattle.pagable_plain_world.proofs.Turning.{entry-row}
-use Rattle.pagable_plain_world.proofs.Bridging.{self-number, one-true, left-true, right-true, same-world, held-live, unlisted, row-goes, others-stay, single-key, no-shares}
+use Rattle.pagable_plain_world.proofs.Bridging.{same-world, held-live, unlisted, row-goes, others-stay, single-key, no-shares}
 
 filter-same : {X : Type 0} (p q : X → Bool) (xs : List X) → ((x : X) → Among xs x → p x ≡ q x) → filter p xs ≡ filter q xs
 filter-same p q [] same = refl
@@ -46,10 +48,6 @@ filter-same p q (x ∷ xs) same =
 bare-key : (k : OptionalDataKey) → has_key k ≡ false → k ≡ optional.None
 bare-key optional.None e = refl
 bare-key (optional.Some key) e = absurd (grind (arith, nat_tests))
-
-some-key : (k : OptionalDataKey) → has_key k ≡ true → (key : ℕ) × (k ≡ optional.Some key)
-some-key optional.None e = absurd (grind (arith, nat_tests))
-some-key (optional.Some key) e = (key, refl)
 
 shared-mode : (m : Mode) → is_shared m ≡ true → m ≡ modes.Shared
 shared-mode modes.LoosePinned e = absurd (grind (arith, nat_tests))
@@ -102,8 +100,8 @@ module _ (w : Whole) (whole : IsWhole w) (h : HandleNumber) (i : ℕ) (row : Han
       let a = pins-are n in let b = must.pinned in let c = must.unpinned in
       let some : 0 < pin_of n row = omega arith in
       let both = one-true (row.node.0 == n && is_pinning row.mode) some in
-      let at = left-true (row.node.0 == n) (is_pinning row.mode) both in
-      (grind (arith, nat_tests), grind (arith, nat_tests), right-true (row.node.0 == n) (is_pinning row.mode) both)
+      let at = (and_parts (row.node.0 == n) (is_pinning row.mode) both).0 in
+      (grind (arith, nat_tests), grind (arith, nat_tests), (and_parts (row.node.0 == n) (is_pinning row.mode) both).1)
 
   -- the cell of the handle's node
   its-cell : (cell : Cell) × Among w.cells cell × (cell.number ≡ row.node.0)

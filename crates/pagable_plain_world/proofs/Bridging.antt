@@ -3,6 +3,7 @@ use Rattle.std.proofs.Common.{◌≡◌, ℕ, ◌+◌, ◌<◌, ◌≤◌, ◌==
 use Rattle.std.specs.Prelude.{filter, not, nat_lt, ◌≢◌, ◌⊎◌, Result, Ok, Err, Some, slice_get}
 use Rattle.std.specs.List.{remove}
 use Rattle.std.proofs.lemmas.Bool.Decides.{nat_tests}
+use Rattle.std.proofs.lemmas.Bool.{and_parts}
 use Rattle.std.proofs.lemmas.List.{append-nil}
 use Rattle.std.proofs.lemmas.List.Sums.{sum_by_push}
 use Rattle.pagable_model.specs.declared.error.Error.{Error}
@@ -27,27 +28,12 @@ use Rattle.pagable_world.specs.declared.rows.Mode.{Mode}
 use Rattle.pagable_world.specs.Pages.{IsWhole}
 use Rattle.pagable_plain_world.specs.FallLaws.{OwnsNothing}
 use Rattle.pagable_plain_world.specs.Bridges.{today, ReleasesToday}
-use Rattle.pagable_plain_world.proofs.Sums.{sum-le, at-most-sum, sum-zero, counted}
+use Rattle.pagable_plain_world.proofs.Sums.{self-number, one-true, sum-le, at-most-sum, sum-zero, counted}
 use Rattle.pagable_plain_world.proofs.Alone.{given-least}
 use Rattle.pagable_plain_world.proofs.Places.{filter-all, filter-one, unique, sum-remove, sum-less, remove-append}
 
-pub self-number : (a : ℕ) → (a == a) ≡ true
-self-number a = grind (arith, nat_tests)
-
 pub same-number : (a b : ℕ) → a ≡ b → (a == b) ≡ true
 same-number a b e = grind (arith, nat_tests)
-
-pub one-true : (b : Bool) → 0 < one b → b ≡ true
-one-true true p = refl
-one-true false p = absurd (omega arith)
-
-pub left-true : (a b : Bool) → (a && b) ≡ true → a ≡ true
-left-true true b e = refl
-left-true false b e = e
-
-pub right-true : (a b : Bool) → (a && b) ≡ true → b ≡ true
-right-true true b e = e
-right-true false b e = absurd (grind (arith, nat_tests))
 
 pub same-world : (loads : List LoadRow) (r s : List HandleRow) (c d : List Cell) (l m : List HandleNumber) (node a b load : ℕ) → r ≡ s → c ≡ d → l ≡ m → a ≡ b
     → ◌≡◌ {A = World} (record { rows = r; cells = c; list = l; loads = loads; last_node = node; last_handle = a; last_load = load }) (record { rows = s; cells = d; list = m; loads = loads; last_node = node; last_handle = b; last_load = load })
@@ -67,8 +53,8 @@ module _ (w : Whole) (whole : IsWhole w) (h : HandleNumber) (i : ℕ) (row : Han
       owned : (x : HandleRow) → Among w.rows x → 0 < is_entry h.0 x → ⊥
       owned x at some =
           let both = one-true (x.number.0 == h.0 && is_listed x.owner) some in
-          let is = left-true (x.number.0 == h.0) (is_listed x.owner) both in
-          let listed = right-true (x.number.0 == h.0) (is_listed x.owner) both in
+          let is = (and_parts (x.number.0 == h.0) (is_listed x.owner) both).0 in
+          let listed = (and_parts (x.number.0 == h.0) (is_listed x.owner) both).1 in
           let mine = same-number row.number.0 h.0 number in
           let first : 0 < is_number h.0 x = grind (arith, nat_tests) in
           let second : 0 < is_number h.0 row = grind (arith, nat_tests) in
@@ -168,8 +154,8 @@ module _ (w : Whole) (whole : IsWhole w) (h : HandleNumber) (i : ℕ) (row : Han
           let a = pins-left n in let b = must.pinned in let c = must.unpinned in
           let some : 0 < pin_of n row = omega arith in
           let both = one-true (row.node.0 == n && is_pinning row.mode) some in
-          let at = left-true (row.node.0 == n) (is_pinning row.mode) both in
-          let mode = right-true (row.node.0 == n) (is_pinning row.mode) both in
+          let at = (and_parts (row.node.0 == n) (is_pinning row.mode) both).0 in
+          let mode = (and_parts (row.node.0 == n) (is_pinning row.mode) both).1 in
           (grind (arith, nat_tests), grind (arith, nat_tests), mode)
 
       by-cause : (n == row.node.0) ≡ true × (pins n w.rows ≡ 1) × (is_pinning row.mode ≡ true) → NeedsNoListing (today loads w) row → ⊥
@@ -278,7 +264,7 @@ module _ (w : Whole) (whole : IsWhole w) (h : HandleNumber) (i : ℕ) (row : Han
       let b = must.pinned in let c = must.unpinned in
       let some : 0 < pin_of n row = omega arith in
       let both = one-true (row.node.0 == n && is_pinning row.mode) some in
-      let at = left-true (row.node.0 == n) (is_pinning row.mode) both in
+      let at = (and_parts (row.node.0 == n) (is_pinning row.mode) both).0 in
       grind (arith, nat_tests)
 
   last-gone : (n : ℕ) → pins row.node.0 w.rows ≡ 1 → is_pinning row.mode ≡ true → n + pin_of row.node.0 row ≡ pins row.node.0 w.rows → n ≡ 0

@@ -20,13 +20,10 @@ use Rattle.pagable_world.specs.Whole.{Whole, is_owner, is_cell, is_entry_of, Has
 use Rattle.pagable_world.specs.Kinds.{FitsMode}
 use Rattle.pagable_world.specs.Pages.{IsWhole, HandlesAreWhole, OwnersAreThere, WorkIsWhole, IsCellBefore}
 use Rattle.pagable_world.specs.Falls.{Falls, left_rows}
-use Rattle.pagable_plain_world.proofs.Sums.{sum-le, at-most-sum, sum-zero, counted}
+use Rattle.pagable_plain_world.proofs.Sums.{self-number, sum-le, at-most-sum, sum-zero, counted}
 use Rattle.pagable_plain_world.proofs.Existing.{wider}
 use Rattle.pagable_plain_world.proofs.Places.{unique, sum-less}
 use Rattle.pagable_plain_world.proofs.Filters.{among-filter, filter-among, sum-filter-le, sum-filter-all, sum-filter-none, entries-low, entries-high, entries-once, entries-are, entries-listed, entries-ordered, among-append}
-
-self-number : (a : ℕ) → (a == a) ≡ true
-self-number a = grind (arith, nat_tests)
 
 value-uncached : (n : ℕ) (o : Owner) → is_of_value n o ≡ true → is_owner owners.Cache o ≡ false
 value-uncached n owners.Caller e = refl

@@ -2,6 +2,7 @@
 use Rattle.std.proofs.Common.{◌≡◌, ℕ, suc, zero, ◌+◌, ◌<◌, ◌≤◌, ◌==◌, ◌&&◌, ◌||◌, Bool, true, false, List, sum_by, refl, ap, sym, ◌∙◌, arith}
 use Rattle.std.specs.Prelude.{nat_lt}
 use Rattle.std.proofs.lemmas.Bool.Decides.{nat_tests}
+use Rattle.std.proofs.lemmas.Bool.{and_parts}
 use Rattle.pagable_world.specs.declared.rows.Owner.{Owner}
 use Rattle.pagable_world.specs.declared.rows.Owner.TheVariants as owners
 use Rattle.pagable_world.specs.declared.rows.HandleRow.{HandleRow}
@@ -9,7 +10,7 @@ use Rattle.pagable_world.specs.State.{one}
 use Rattle.pagable_world.specs.Cells.{Cell}
 use Rattle.pagable_world.specs.Words.{Among}
 use Rattle.pagable_world.specs.Least.{is_of_value, outside, held_outside, pin_outside, owned_outside, loses_value, IsClosed, only_in, IsWithin, IsLeast}
-use Rattle.pagable_plain_world.proofs.Sums.{sum-le, at-most-sum, sum-plus, sum-zero, counted}
+use Rattle.pagable_plain_world.proofs.Sums.{self-number, one-true, sum-le, at-most-sum, sum-plus, sum-zero, counted}
 
 -- whether the owner is a value that goes
 abbrev owner_goes : (ℕ → Bool) → Owner → Bool
@@ -44,23 +45,8 @@ owner-of lost owners.List goes = absurd (grind (arith, nat_tests))
 owner-of lost (owners.Load l) goes = absurd (grind (arith, nat_tests))
 owner-of lost (owners.Worker v) goes = absurd (grind (arith, nat_tests))
 
-one-true : (b : Bool) → 0 < one b → b ≡ true
-one-true true p = refl
-one-true false p = absurd (omega arith)
-
-left-true : (a b : Bool) → (a && b) ≡ true → a ≡ true
-left-true true b e = refl
-left-true false b e = e
-
-right-true : (a b : Bool) → (a && b) ≡ true → b ≡ true
-right-true true b e = e
-right-true false b e = absurd (grind (arith, nat_tests))
-
 same-number : (a b : ℕ) → (a == b) ≡ true → a ≡ b
 same-number a b e = grind (arith, nat_tests)
-
-self-number : (a : ℕ) → (a == a) ≡ true
-self-number a = grind (arith, nat_tests)
 
 module _ (rows : List HandleRow) (cells : List Cell) (entries : List HandleRow) where
   abbrev lost : (ℕ → Bool) → ℕ → Bool
@@ -121,7 +107,7 @@ module _ (rows : List HandleRow) (cells : List Cell) (entries : List HandleRow) 
           of-row : (h : HandleRow) → (x : HandleRow) × Among rows x × (0 < follows (lost s) h.number.0 x) → t h.number.0 ≡ true
           of-row h (x, among, some) =
               let both : (x.number.0 == h.number.0 && owner_goes (lost s) x.owner) ≡ true = one-true _ some in
-              of-value h x among (same-number _ _ (left-true _ _ both)) (owner-of (lost s) x.owner (right-true _ _ both))
+              of-value h x among (same-number _ _ (and_parts _ _ both).0) (owner-of (lost s) x.owner (and_parts _ _ both).1)
 
       part : (h : HandleRow) → Among rows h → (a : Bool) → s h.number.0 ≡ a → (b : Bool) → nat_lt 0 (sum_by (follows (lost s) h.number.0) rows) ≡ b → only_in (more s) t h ≡ 0
       part h among true e b f = let c = inside s t h within among e in grind (arith, nat_tests)

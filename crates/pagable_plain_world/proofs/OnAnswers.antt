@@ -1,6 +1,6 @@
 -- Of what is said of answers, and of what is asked for it, examples and near misses.
 use Rattle.std.proofs.Common.{◌≡◌, ℕ, zero, suc, ◌≤◌, ◌==◌, Bool, true, false, List, [], ◌∷◌, length, refl, ap, sym, ◌∙◌, subst, inl, inr, arith}
-use Rattle.std.specs.Prelude.{◌≢◌, ◌/◌, not, Option, Some, None, Ok, Err, Result}
+use Rattle.std.specs.Prelude.{◌≢◌, ◌/◌, not, Option, Some, None, Ok, Result}
 use Rattle.std.proofs.lemmas.Bool.Decides.{nat_tests}
 use Rattle.pagable_model.specs.declared.error.Error.{Error}
 use Rattle.pagable_model.specs.declared.error.Error.TheVariants as errors
@@ -13,7 +13,7 @@ use Rattle.pagable_model.specs.Deep.{longest_path, kid}
 use Rattle.pagable_model.specs.Form.{Form, nothing-form}
 use Rattle.pagable_model.specs.Meaning.{Meaning, none, reference, followed}
 use Rattle.pagable_model.specs.Merkle.{unfolded, KeyOf, key-of, KeyOfItem, no-keys, more-keys}
-use Rattle.pagable_model.specs.Reading.{Rest, deepest, read, read_with, read_typed}
+use Rattle.pagable_model.specs.Reading.{deepest, read, read_with, read_typed}
 use Rattle.pagable_model.specs.Shape as shapes
 use Rattle.pagable_model.specs.Trees.{Tree, KeyRef, Types, tree, key_ref, blob_context, rest_of, ReadsAs, IsFollowed, number-followed, integer-followed, text-followed, pattern-followed, none-followed, pair-followed, variant-followed, reference-followed, ReadsTree, height}
 use Rattle.pagable_world.specs.declared.rows.Owner.TheVariants as owners
@@ -38,6 +38,7 @@ use Rattle.pagable_plain_world.specs.SampleTurns.{faulty_load, pages_of, load_ev
 use Rattle.pagable_plain_world.specs.SampleParts.{referring_load}
 use Rattle.pagable_plain_world.specs.SampleAnswers.{nothing_reference, nothing_identity, paged_item, paged_slot, paged_worker, paged, nothing_trees, chain, deep_trees, read_reply, answer_reply, publish_reply, referring_steps, run_types}
 use Rattle.pagable_plain_world.specs.AnswerExamples.{ReadExamples, PageOutExamples, PremiseExamples}
+use Rattle.pagable_plain_world.proofs.TodayLoad.{own_of}
 use Rattle.pagable_plain_world.proofs.Filters.{sum-filter-none}
 use Rattle.pagable_plain_world.proofs.OnHandles.{the-one}
 use Rattle.pagable_plain_world.proofs.OnSteps.{wants-it, not-read}
@@ -45,10 +46,6 @@ use Rattle.pagable_plain_world.proofs.OnRuns.{no-key}
 use Rattle.pagable_plain_world.proofs.OnTurns.{reads-bare-tree}
 
 -- ---- what is read
-
-abbrev own_of : Result (Meaning KeyRef × Rest ℕ) Error → Meaning KeyRef
-own_of (Ok x) = x.0
-own_of (Err e) = none
 
 -- a value of the type 1 is read as nothing
 nothing-read : (store : ℕ → Option Blob) (n key : ℕ) (m : Meaning KeyRef) → n ≡ 1 → ReadsAs store sample_types n key m → m ≡ none

@@ -1,7 +1,6 @@
 -- A worker for an item without references has to store it before it answers.
-use Rattle.std.proofs.Common.{◌≡◌, ℕ, zero, suc, ◌==◌, ◌&&◌, Bool, true, false, List, [], ◌∷◌, ◌++◌, filter, refl, ap, sym, ◌∙◌, subst, inl, inr, arith}
+use Rattle.std.proofs.Common.{◌≡◌, ℕ, zero, suc, ◌==◌, ◌&&◌, Bool, true, false, List, [], ◌∷◌, ◌++◌, filter, refl, ap, sym, ◌∙◌, subst, inl, inr}
 use Rattle.std.specs.Prelude.{if◌then◌else◌, Option, Some, None, Ok, Err, slice_get}
-use Rattle.std.proofs.lemmas.Bool.Decides.{nat_tests}
 use Rattle.pagable_model.specs.declared.numbers.ArcRef.{ArcRef}
 use Rattle.pagable_model.specs.declared.numbers.Identity.{Identity}
 use Rattle.pagable_model.specs.declared.numbers.WorkerNumber.{WorkerNumber}
@@ -20,6 +19,7 @@ use Rattle.pagable_plain_world.specs.Samples.{none_of}
 use Rattle.pagable_plain_world.specs.SampleSeen.{sample, first_table, nothing_written, tabled}
 use Rattle.pagable_plain_world.specs.SampleTurns.{pages_of}
 use Rattle.pagable_plain_world.specs.ItemExamples.{ItemIsStored}
+use Rattle.pagable_plain_world.proofs.Sums.{self-number}
 use Rattle.pagable_plain_world.proofs.OnHandles.{the-one}
 use Rattle.pagable_plain_world.proofs.OnWork.{not-push}
 
@@ -50,9 +50,6 @@ no-next w worker r place idle task (inr (inl (h, i, is, none_open, same, at))) =
 no-next w worker r place idle task (inr (inr (slot, written, (above, deepest), is, among, at))) =
     let e : filter (λ (s : SlotRow). (s.worker.0 == worker.number.0) && is_open s.outcome) [] ≡ above ++ slot ∷ [] = subst (λ ss. filter (λ (s : SlotRow). (s.worker.0 == worker.number.0) && is_open s.outcome) ss ≡ above ++ slot ∷ []) idle.none deepest in
     not-push above [] slot e
-
-self-number : (a : ℕ) → (a == a) ≡ true
-self-number a = grind (arith, nat_tests)
 
 stands-then : (w mid : Whole) (k : ℕ) (blob : Blob) → Stores w k blob mid → mid.stored k ≡ Some blob
 stands-then w mid k blob stores = part (k == k) (self-number k) (stores.each k)

@@ -68,9 +68,6 @@ blob-got stored key child there =
       goes = refl;
     }
 
-self-number : (a : ℕ) → (a == a) ≡ true
-self-number a = grind (arith, nat_tests)
-
 -- what is answered for a reference by a test
 abbrev by_test : Bool → Answer
 by_test b kind = if b then Err errors.NoSuchHandle else Err errors.NotYours

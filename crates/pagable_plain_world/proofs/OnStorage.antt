@@ -19,11 +19,9 @@ use Rattle.pagable_plain_world.specs.Samples.{empty, lone, first, second, first_
 use Rattle.pagable_plain_world.specs.FallLaws.{OwnsNothing}
 use Rattle.pagable_plain_world.specs.StoreExamples.{CacheExamples, StorageExamples}
 use Rattle.pagable_plain_world.specs.LoadExamples.{BeginExamples, ReadingExamples, EndExamples}
+use Rattle.pagable_plain_world.proofs.Sums.{self-number}
 use Rattle.pagable_plain_world.proofs.Alone.{given-least}
 use Rattle.pagable_plain_world.proofs.OnHandles.{the-one, away-not-here}
-
-self-number : (a : ℕ) → (a == a) ≡ true
-self-number a = grind (arith, nat_tests)
 
 not-loose : (stored : ℕ → Option Blob) (key : ℕ) (w' : Whole) → ¬ OfferCall (lone stored) owners.Caller pinned_kind key first (Ok None) w'
 not-loose stored key w' (row, ((among, is), mine, fits), typed, stands, none, same) =

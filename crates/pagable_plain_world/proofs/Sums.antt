@@ -1,9 +1,19 @@
--- Sums over the elements of a list.
-use Rattle.std.proofs.Common.{◌≡◌, ℕ, suc, zero, ◌+◌, ◌<◌, ◌≤◌, Bool, true, false, List, [], ◌∷◌, sum_by, cond, refl, ap, ◌∙◌, arith}
+-- Sums over the elements of a list, and what they count.
+use Rattle.std.proofs.Common.{◌≡◌, ℕ, suc, zero, ◌+◌, ◌<◌, ◌≤◌, ◌==◌, Bool, true, false, List, [], ◌∷◌, sum_by, cond, refl, ap, ◌∙◌, arith}
 use Rattle.std.specs.Prelude.{filter, length}
+use Rattle.std.proofs.lemmas.Bool.Decides.{nat_tests}
 use Rattle.std.proofs.lemmas.List.Sums.{sum_by-cons}
 use Rattle.pagable_world.specs.State.{one}
 use Rattle.pagable_world.specs.Words.{Among, times}
+
+-- a number is itself by the test too
+pub self-number : (a : ℕ) → (a == a) ≡ true
+self-number a = grind (arith, nat_tests)
+
+-- what counts is true
+pub one-true : (b : Bool) → 0 < one b → b ≡ true
+one-true true p = refl
+one-true false p = absurd (omega arith)
 
 -- smaller at each element, so in sum
 pub sum-le : {X : Type 0} (f g : X → ℕ) (xs : List X) → ((x : X) → Among xs x → f x ≤ g x) → sum_by f xs ≤ sum_by g xs

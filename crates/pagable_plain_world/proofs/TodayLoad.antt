@@ -83,7 +83,8 @@ reads-false : ReadsTree flags_stored flag_types 2 (tree 0 (flag false))
 unfolding read read_with bool_at
 reads-false = record { own = flag false; reads = record { blob = flag_blob 0; stored = refl; rest = record { bytes = []; refs = [] }; reads = refl }; follows = variant-followed 0 none none none-followed }
 
-abbrev own_of : Result (Meaning KeyRef × Rest ℕ) Error → Meaning KeyRef
+-- what a reading gives
+abbrev pub own_of : Result (Meaning KeyRef × Rest ℕ) Error → Meaning KeyRef
 own_of (Ok x) = x.0
 own_of (Err e) = none
 

@@ -1,6 +1,7 @@
 -- What stands for a world with trees today does so by the whole product's definition, and the other way round.
 use Rattle.std.proofs.Common.{◌≡◌, ℕ, ◌<◌, ◌==◌, true, List, [], ◌∷◌, ◌++◌, sum_by, All, refl, ap, sym, ◌∙◌, subst, inl, inr, arith}
-use Rattle.std.specs.Prelude.{◌⊎◌, if◌then◌else◌}
+use Rattle.std.specs.Prelude.{if◌then◌else◌}
+use Rattle.std.proofs.Math.Nat.{eq-zero-or-pos}
 use Rattle.std.proofs.lemmas.Bool.Decides.{nat_tests}
 use Rattle.std.proofs.lemmas.List.Sums.{sum_by-cons}
 use Rattle.pagable_model.specs.declared.data_key.OptionalDataKey.{OptionalDataKey}
@@ -88,12 +89,10 @@ none-named rs (s ∷ ss) e same =
     let both = same q in
     absurd (omega arith)
 
-cases_some : (n : ℕ) → (n ≡ 0) ⊎ (0 < n)
-cases_some n = grind arith
-
-keyed : (k : OptionalDataKey) → has_key k ≡ true → (key : ℕ) × (k ≡ optional.Some key)
-keyed optional.None h = absurd (cc)
-keyed (optional.Some key) h = (key, refl)
+-- what has a key has some key
+pub some-key : (k : OptionalDataKey) → has_key k ≡ true → (key : ℕ) × (k ≡ optional.Some key)
+some-key optional.None h = absurd (cc)
+some-key (optional.Some key) h = (key, refl)
 
 module _ {N S E : Type 0} (g : Sight N S E) (b : Beside) (v : Shown N S E) (tree : ℕ → Tree) (references : N → List ArcRef) (hash : List ℕ → List ℕ)
     (whole : WellFormed v.book) (step : InStep g.type_of v.book v.values) where
@@ -140,7 +139,7 @@ module _ {N S E : Type 0} (g : Sight N S E) (b : Beside) (v : Shown N S E) (tree
         let a = at-most-sum (value_with (λ _. true) n) v.book.nodes row.0 row.1 in
         let its_number = row.2 in
         let has : has_key row.0.key ≡ true = grind (arith, nat_tests) in
-        let key = keyed row.0.key has in
+        let key = some-key row.0.key has in
         away (record { 0 = n }) key.0 (tree n) gone (cell_of row.0, (among, its_number), key.1) (key-fits n)
 
     -- what a load of a cell reads is its node's tree
@@ -162,7 +161,7 @@ module _ {N S E : Type 0} (g : Sight N S E) (b : Beside) (v : Shown N S E) (tree
         record {
           same = refl;
           stands = λ n some.
-              elim (cases_some (sum_by (is_value g.type_of (λ _. true) n) v.values)) [
+              elim (eq-zero-or-pos (sum_by (is_value g.type_of (λ _. true) n) v.values)) [
                 | inl gone ↦ stands-away n some gone
                 | inr in_memory ↦ stands-here plain_trees n in_memory
               ];

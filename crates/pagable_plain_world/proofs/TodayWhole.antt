@@ -1,7 +1,8 @@
 -- Today's pager is whole as one of the whole product.
 use Rattle.std.proofs.Common.{◌≡◌, ℕ, ◌<◌, ◌≤◌, ◌==◌, ◌&&◌, ◌||◌, Bool, true, false, List, [], ◌∷◌, sum_by, All, refl, ap, sym, ◌∙◌, subst, inl, inr, arith}
-use Rattle.std.specs.Prelude.{nat_lt, nat_eq, not, ◌⊎◌, if◌then◌else◌}
+use Rattle.std.specs.Prelude.{nat_lt, nat_eq, not, if◌then◌else◌}
 use Rattle.std.specs.List.{remove}
+use Rattle.std.proofs.Math.Nat.{eq-zero-or-pos}
 use Rattle.std.proofs.lemmas.Bool.Decides.{nat_tests}
 use Rattle.pagable_model.specs.declared.numbers.ArcRef.{ArcRef}
 use Rattle.pagable_world.specs.declared.rows.Mode.{Mode}
@@ -80,9 +81,6 @@ list-aside o e = ap is_aside e
 if-zero : (b : Bool) (n : ℕ) → n ≡ 0 → (if b then n else 0) ≡ 0
 if-zero true n e = e
 if-zero false n e = refl
-
-cases_some : (n : ℕ) → (n ≡ 0) ⊎ (0 < n)
-cases_some n = grind arith
 
 -- the value of a node is there exactly while it is pinned or has no key
 its-value : (h p k c : ℕ) (key : Bool) → 0 < h → p ≡ c → k ≡ one key → one (nat_lt 0 c || not key) ≡ one (nat_lt 0 h && (nat_lt 0 p || nat_eq k 0))
@@ -189,7 +187,7 @@ module _ {N S E : Type 0} (g : Sight N S E) (b : Beside) (v : Shown N S E) (refe
   -- the value of a node is in memory exactly while it is pinned or has no key
   valued-as : (n : ℕ) → times (λ (x : ℕ × N). x.0 == n) v.values ≡ one (nat_lt 0 (held n v.book.handles) && (nat_lt 0 (pins n v.book.handles) || nat_eq (keyed n (cells_of v.book.nodes)) 0))
   valued-as n =
-      elim (cases_some (held n v.book.handles)) [
+      elim (eq-zero-or-pos (held n v.book.handles)) [
         | inl none ↦
             let live = whole.nodes.live n in
             let le = sum-le (value_with (λ _. true) n) (is_node n) v.book.nodes (λ node among. grind (arith, nat_tests)) in

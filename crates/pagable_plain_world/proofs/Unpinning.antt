@@ -2,6 +2,7 @@
 use Rattle.std.proofs.Common.{◌≡◌, ℕ, suc, zero, ◌+◌, ◌<◌, ◌≤◌, ◌==◌, ◌&&◌, true, false, List, [], ◌∷◌, ◌++◌, length, map, set, sum_by, refl, ap, sym, ◌∙◌, subst, inl, inr, arith}
 use Rattle.std.specs.Prelude.{filter, not, nat_lt, Result, Ok, Err, Some, slice_get, slice_set}
 use Rattle.std.proofs.lemmas.Bool.Decides.{nat_tests}
+use Rattle.std.proofs.lemmas.Bool.{and_parts}
 use Rattle.std.proofs.lemmas.List.{append-nil}
 use Rattle.std.proofs.lemmas.List.Sums.{sum_by_push}
 use Rattle.pagable_model.specs.declared.error.Error.{Error}
@@ -23,11 +24,11 @@ use Rattle.pagable_world.specs.Refusals.{RefusesLoose}
 use Rattle.pagable_world.specs.Pages.{IsWhole}
 use Rattle.pagable_plain_world.specs.FallLaws.{OwnsNothing}
 use Rattle.pagable_plain_world.specs.Bridges.{today, UnpinsToday}
-use Rattle.pagable_plain_world.proofs.Sums.{at-most-sum}
+use Rattle.pagable_plain_world.proofs.Sums.{self-number, one-true, at-most-sum}
 use Rattle.pagable_plain_world.proofs.Alone.{given-least}
 use Rattle.pagable_plain_world.proofs.Places.{filter-all, unique}
 use Rattle.pagable_plain_world.proofs.Turning.{sum-set, one-changed}
-use Rattle.pagable_plain_world.proofs.Bridging.{self-number, one-true, left-true, same-number, same-world, held-live, single-key, no-shares}
+use Rattle.pagable_plain_world.proofs.Bridging.{same-number, same-world, held-live, single-key, no-shares}
 
 -- a place of the first list is one of both
 pub set-append : {X : Type 0} (xs ys : List X) (i : ℕ) (x y : X) → slice_get xs i ≡ Some x → set (xs ++ ys) i y ≡ set xs i y ++ ys
@@ -121,7 +122,7 @@ module _ (w : Whole) (whole : IsWhole w) (h : HandleNumber) (i : ℕ) (row : Han
       let b = must.pinned in let c = must.unpinned in
       let some : 0 < pin_of n row = omega arith in
       let both = one-true (row.node.0 == n && is_pinning row.mode) some in
-      let at = left-true (row.node.0 == n) (is_pinning row.mode) both in
+      let at = (and_parts (row.node.0 == n) (is_pinning row.mode) both).0 in
       (grind (arith, nat_tests), grind (arith, nat_tests))
 
   none-needed : (loads : List LoadRow) → NeedsNoListing (today loads w) row → (n : ℕ) (w' : Whole) → pins n w'.rows + pin_of n row ≡ pins n w.rows → MustList w low w' n → ⊥

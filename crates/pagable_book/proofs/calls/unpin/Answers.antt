@@ -1,5 +1,6 @@
 use Rattle.std.proofs.Common.{inl, inr, refl, sym, ◌∙◌}
-use Rattle.pagable_book.proofs.Outcomes.{pinned_mode, unpinned_mode}
+use Rattle.pagable_book.proofs.Known.{unpinned_mode}
+use Rattle.pagable_book.proofs.Settling.{pinned_mode}
 use Rattle.pagable_book.proofs.calls.unpin.Goals as goal
 
 pub returns-then-not-pins-clause-world : goal.returns-then-not-pins-clause-world

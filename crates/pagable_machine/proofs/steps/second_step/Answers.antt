@@ -4,7 +4,8 @@ use Rattle.std.proofs.Common.{map, IfOk}
 use Rattle.pagable_machine.specs.Rows.{fetched_of}
 use Rattle.pagable_machine.proofs.Closing.{leads-anyway}
 use Rattle.pagable_world.specs.TodayTrees.{ReadFits}
-use Rattle.pagable_machine.proofs.Ending.{kept-at, row-number, fits-here, second-does, read-means, same-load}
+use Rattle.pagable_pager.proofs.Kept.{same_number}
+use Rattle.pagable_machine.proofs.Ending.{kept-at, row-number, fits-here, second-does, read-means}
 use Rattle.pagable_machine.proofs.steps.second_step.Goals as goal
 
 pub returns-clause-does : goal.returns-clause-does
@@ -26,4 +27,4 @@ returns-clause-trees g c =
     let number = row-number c.args.fetched.now.items c.args.load c.args.place row c.requires.within c.index-row.ensures c.requires.there in
     let here = kept-at c.args.fetched.now.items c.args.load c.args.place row c.requires.within c.index-row.ensures number in
     let fits = fits-here em c.args.pager.now (map fetched_of c.args.fetched.now.items) c.args.load (fetched_of row) c.requires.fits here in
-    leads-anyway g-sight c.args.pager.now c.end_read-ended.new.pager (λ w. IfOk c.read_root-read.result (λ x. ReadFits g-sight c.args.load x w)) (read-means em c.args.pager.now c.args.load c.args.node_type (fetched_of row) c.read_root-read.result c.is_whole.ensures.whole c.requires.typed fits (same-load row.load c.args.load number) c.read_root-read.ensures.typed c.env.result.now c.env.ensures c.read_root-read.ensures.tree) c.end_read-ended.ensures.trees
+    leads-anyway g-sight c.args.pager.now c.end_read-ended.new.pager (λ w. IfOk c.read_root-read.result (λ x. ReadFits g-sight c.args.load x w)) (read-means em c.args.pager.now c.args.load c.args.node_type (fetched_of row) c.read_root-read.result c.is_whole.ensures.whole c.requires.typed fits (same_number row.load c.args.load number) c.read_root-read.ensures.typed c.env.result.now c.env.ensures c.read_root-read.ensures.tree) c.end_read-ended.ensures.trees
