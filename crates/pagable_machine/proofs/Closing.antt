@@ -12,7 +12,7 @@ use Rattle.pagable_model.specs.Stored.{RefusesFetch}
 use Rattle.pagable_world.specs.declared.rows.LoadRow.{LoadRow}
 use Rattle.pagable_world.specs.declared.events.LoadAnswer.TheVariants as ends
 use Rattle.pagable_world.specs.Cells.{Cell}
-use Rattle.pagable_world.specs.State.{WellFormed}
+use Rattle.pagable_world.specs.State.{State, WellFormed}
 use Rattle.pagable_world.specs.World.{World, plain, HasCell, Closes}
 use Rattle.pagable_world.specs.Calls.{HasLoad, LoadTypeIs, Ended, Dropped}
 use Rattle.pagable_world.specs.Shown.{Shown, SameStore, Unchanged}
@@ -123,7 +123,7 @@ kept-more before mid after x grows same = ap (map fetched_of) grows ∙ map-appe
 
 -- the end of a load, by what the pager says of it
 pub load-ends : {N S E B C : Type 0} (m : MachineSight N S E B C) (old new : Shown N S E) (l : LoadNumber) (x : N) (r : Result HandleNumber (Error × Option N)) → IfOk r (λ k. Ended (plain old.book) l (Ok k) (plain new.book)) → OnOk r (m.references x ≡ []) → OnOk r (InstallsValue m.sight.type_of l x old new)
-    → IfErr r (λ e. IfNone e.1 (ClosedBy l e.0 old new)) → IfErr r (λ e. IfSome e.1 (λ y. (y ≡ x) × Unchanged old new × StaysOpen m.sight.type_of m.references l x old e.0)) → SameStore old new → EndsLoad m (world_of m old) l x r (world_of m new)
+    → IfErr r (λ e. IfNone e.1 (ClosedBy l e.0 old new)) → IfErr r (λ e. IfSome e.1 (λ y. (y ≡ x) × Unchanged old new × StaysOpen (plain old.book) l (m.sight.type_of x) (m.references x) e.0)) → SameStore old new → EndsLoad m (world_of m old) l x r (world_of m new)
 load-ends m old new l x (Ok k) step alone (number, (p, row, cell, has, is, at, typed), installs) closed back same =
     let P : NodeNumber → Type 0 = λ n. HasCell (plain old.book) n cell in
     ((p, row, cell, has, subst P (sym is) at, typed), alone, step, only-tables m old new same)
@@ -142,21 +142,21 @@ closed-ends m old new l e whole (inl stays, values) same = absurd (let no : ⊥ 
 closed-ends {N} m old new l e whole (inr (was, (q, load, has, why, closes)), values) same = at-load old.book whole l (λ p row. EndsWith {N = N} (world_of m old) p row (ends.Refused e) (world_of m new)) q load has (inl why, (closes, only-tables m old new same))
 
 -- why a value of the load's type without references isn't pinned
-no-pin : {N S E : Type 0} (type_of : N → ℕ) (refs_of : N → List ArcRef) (l : LoadNumber) (x : N) (old : Shown N S E) (e : Error) → WellFormed old.book → LoadTypeIs (plain old.book) l (Ok (type_of x)) → refs_of x ≡ [] → StaysOpen type_of refs_of l x old e → NoPinLeft (plain old.book) e
-no-pin type_of refs_of l x old errors.NoSuchHandle whole (q, load, has, (cell, at, typed)) alone (inl none) = absurd (no-load-open (plain old.book) l q load none has)
-no-pin type_of refs_of l x old errors.NoSuchHandle whole of_load alone (inr some) = absurd (some alone)
-no-pin type_of refs_of l x old errors.WrongKind whole (q, load, has, (cell, at, typed)) alone (q', load', cell', has', at', other) =
-    let Has : LoadRow → Type 0 = λ r. HasCell (plain old.book) r.node cell' in
-    let there = subst Has (one-load old.book whole l q' q load' load has' has) at' in
-    let same : cell' ≡ cell = one-cell old.book whole load.node cell' cell there at in
+no-pin : (s : State) (l : LoadNumber) (node_type : ℕ) (refs : List ArcRef) (e : Error) → WellFormed s → LoadTypeIs (plain s) l (Ok node_type) → refs ≡ [] → StaysOpen (plain s) l node_type refs e → NoPinLeft (plain s) e
+no-pin s l node_type refs errors.NoSuchHandle whole (q, load, has, of_load) alone (inl none) = absurd (no-load-open (plain s) l q load none has)
+no-pin s l node_type refs errors.NoSuchHandle whole of_load alone (inr some) = absurd (some alone)
+no-pin s l node_type refs errors.WrongKind whole (q, load, has, (cell, at, typed)) alone (no_refs, (q', load', cell', has', at', other)) =
+    let Has : LoadRow → Type 0 = λ r. HasCell (plain s) r.node cell' in
+    let there = subst Has (one-load s whole l q' q load' load has' has) at' in
+    let same : cell' ≡ cell = one-cell s whole load.node cell' cell there at in
     absurd (other (ap (λ (c : Cell). c.node_type) same ∙ sym typed))
-no-pin type_of refs_of l x old errors.NumbersSpent whole of_load alone why = why
-no-pin type_of refs_of l x old errors.OutOfMemory whole of_load alone why = tt
-no-pin type_of refs_of l x old _ whole of_load alone why = absurd why
+no-pin s l node_type refs errors.NumbersSpent whole of_load alone (no_refs, fits, own, spent) = spent
+no-pin s l node_type refs errors.OutOfMemory whole of_load alone why = tt
+no-pin s l node_type refs _ whole of_load alone why = absurd why
 
-pub open-ends : {N S E B C : Type 0} (m : MachineSight N S E B C) (old mid new : Shown N S E) (l : LoadNumber) (x : N) (e : Error) → WellFormed old.book → LoadTypeIs (plain old.book) l (Ok (m.sight.type_of x)) → m.references x ≡ [] → Unchanged old mid → StaysOpen m.sight.type_of m.references l x old e
+pub open-ends : {N S E B C : Type 0} (m : MachineSight N S E B C) (old mid new : Shown N S E) (l : LoadNumber) (x : N) (e : Error) → WellFormed old.book → LoadTypeIs (plain old.book) l (Ok (m.sight.type_of x)) → m.references x ≡ [] → Unchanged old mid → StaysOpen (plain old.book) l (m.sight.type_of x) (m.references x) e
     → EachLoad (plain mid.book) l (λ p row. ClosesOnly (world_of m mid) p row (world_of m new)) → EachLoad (plain old.book) l (λ p row. EndsWith {N = N} (world_of m old) p row (ends.Refused e) (world_of m new))
 open-ends m old mid new l x e whole typed alone same why closes p row has =
     let Each : MachineWorld → Type 0 = λ w. EachLoad w.tables l (λ q r. ClosesOnly w q r (world_of m new)) in
     let it = subst Each (same-machine m old mid same.world same.storage) closes p row has in
-    (inr (no-pin m.sight.type_of m.references l x old e whole typed alone why), it)
+    (inr (no-pin old.book l (m.sight.type_of x) (m.references x) e whole typed alone why), it)

@@ -384,7 +384,7 @@ installed-means g old new load x w rep asked (number, fits, inr (there, e)) = Al
 
 -- a load ends
 pub keeps-ended : {N S E : Type 0} (g : Sight N S E) (refs_of : N → List ArcRef) (load : LoadNumber) (x : N) (old new : Shown N S E) (r : Result HandleNumber (Error × Option N)) → IfOk r (λ k. Ended (plain old.book) load (Ok k) (plain new.book)) → OnOk r (InstallsValue g.type_of load x old new) → IfErr r (λ e. IfNone e.1 (ClosedBy load e.0 old new))
-    → IfErr r (λ e. IfSome e.1 (λ y. (y ≡ x) × Unchanged old new × StaysOpen g.type_of refs_of load x old e.0)) → SameStore old new → EachWorld g old new (λ w. OnOk r (ReadFits g load x w)) (λ w w'. EndedAs load r w.plain w'.plain)
+    → IfErr r (λ e. IfSome e.1 (λ y. (y ≡ x) × Unchanged old new × StaysOpen (plain old.book) load (g.type_of x) (refs_of x) e.0)) → SameStore old new → EachWorld g old new (λ w. OnOk r (ReadFits g load x w)) (λ w w'. EndedAs load r w.plain w'.plain)
 keeps-ended {N} g refs_of load x old new (Ok k) step installs closed back same w rep asked =
     keeping g old new (λ a b. EndedAs {N = N} load (Ok k) a b) w rep step (installed-means g old new load x w rep asked installs)
     (cells-move g old new w.tree (plain new.book).cells same.storage same.env ((end-keeps (plain old.book) (plain new.book) load k step).each (λ cell. CellFits g old cell (w.tree cell.number)) rep.cells))

@@ -15,6 +15,8 @@ use Rattle.pagable_world.specs.Values.{value_of_node}
 use Rattle.pagable_world.specs.Cells.{Cell}
 use Rattle.pagable_world.specs.World.{World, plain, greatest, HasCell}
 use Rattle.pagable_world.specs.Calls.{HasLoad, IsNoLoad, Ended}
+use Rattle.pagable_world.specs.Refusals.{IsOwn}
+use Rattle.pagable_world.specs.declared.rows.HandleRow.{HandleRow}
 use Rattle.pagable_world.specs.declared.rows.LoadRow.{LoadRow}
 use Rattle.pagable_world.specs.InStep.{kept}
 use Rattle.pagable_world.specs.Shown.{Shown}
@@ -30,13 +32,19 @@ InstallsValue type_of load node old new =
     × FitsLoad type_of load node old.book number
     × (((value_of_node number.0 old.book ≡ 0) × (new.values ≡ old.values ++ (number.0, node) ∷ [])) ⊎ ((value_of_node number.0 old.book ≡ 1) × (new.values ≡ old.values)))
 
--- why a load stays open: there is none, its value has references or is of another type, or no handle can be made
-abbrev pub StaysOpen : {N S E : Type 0} → (N → ℕ) → (N → List ArcRef) → LoadNumber → N → Shown N S E → Error → Type 0
-StaysOpen type_of refs_of load node old errors.NoSuchHandle = IsNoLoad (plain old.book) load ⊎ (refs_of node ≢ [])
-StaysOpen type_of refs_of load node old errors.WrongKind = (p : ℕ) × (row : LoadRow) × (cell : Cell) × HasLoad (plain old.book) load p row × HasCell (plain old.book) row.node cell × (cell.node_type ≢ type_of node)
-StaysOpen type_of refs_of load node old errors.NumbersSpent = old.book.last_handle ≡ greatest
-StaysOpen type_of refs_of load node old errors.OutOfMemory = Unit {0}
-StaysOpen type_of refs_of load node old _ = ⊥
+-- Why a load stays open that a value of this type, with these references, was to end. Of several causes the first is told: no such
+-- load is open; the value has references; it is of another type; and, where the handle by which the load was begun is still the
+-- caller's, no handle can be made. Memory may be wanting at any time once the load was found.
+abbrev pub StaysOpen : World → LoadNumber → ℕ → List ArcRef → Error → Type 0
+StaysOpen w load node_type refs errors.NoSuchHandle = IsNoLoad w load ⊎ (refs ≢ [])
+StaysOpen w load node_type refs errors.WrongKind = (refs ≡ []) × ((p : ℕ) × (row : LoadRow) × (cell : Cell) × HasLoad w load p row × HasCell w row.node cell × (cell.node_type ≢ node_type))
+StaysOpen w load node_type refs errors.NumbersSpent =
+    (refs ≡ [])
+    × ((p : ℕ) × (row : LoadRow) × (cell : Cell) × HasLoad w load p row × HasCell w row.node cell × (cell.node_type ≡ node_type))
+    × ((p : ℕ) × (row : LoadRow) × (i : ℕ) × (handle : HandleRow) × HasLoad w load p row × IsOwn w row.handle i handle)
+    × (w.last_handle ≡ greatest)
+StaysOpen w load node_type refs errors.OutOfMemory = (p : ℕ) × (row : LoadRow) × HasLoad w load p row
+StaysOpen w load node_type refs _ = ⊥
 
 -- The load is closed and the value dropped, since the handle by which it was begun is gone or another's.
 abbrev pub ClosedBy : {N S E : Type 0} → LoadNumber → Error → Shown N S E → Shown N S E → Type 0

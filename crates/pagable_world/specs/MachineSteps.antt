@@ -18,8 +18,10 @@ use Rattle.pagable_world.specs.declared.calls.Reply.{Reply}
 use Rattle.pagable_world.specs.declared.machine.MachineCall.{MachineCall}
 use Rattle.pagable_world.specs.declared.machine.MachineCall.TheVariants as calls
 use Rattle.pagable_world.specs.Cells.{Cell}
-use Rattle.pagable_world.specs.World.{World, plain, greatest, HasCell, CannotBear}
+use Rattle.pagable_world.specs.World.{World, plain, HasCell}
 use Rattle.pagable_world.specs.Calls.{Born, BornAway, Cloned, Loosened, PinnedBy, Unpinned, Released, Counts, KeyIs, AwayIs, NodeIs, Took, KeySet, Begun, HasLoad, IsNoLoad, Ended, Dropped}
+use Rattle.pagable_world.specs.Births.{RefusesNew}
+use Rattle.pagable_world.specs.LoadEnds.{StaysOpen}
 use Rattle.pagable_world.specs.Shown.{Shown}
 use Rattle.pagable_world.specs.TodayTrees.{Sight}
 use Rattle.pagable_world.specs.Steps.{AnswersMade, AnswersHandle, AnswersPin, AnswersDone, AnswersCount, AnswersKey, AnswersAway, AnswersNode, AnswersType, AnswersLength, AnswersTaken, AnswersBlob, AnswersStored, AnswersBegun, AnswersFound, AnswersEnded}
@@ -58,7 +60,7 @@ pub record OnlyFailures (w w' : MachineWorld) : Type 0 where
 -- A new cell of a value without references. Or why not, and the value.
 abbrev pub BearsValue : {N S E B C : Type 0} → MachineSight N S E B C → MachineWorld → N → Mode → Result HandleNumber (Error × N) → MachineWorld → Type 0
 BearsValue m w x mode (Ok k) w' = (m.references x ≡ []) × Born w.tables (m.sight.type_of x) mode (Ok k) w'.tables × OnlyTables w w'
-BearsValue m w x mode (Err (e, y)) w' = (y ≡ x) × (w' ≡ w) × (((e ≡ errors.NoSuchHandle) × (m.references x ≢ [])) ⊎ (e ≡ errors.OutOfMemory) ⊎ CannotBear w.tables e)
+BearsValue m w x mode (Err (e, y)) w' = (y ≡ x) × (w' ≡ w) × RefusesNew w.tables (m.references x) e
 
 -- the type of the node, if it is live
 abbrev pub TypeIs : World → NodeNumber → Option ℕ → Type 0
@@ -82,19 +84,11 @@ LoadFinds m w l (Ok (founds.Blob b)) w' = (p : ℕ) × (load : LoadRow) × HasLo
 LoadFinds m w l (Ok (founds.Cached k)) w' = ⊥
 LoadFinds m w l (Err e) w' = (IsNoLoad w.tables l × (e ≡ errors.NoSuchHandle) × (w' ≡ w)) ⊎ ((p : ℕ) × (load : LoadRow) × HasLoad w.tables l p load × FindsBlob m w load.key (Err e) w')
 
--- why a load stays open: there is none, its value has references or is of another type, or no handle can be made
-abbrev pub EndsLater : {N S E B C : Type 0} → MachineSight N S E B C → MachineWorld → LoadNumber → N → Error → Type 0
-EndsLater m w l x errors.NoSuchHandle = IsNoLoad w.tables l ⊎ (m.references x ≢ [])
-EndsLater m w l x errors.WrongKind = (p : ℕ) × (load : LoadRow) × (cell : Cell) × HasLoad w.tables l p load × HasCell w.tables load.node cell × (cell.node_type ≢ m.sight.type_of x)
-EndsLater m w l x errors.NumbersSpent = w.tables.last_handle ≡ greatest
-EndsLater m w l x errors.OutOfMemory = Unit {0}
-EndsLater m w l x _ = ⊥
-
 -- A load ends with a value of its node's type. Where the value comes back, the load stays open; else it is closed.
 abbrev pub EndsLoad : {N S E B C : Type 0} → MachineSight N S E B C → MachineWorld → LoadNumber → N → Result HandleNumber (Error × Option N) → MachineWorld → Type 0
 EndsLoad m w l x (Ok k) w' =
     ((p : ℕ) × (load : LoadRow) × (cell : Cell) × HasLoad w.tables l p load × HasCell w.tables load.node cell × (cell.node_type ≡ m.sight.type_of x)) × (m.references x ≡ []) × Ended w.tables l (Ok k) w'.tables × OnlyTables w w'
-EndsLoad m w l x (Err (e, Some y)) w' = (y ≡ x) × EndsLater m w l x e × (w' ≡ w)
+EndsLoad m w l x (Err (e, Some y)) w' = (y ≡ x) × StaysOpen w.tables l (m.sight.type_of x) (m.references x) e × (w' ≡ w)
 EndsLoad m w l x (Err (e, None)) w' = Ended w.tables l (Err (record { error = e; closed = true })) w'.tables × OnlyTables w w'
 
 -- The world may give this reply to the call, and go on to the new world.

@@ -106,7 +106,8 @@ where
     }
 
     /// A new cell that holds the value, has no key, and has one loose pinned handle of the caller's. Refused with
-    /// NoSuchHandle where the value holds references, NumbersSpent and OutOfMemory; then the value comes back.
+    /// NoSuchHandle where the value holds references, NumbersSpent where it holds none, and OutOfMemory; then the value
+    /// comes back.
     pub fn new_loose(
         &mut self,
         alloc: Global,
@@ -118,7 +119,7 @@ where
         ensures trees { OnOk result (BirthOf (record { type_of = E.Node.type_of; means = E.Node.means; shape_of = E.Node.shape_of; parts = E.parts; stored = S.stored }) node Mode.LoosePinned self.old self.new) }
         ensures same { SameStore self.old self.new }
         ensures err { OnErr result (Unchanged self.old self.new) }
-        ensures why { IfErr result (λ e. RefusesNew E.Node.refs_of node self.old.book e.0) }
+        ensures why { IfErr result (λ e. RefusesNew (plain self.old.book) (E.Node.refs_of node) e.0) }
         ensures back { IfErr result (λ e. e.1 ≡ node) }
     {
         self.new_cell(alloc, node, Mode::LoosePinned)
@@ -137,7 +138,7 @@ where
         ensures trees { OnOk result (BirthOf (record { type_of = E.Node.type_of; means = E.Node.means; shape_of = E.Node.shape_of; parts = E.parts; stored = S.stored }) node Mode.Pinned self.old self.new) }
         ensures same { SameStore self.old self.new }
         ensures err { OnErr result (Unchanged self.old self.new) }
-        ensures why { IfErr result (λ e. RefusesNew E.Node.refs_of node self.old.book e.0) }
+        ensures why { IfErr result (λ e. RefusesNew (plain self.old.book) (E.Node.refs_of node) e.0) }
         ensures back { IfErr result (λ e. e.1 ≡ node) }
     {
         self.new_cell(alloc, node, Mode::Pinned)
@@ -373,9 +374,10 @@ where
 
     /// Ends a load with the value that was read: installs it where the cell has none, pins the handle by which the load
     /// was begun, and answers the new Pinned handle. The value comes back exactly where the load stays open: refused
-    /// with NoSuchHandle where no such load is open or the value holds references, WrongKind where it is of another
-    /// type, NumbersSpent and OutOfMemory. Where the value could end the load, and the handle is gone or isn't the
-    /// caller's any more, NoSuchHandle or NotYours: the value is dropped and the load is closed.
+    /// with the first of NoSuchHandle where no such load is open or the value holds references, WrongKind where it is of
+    /// another type, and NumbersSpent; or with OutOfMemory, where the load is open. Where the value could end the load,
+    /// and the handle is gone or isn't the caller's any more, NoSuchHandle or NotYours: the value is dropped and the load
+    /// is closed.
     pub fn load_end(
         &mut self,
         alloc: Global,
@@ -388,7 +390,7 @@ where
         ensures installs { OnOk result (InstallsValue E.Node.type_of load node self.old self.new) }
         ensures closed { IfErr result (λ e. IfNone e.1 (ClosedBy load e.0 self.old self.new)) }
         ensures looked { IfErr result (λ e. IfNone e.1 (MayEnd E.Node.type_of E.Node.refs_of load node self.old.book)) }
-        ensures back { IfErr result (λ e. IfSome e.1 (λ x. (x ≡ node) × Unchanged self.old self.new × StaysOpen E.Node.type_of E.Node.refs_of load node self.old e.0)) }
+        ensures back { IfErr result (λ e. IfSome e.1 (λ x. (x ≡ node) × Unchanged self.old self.new × StaysOpen (plain self.old.book) load (E.Node.type_of node) (E.Node.refs_of node) e.0)) }
         ensures same { SameStore self.old self.new }
     {
         match self.fits(alloc, load, &node) {
@@ -413,7 +415,7 @@ where
     fn fits(&self, alloc: Global, load: LoadNumber, node: &E::Node) -> Result<NodeNumber, Error>
         ensures ok { IfOk result (FitsLoad E.Node.type_of load node.now self.now.book) }
         ensures alone { OnOk result (E.Node.refs_of node.now ≡ []) }
-        ensures refused { IfErr result (StaysOpen E.Node.type_of E.Node.refs_of load node.now self.now) }
+        ensures refused { IfErr result (StaysOpen (plain self.now.book) load (E.Node.type_of node.now) (E.Node.refs_of node.now)) }
     {
         let (cell, node_type) = self.book.load_cell(load)?;
         let refs = node.refs(alloc)?;
@@ -426,18 +428,19 @@ where
         Ok(cell)
     }
 
-    // Ends the load of a node with a value of its type.
+    // Ends the load of a node with a value of its type that holds no references.
     fn finish(
         &mut self,
         load: LoadNumber,
         cell: NodeNumber,
         node: E::Node,
     ) -> Result<HandleNumber, (Error, Option<E::Node>)>
-        requires { FitsLoad E.Node.type_of load node self.old.book cell }
+        requires fits { FitsLoad E.Node.type_of load node self.old.book cell }
+        requires alone { E.Node.refs_of node ≡ [] }
         ensures step { IfOk result (λ k. Ended (plain self.old.book) load (Ok k) (plain self.new.book)) }
         ensures installs { OnOk result (InstallsValue E.Node.type_of load node self.old self.new) }
         ensures closed { IfErr result (λ e. IfNone e.1 (ClosedBy load e.0 self.old self.new)) }
-        ensures back { IfErr result (λ e. IfSome e.1 (λ x. (x ≡ node) × Unchanged self.old self.new × StaysOpen E.Node.type_of E.Node.refs_of load node self.old e.0)) }
+        ensures back { IfErr result (λ e. IfSome e.1 (λ x. (x ≡ node) × Unchanged self.old self.new × StaysOpen (plain self.old.book) load (E.Node.type_of node) (E.Node.refs_of node) e.0)) }
         ensures same { SameStore self.old self.new }
     {
         if self.book.has_value(cell) {
@@ -456,10 +459,11 @@ where
     ) -> Result<HandleNumber, (Error, Option<E::Node>)>
         requires fits { FitsLoad E.Node.type_of load node self.old.book cell }
         requires there { 0 < value_of_node cell.0 self.old.book }
+        requires alone { E.Node.refs_of node ≡ [] }
         ensures step { IfOk result (λ k. Ended (plain self.old.book) load (Ok k) (plain self.new.book)) }
         ensures installs { OnOk result (InstallsValue E.Node.type_of load node self.old self.new) }
         ensures closed { IfErr result (λ e. IfNone e.1 (ClosedBy load e.0 self.old self.new)) }
-        ensures back { IfErr result (λ e. IfSome e.1 (λ x. (x ≡ node) × Unchanged self.old self.new × StaysOpen E.Node.type_of E.Node.refs_of load node self.old e.0)) }
+        ensures back { IfErr result (λ e. IfSome e.1 (λ x. (x ≡ node) × Unchanged self.old self.new × StaysOpen (plain self.old.book) load (E.Node.type_of node) (E.Node.refs_of node) e.0)) }
         ensures same { SameStore self.old self.new }
     {
         match self.book.load_end(load) {
@@ -483,10 +487,11 @@ where
     ) -> Result<HandleNumber, (Error, Option<E::Node>)>
         requires fits { FitsLoad E.Node.type_of load node self.old.book cell }
         requires away { value_of_node cell.0 self.old.book ≡ 0 }
+        requires alone { E.Node.refs_of node ≡ [] }
         ensures step { IfOk result (λ k. Ended (plain self.old.book) load (Ok k) (plain self.new.book)) }
         ensures installs { OnOk result (InstallsValue E.Node.type_of load node self.old self.new) }
         ensures closed { IfErr result (λ e. IfNone e.1 (ClosedBy load e.0 self.old self.new)) }
-        ensures back { IfErr result (λ e. IfSome e.1 (λ x. (x ≡ node) × Unchanged self.old self.new × StaysOpen E.Node.type_of E.Node.refs_of load node self.old e.0)) }
+        ensures back { IfErr result (λ e. IfSome e.1 (λ x. (x ≡ node) × Unchanged self.old self.new × StaysOpen (plain self.old.book) load (E.Node.type_of node) (E.Node.refs_of node) e.0)) }
         ensures same { SameStore self.old self.new }
     {
         let row = ValueRow {
@@ -526,7 +531,7 @@ where
         ensures trees { OnOk result (BirthOf (record { type_of = E.Node.type_of; means = E.Node.means; shape_of = E.Node.shape_of; parts = E.parts; stored = S.stored }) node mode self.old self.new) }
         ensures same { SameStore self.old self.new }
         ensures err { OnErr result (Unchanged self.old self.new) }
-        ensures why { IfErr result (λ e. RefusesNew E.Node.refs_of node self.old.book e.0) }
+        ensures why { IfErr result (λ e. RefusesNew (plain self.old.book) (E.Node.refs_of node) e.0) }
         ensures back { IfErr result (λ e. e.1 ≡ node) }
     {
         match node.refs(alloc) {
@@ -540,14 +545,15 @@ where
         self.add_cell(node, mode)
     }
 
-    // Adds a cell with its value.
+    // Adds a cell with its value, which holds no references.
     fn add_cell(&mut self, node: E::Node, mode: Mode) -> Result<HandleNumber, (Error, E::Node)>
+        requires alone { E.Node.refs_of node ≡ [] }
         ensures made { IfOk result (λ k. (k.0 ≡ self.old.book.last_handle + 1) × (plain self.new.book ≡ born (plain self.old.book) (E.Node.type_of node) mode)) }
         ensures values { OnOk result (self.new.values ≡ self.old.values ++ (self.old.book.last_node + 1, node) ∷ []) }
         ensures trees { OnOk result (BirthOf (record { type_of = E.Node.type_of; means = E.Node.means; shape_of = E.Node.shape_of; parts = E.parts; stored = S.stored }) node mode self.old self.new) }
         ensures same { SameStore self.old self.new }
         ensures err { OnErr result (Unchanged self.old self.new) }
-        ensures why { IfErr result (λ e. RefusesNew E.Node.refs_of node self.old.book e.0) }
+        ensures why { IfErr result (λ e. RefusesNew (plain self.old.book) (E.Node.refs_of node) e.0) }
         ensures back { IfErr result (λ e. e.1 ≡ node) }
     {
         let node_type = node.node_type();
