@@ -1,6 +1,6 @@
 -- How a machine is seen, by the members of its bounds, and what its calls, events and steps of loads are, from the machine
 -- before to the machine after.
-use Rattle.std.specs.Prelude.{ℕ, List, Option, Bool, Result}
+use Rattle.std.specs.Prelude.{ℕ, List, Bool, Result}
 use Rattle.std.specs.Arc.{arc_value}
 use Rattle.std.specs.declared.sync.Arc.{Arc}
 use Rattle.std.specs.declared.alloc.Global.{Global}
@@ -8,8 +8,6 @@ use Rattle.pagable_model.specs.declared.error.Error.{Error}
 use Rattle.pagable_model.specs.declared.numbers.ArcRef.{ArcRef}
 use Rattle.pagable_model.specs.declared.numbers.LoadNumber.{LoadNumber}
 use Rattle.pagable_model.specs.Blob.{Blob, key_of}
-use Rattle.pagable_model.specs.Meaning.{Meaning}
-use Rattle.pagable_model.specs.Shape.{Shape}
 use Rattle.pagable_core.specs.Data.{blob_of}
 use Rattle.pagable_core.specs.declared.storage.data.PagableData.{PagableData}
 use Rattle.pagable_world.specs.declared.calls.Reply.{Reply}
@@ -23,16 +21,12 @@ use Rattle.pagable_world.specs.MachineSteps.{MachineSight, CallDoes, world_of}
 use Rattle.pagable_world.specs.MachineEvents.{EventDoes}
 use Rattle.pagable_world.specs.LoadMoves.{Driven, EventSight, event_world_of, LoadStepped}
 
--- what values are: their types, what they mean, the shapes of types, and what is stored
-abbrev pub values_by : {N S E : Type 0} → (N → ℕ) → (N → Meaning ArcRef → Type 0) → (E → ℕ → Option Shape) → (E → ℕ → Shape) → (S → ℕ → Option Blob) → Sight N S E
-values_by type_of means shape_of parts stored = record { type_of = type_of; means = means; shape_of = shape_of; parts = parts; stored = stored }
-
--- and with it a value's references, the hash, and what the storage tells
+-- with what values are: their references, the hash, and what the storage tells
 abbrev pub machine_by : {N S E : Type 0} → Sight N S E → (N → List ArcRef) → (List ℕ → List ℕ) → (S → Bool) → (S → ℕ) → MachineSight N S E PagableData (Arc PagableData Global)
 machine_by sight references digest is_closed failed =
     record { sight = sight; references = references; digest = key_of digest; blob_of = blob_of; found = λ b. blob_of (arc_value b); is_closed = is_closed; failed = failed }
 
--- and with it why a reader of values may refuse one
+-- with that: why a reader of values may refuse one
 abbrev pub events_by : {N S E : Type 0} → MachineSight N S E PagableData (Arc PagableData Global) → (Error → Type 0) → EventSight N S E PagableData (Arc PagableData Global)
 events_by machine read_causes = record { machine = machine; read_causes = read_causes }
 

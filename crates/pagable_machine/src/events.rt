@@ -3,7 +3,8 @@
 ghost use Rattle.std.specs.Prelude.{◌≡◌, All, map};
 ghost use Rattle.pagable_world.specs.MachineRuns.{EventLeadsOn, FetchedFits, IsWholeDriven};
 ghost use Rattle.pagable_machine.specs.Rows.{driven_by, fetched_of};
-ghost use Rattle.pagable_machine.specs.Sights.{events_by, machine_by, MakesEvent, values_by};
+ghost use Rattle.pagable_world.specs.Sights.{values_by};
+ghost use Rattle.pagable_machine.specs.Sights.{events_by, machine_by, MakesEvent};
 
 use crate::fetched::FetchedBlob;
 use crate::{single, steps};

@@ -2,7 +2,8 @@
 
 ghost use Rattle.std.specs.Prelude.{◌≡◌, [], IfOk, IfErr, OnErr};
 ghost use Rattle.pagable_world.specs.MachineRuns.{HasRun};
-ghost use Rattle.pagable_machine.specs.Sights.{events_by, machine_by, values_by};
+ghost use Rattle.pagable_world.specs.Sights.{values_by};
+ghost use Rattle.pagable_machine.specs.Sights.{events_by, machine_by};
 
 use crate::events;
 use crate::fetched::FetchedBlob;
@@ -36,7 +37,8 @@ where
     ghost use Rattle.pagable_world.specs.LoadMoves.{Driven};
     ghost use Rattle.pagable_world.specs.MachineRuns.{FetchedFits};
     ghost use Rattle.pagable_machine.specs.Rows.{fetched_of};
-    ghost use Rattle.pagable_machine.specs.Sights.{events_by, machine_by, values_by};
+    ghost use Rattle.pagable_world.specs.Sights.{values_by};
+    ghost use Rattle.pagable_machine.specs.Sights.{events_by, machine_by};
 
     ghost Value = { Driven E.Node S E };
 

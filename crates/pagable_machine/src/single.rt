@@ -4,7 +4,8 @@ ghost use Rattle.std.specs.Prelude.{◌≡◌, map};
 ghost use Rattle.pagable_world.specs.MachineEvents.{fetched_after};
 ghost use Rattle.pagable_world.specs.MachineRuns.{IsWholeToday, LeadsOn};
 ghost use Rattle.pagable_machine.specs.Rows.{ended_by, fetched_of};
-ghost use Rattle.pagable_machine.specs.Sights.{machine_by, MakesCall, values_by};
+ghost use Rattle.pagable_world.specs.Sights.{values_by};
+ghost use Rattle.pagable_machine.specs.Sights.{machine_by, MakesCall};
 
 use crate::fetched;
 use crate::fetched::FetchedBlob;

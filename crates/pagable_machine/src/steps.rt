@@ -15,7 +15,8 @@ ghost use Rattle.pagable_machine.specs.Rows.{driven_by, fetched_of};
 ghost use Rattle.pagable_machine.specs.Moves.{ClosesOnly, EachLoad, EndsRead, EndsWith, FetchesRoot, GetsRoot, LeadsIf};
 ghost use Rattle.pagable_machine.specs.Reading.{ReadsAlone, MeansItsTree};
 ghost use Rattle.pagable_machine.specs.declared.fetched.FetchedBlob.{FetchedBlob};
-ghost use Rattle.pagable_machine.specs.Sights.{events_by, machine_by, StepsLoad, values_by};
+ghost use Rattle.pagable_machine.specs.Sights.{events_by, machine_by, StepsLoad};
+ghost use Rattle.pagable_world.specs.Sights.{values_by};
 
 use crate::fetched;
 use crate::fetched::FetchedBlob;
@@ -37,7 +38,7 @@ where
     E::Node: NodeSet<E>,
     ensures closes { EachLoad (plain pager.old.book) load (λ p row. ClosesOnly (world_of (machine_by (values_by E.Node.type_of E.Node.means E.Node.shape_of E.parts S.stored) E.Node.refs_of E.Hash.digest S.is_closed S.failed) pager.old) p row (world_of (machine_by (values_by E.Node.type_of E.Node.means E.Node.shape_of E.parts S.stored) E.Node.refs_of E.Hash.digest S.is_closed S.failed) pager.new)) }
     ensures env { pager.new.env ≡ pager.old.env }
-    ensures trees { LeadsIf (record { type_of = E.Node.type_of; means = E.Node.means; shape_of = E.Node.shape_of; parts = E.parts; stored = S.stored }) Always pager.old pager.new }
+    ensures trees { LeadsIf (values_by E.Node.type_of E.Node.means E.Node.shape_of E.parts S.stored) Always pager.old pager.new }
 {
     pager.is_whole();
     let _ = pager.load_drop(load);
@@ -52,7 +53,7 @@ fn get_root<E: Env, S: PagableStorage<E>>(
 where
     E::Node: NodeSet<E>,
     ensures does { GetsRoot (machine_by (values_by E.Node.type_of E.Node.means E.Node.shape_of E.parts S.stored) E.Node.refs_of E.Hash.digest S.is_closed S.failed) (world_of (machine_by (values_by E.Node.type_of E.Node.means E.Node.shape_of E.parts S.stored) E.Node.refs_of E.Hash.digest S.is_closed S.failed) pager.old) load result (world_of (machine_by (values_by E.Node.type_of E.Node.means E.Node.shape_of E.parts S.stored) E.Node.refs_of E.Hash.digest S.is_closed S.failed) pager.new) }
-    ensures trees { EachWorld (record { type_of = E.Node.type_of; means = E.Node.means; shape_of = E.Node.shape_of; parts = E.parts; stored = S.stored }) pager.old pager.new Always (λ w w'. w'.plain ≡ w.plain) }
+    ensures trees { EachWorld (values_by E.Node.type_of E.Node.means E.Node.shape_of E.parts S.stored) pager.old pager.new Always (λ w w'. w'.plain ≡ w.plain) }
 {
     match pager.load_fetch(alloc, load, Want::Root) {
         Ok(Either::Right(blob)) => Ok(blob),
@@ -70,7 +71,7 @@ fn fetch_root<E: Env, S: PagableStorage<E>>(
 where
     E::Node: NodeSet<E>,
     ensures does { EachLoad (plain pager.old.book) load (λ p row. FetchesRoot (machine_by (values_by E.Node.type_of E.Node.means E.Node.shape_of E.parts S.stored) E.Node.refs_of E.Hash.digest S.is_closed S.failed) (world_of (machine_by (values_by E.Node.type_of E.Node.means E.Node.shape_of E.parts S.stored) E.Node.refs_of E.Hash.digest S.is_closed S.failed) pager.old) p row result (world_of (machine_by (values_by E.Node.type_of E.Node.means E.Node.shape_of E.parts S.stored) E.Node.refs_of E.Hash.digest S.is_closed S.failed) pager.new)) }
-    ensures trees { LeadsIf (record { type_of = E.Node.type_of; means = E.Node.means; shape_of = E.Node.shape_of; parts = E.parts; stored = S.stored }) Always pager.old pager.new }
+    ensures trees { LeadsIf (values_by E.Node.type_of E.Node.means E.Node.shape_of E.parts S.stored) Always pager.old pager.new }
 {
     pager.is_whole();
     match get_root(pager, alloc, load) {
@@ -92,7 +93,7 @@ fn first_step<E: Env, S: PagableStorage<E>>(
 where
     E::Node: NodeSet<E>,
     ensures does { EachLoad (plain pager.old.book) load (λ p row. StepFetches (event_world_of (events_by (machine_by (values_by E.Node.type_of E.Node.means E.Node.shape_of E.parts S.stored) E.Node.refs_of E.Hash.digest S.is_closed S.failed) E.Node.read_causes) (driven_by pager.old fetched.old.items)) p row result (event_world_of (events_by (machine_by (values_by E.Node.type_of E.Node.means E.Node.shape_of E.parts S.stored) E.Node.refs_of E.Hash.digest S.is_closed S.failed) E.Node.read_causes) (driven_by pager.new fetched.new.items))) }
-    ensures trees { LeadsIf (record { type_of = E.Node.type_of; means = E.Node.means; shape_of = E.Node.shape_of; parts = E.parts; stored = S.stored }) Always pager.old pager.new }
+    ensures trees { LeadsIf (values_by E.Node.type_of E.Node.means E.Node.shape_of E.parts S.stored) Always pager.old pager.new }
 {
     if fetched.reserve(1).is_err() {
         close(pager, load);
@@ -126,7 +127,7 @@ where
     requires typed { LoadTypeIs (plain pager.old.book) load (Ok (E.Node.type_of value)) }
     requires alone { E.Node.refs_of value ≡ [] }
     ensures does { EachLoad (plain pager.old.book) load (λ p row. EndsWith (world_of (machine_by (values_by E.Node.type_of E.Node.means E.Node.shape_of E.parts S.stored) E.Node.refs_of E.Hash.digest S.is_closed S.failed) pager.old) p row result (world_of (machine_by (values_by E.Node.type_of E.Node.means E.Node.shape_of E.parts S.stored) E.Node.refs_of E.Hash.digest S.is_closed S.failed) pager.new)) }
-    ensures trees { LeadsIf (record { type_of = E.Node.type_of; means = E.Node.means; shape_of = E.Node.shape_of; parts = E.parts; stored = S.stored }) (ReadFits (record { type_of = E.Node.type_of; means = E.Node.means; shape_of = E.Node.shape_of; parts = E.parts; stored = S.stored }) load value) pager.old pager.new }
+    ensures trees { LeadsIf (values_by E.Node.type_of E.Node.means E.Node.shape_of E.parts S.stored) (ReadFits (values_by E.Node.type_of E.Node.means E.Node.shape_of E.parts S.stored) load value) pager.old pager.new }
 {
     pager.is_whole();
     match pager.load_end(alloc, load, value) {
@@ -151,7 +152,7 @@ where
     requires typed { IfOk read (λ x. LoadTypeIs (plain pager.old.book) load (Ok (E.Node.type_of x))) }
     requires alone { IfOk read (λ x. E.Node.refs_of x ≡ []) }
     ensures does { EachLoad (plain pager.old.book) load (λ p row. EndsRead (world_of (machine_by (values_by E.Node.type_of E.Node.means E.Node.shape_of E.parts S.stored) E.Node.refs_of E.Hash.digest S.is_closed S.failed) pager.old) p row read result (world_of (machine_by (values_by E.Node.type_of E.Node.means E.Node.shape_of E.parts S.stored) E.Node.refs_of E.Hash.digest S.is_closed S.failed) pager.new)) }
-    ensures trees { LeadsIf (record { type_of = E.Node.type_of; means = E.Node.means; shape_of = E.Node.shape_of; parts = E.parts; stored = S.stored }) (λ w. IfOk read (λ x. ReadFits (record { type_of = E.Node.type_of; means = E.Node.means; shape_of = E.Node.shape_of; parts = E.parts; stored = S.stored }) load x w)) pager.old pager.new }
+    ensures trees { LeadsIf (values_by E.Node.type_of E.Node.means E.Node.shape_of E.parts S.stored) (λ w. IfOk read (λ x. ReadFits (values_by E.Node.type_of E.Node.means E.Node.shape_of E.parts S.stored) load x w)) pager.old pager.new }
 {
     match read {
         Ok(value) => end_with(pager, alloc, load, value),
@@ -196,7 +197,7 @@ where
     requires there { (row : FetchedBlob) → (slice_index_or fetched.old.items place row).load.0 ≡ load.0 }
     requires fits { All (FetchedFits (events_by (machine_by (values_by E.Node.type_of E.Node.means E.Node.shape_of E.parts S.stored) E.Node.refs_of E.Hash.digest S.is_closed S.failed) E.Node.read_causes) pager.old) (map fetched_of fetched.old.items) }
     ensures does { StepsLoad (events_by (machine_by (values_by E.Node.type_of E.Node.means E.Node.shape_of E.parts S.stored) E.Node.refs_of E.Hash.digest S.is_closed S.failed) E.Node.read_causes) (driven_by pager.old fetched.old.items) load (Ok result) (driven_by pager.new fetched.new.items) }
-    ensures trees { LeadsIf (record { type_of = E.Node.type_of; means = E.Node.means; shape_of = E.Node.shape_of; parts = E.parts; stored = S.stored }) Always pager.old pager.new }
+    ensures trees { LeadsIf (values_by E.Node.type_of E.Node.means E.Node.shape_of E.parts S.stored) Always pager.old pager.new }
 {
     pager.is_whole();
     let row = &fetched[place];
@@ -223,7 +224,7 @@ where
     requires typed { LoadTypeIs (plain pager.old.book) load (Ok node_type) }
     requires fits { All (FetchedFits (events_by (machine_by (values_by E.Node.type_of E.Node.means E.Node.shape_of E.parts S.stored) E.Node.refs_of E.Hash.digest S.is_closed S.failed) E.Node.read_causes) pager.old) (map fetched_of fetched.old.items) }
     ensures does { StepsLoad (events_by (machine_by (values_by E.Node.type_of E.Node.means E.Node.shape_of E.parts S.stored) E.Node.refs_of E.Hash.digest S.is_closed S.failed) E.Node.read_causes) (driven_by pager.old fetched.old.items) load (Ok result) (driven_by pager.new fetched.new.items) }
-    ensures trees { LeadsIf (record { type_of = E.Node.type_of; means = E.Node.means; shape_of = E.Node.shape_of; parts = E.parts; stored = S.stored }) Always pager.old pager.new }
+    ensures trees { LeadsIf (values_by E.Node.type_of E.Node.means E.Node.shape_of E.parts S.stored) Always pager.old pager.new }
 {
     match fetched::place_of(fetched, load) {
         None => LoadReply {
@@ -246,7 +247,7 @@ where
     E::Node: NodeSet<E>,
     requires fits { All (FetchedFits (events_by (machine_by (values_by E.Node.type_of E.Node.means E.Node.shape_of E.parts S.stored) E.Node.refs_of E.Hash.digest S.is_closed S.failed) E.Node.read_causes) pager.old) (map fetched_of fetched.old.items) }
     ensures does { StepsLoad (events_by (machine_by (values_by E.Node.type_of E.Node.means E.Node.shape_of E.parts S.stored) E.Node.refs_of E.Hash.digest S.is_closed S.failed) E.Node.read_causes) (driven_by pager.old fetched.old.items) load result (driven_by pager.new fetched.new.items) }
-    ensures trees { LeadsIf (record { type_of = E.Node.type_of; means = E.Node.means; shape_of = E.Node.shape_of; parts = E.parts; stored = S.stored }) Always pager.old pager.new }
+    ensures trees { LeadsIf (values_by E.Node.type_of E.Node.means E.Node.shape_of E.parts S.stored) Always pager.old pager.new }
 {
     match pager.load_type(load) {
         Err(e) => Err(e),

@@ -23,6 +23,7 @@ pub mod Pages
 pub mod Steps
 pub mod Stands
 pub mod TodayTrees
+pub mod Sights
 pub mod LoadSteps
 pub mod Met
 pub mod WorkerSteps

@@ -19,6 +19,7 @@ ghost use Rattle.pagable_world.specs.Births.{RefusesNew};
 ghost use Rattle.pagable_pager.specs.Ends.{MayEnd};
 ghost use Rattle.pagable_world.specs.declared.rows.HandleRow.{HandleRow};
 ghost use Rattle.pagable_world.specs.TodayTrees.{Always, AwayBirthOf, BirthOf, EachWorld, SetKeyFits, LendsTree, ReadFits, Sight, StandsEmpty};
+ghost use Rattle.pagable_world.specs.Sights.{values_by};
 
 use crate::pagable_arc::values;
 use crate::pagable_arc::values::ValueRow;
@@ -79,7 +80,7 @@ where
         ensures values { result.values ≡ [] }
         ensures storage { result.storage ≡ storage }
         ensures env { result.env ≡ env }
-        ensures trees { StandsEmpty (record { type_of = E.Node.type_of; means = E.Node.means; shape_of = E.Node.shape_of; parts = E.parts; stored = S.stored }) result }
+        ensures trees { StandsEmpty (values_by E.Node.type_of E.Node.means E.Node.shape_of E.parts S.stored) result }
     {
         Pager {
             book: Book::new(alloc),
@@ -116,7 +117,7 @@ where
         ensures made { IfOk result (λ k. (k.0 ≡ self.old.book.last_handle + 1) × (plain self.new.book ≡ born (plain self.old.book) (E.Node.type_of node) Mode.LoosePinned)) }
         ensures alone { OnOk result (E.Node.refs_of node ≡ []) }
         ensures values { OnOk result (self.new.values ≡ self.old.values ++ (self.old.book.last_node + 1, node) ∷ []) }
-        ensures trees { OnOk result (BirthOf (record { type_of = E.Node.type_of; means = E.Node.means; shape_of = E.Node.shape_of; parts = E.parts; stored = S.stored }) node Mode.LoosePinned self.old self.new) }
+        ensures trees { OnOk result (BirthOf (values_by E.Node.type_of E.Node.means E.Node.shape_of E.parts S.stored) node Mode.LoosePinned self.old self.new) }
         ensures same { SameStore self.old self.new }
         ensures err { OnErr result (Unchanged self.old self.new) }
         ensures why { IfErr result (λ e. RefusesNew (plain self.old.book) (E.Node.refs_of node) e.0) }
@@ -135,7 +136,7 @@ where
         ensures made { IfOk result (λ k. (k.0 ≡ self.old.book.last_handle + 1) × (plain self.new.book ≡ born (plain self.old.book) (E.Node.type_of node) Mode.Pinned)) }
         ensures alone { OnOk result (E.Node.refs_of node ≡ []) }
         ensures values { OnOk result (self.new.values ≡ self.old.values ++ (self.old.book.last_node + 1, node) ∷ []) }
-        ensures trees { OnOk result (BirthOf (record { type_of = E.Node.type_of; means = E.Node.means; shape_of = E.Node.shape_of; parts = E.parts; stored = S.stored }) node Mode.Pinned self.old self.new) }
+        ensures trees { OnOk result (BirthOf (values_by E.Node.type_of E.Node.means E.Node.shape_of E.parts S.stored) node Mode.Pinned self.old self.new) }
         ensures same { SameStore self.old self.new }
         ensures err { OnErr result (Unchanged self.old self.new) }
         ensures why { IfErr result (λ e. RefusesNew (plain self.old.book) (E.Node.refs_of node) e.0) }
@@ -148,7 +149,7 @@ where
     /// caller's. Its tree is what the key reads as. Refused with NumbersSpent and OutOfMemory.
     pub fn new_paged_out(&mut self, node_type: u32, key: DataKey) -> Result<HandleNumber, Error>
         ensures step { BornAway (plain self.old.book) node_type key result (plain self.new.book) }
-        ensures trees { OnOk result (AwayBirthOf (record { type_of = E.Node.type_of; means = E.Node.means; shape_of = E.Node.shape_of; parts = E.parts; stored = S.stored }) node_type key self.old self.new) }
+        ensures trees { OnOk result (AwayBirthOf (values_by E.Node.type_of E.Node.means E.Node.shape_of E.parts S.stored) node_type key self.old self.new) }
         ensures same { OnlyBook self.old self.new }
     {
         let handle = self.book.add_paged_out(node_type, key)?;
@@ -159,7 +160,7 @@ where
     /// pins. Refused with NoSuchHandle, NumbersSpent and OutOfMemory.
     pub fn clone(&mut self, handle: HandleNumber) -> Result<HandleNumber, Error>
         ensures step { Cloned (plain self.old.book) handle result (plain self.new.book) }
-        ensures trees { EachWorld (record { type_of = E.Node.type_of; means = E.Node.means; shape_of = E.Node.shape_of; parts = E.parts; stored = S.stored }) self.old self.new Always (λ w w'. Cloned w.plain handle result w'.plain) }
+        ensures trees { EachWorld (values_by E.Node.type_of E.Node.means E.Node.shape_of E.parts S.stored) self.old self.new Always (λ w w'. Cloned w.plain handle result w'.plain) }
         ensures same { OnlyBook self.old self.new }
     {
         self.book.clone(handle)
@@ -170,7 +171,7 @@ where
     pub fn into_pagable(&mut self, handle: HandleNumber) -> Result<HandleNumber, Error>
         ensures step { Loosened (plain self.old.book) handle result (plain self.new.book) }
         ensures succeeds { (i : ℕ) (row : HandleRow) → IsOwn (plain self.old.book) handle i row → row.mode ≡ Mode.Pinned → result ≡ Ok handle }
-        ensures trees { EachWorld (record { type_of = E.Node.type_of; means = E.Node.means; shape_of = E.Node.shape_of; parts = E.parts; stored = S.stored }) self.old self.new Always (λ w w'. Loosened w.plain handle result w'.plain) }
+        ensures trees { EachWorld (values_by E.Node.type_of E.Node.means E.Node.shape_of E.parts S.stored) self.old self.new Always (λ w w'. Loosened w.plain handle result w'.plain) }
         ensures same { OnlyBook self.old self.new }
     {
         self.book.into_pagable(handle)
@@ -181,7 +182,7 @@ where
     /// WrongMode where the handle isn't loose, NumbersSpent and OutOfMemory.
     pub fn pin(&mut self, handle: HandleNumber) -> Result<Pinning, Error>
         ensures step { PinnedBy (plain self.old.book) handle result (plain self.new.book) }
-        ensures trees { EachWorld (record { type_of = E.Node.type_of; means = E.Node.means; shape_of = E.Node.shape_of; parts = E.parts; stored = S.stored }) self.old self.new Always (λ w w'. PinnedBy w.plain handle result w'.plain) }
+        ensures trees { EachWorld (values_by E.Node.type_of E.Node.means E.Node.shape_of E.parts S.stored) self.old self.new Always (λ w w'. PinnedBy w.plain handle result w'.plain) }
         ensures same { OnlyBook self.old self.new }
     {
         self.book.pin(handle)
@@ -192,7 +193,7 @@ where
     /// NumbersSpent and OutOfMemory say that the cell couldn't be listed: the pin is given up all the same.
     pub fn unpin(&mut self, handle: HandleNumber) -> Result<(), Error>
         ensures step { Unpinned (plain self.old.book) handle result (plain self.new.book) }
-        ensures trees { EachWorld (record { type_of = E.Node.type_of; means = E.Node.means; shape_of = E.Node.shape_of; parts = E.parts; stored = S.stored }) self.old self.new Always (λ w w'. Unpinned w.plain handle result w'.plain) }
+        ensures trees { EachWorld (values_by E.Node.type_of E.Node.means E.Node.shape_of E.parts S.stored) self.old self.new Always (λ w w'. Unpinned w.plain handle result w'.plain) }
         ensures values { self.new.values ≡ kept self.new.book self.old.values }
         ensures same { SameStore self.old self.new }
     {
@@ -207,7 +208,7 @@ where
     /// gone. Refused with NoSuchHandle and NotYours, and nothing changes; NumbersSpent and OutOfMemory as of `unpin`.
     pub fn release(&mut self, handle: HandleNumber) -> Result<(), Error>
         ensures step { Released (plain self.old.book) handle result (plain self.new.book) }
-        ensures trees { EachWorld (record { type_of = E.Node.type_of; means = E.Node.means; shape_of = E.Node.shape_of; parts = E.parts; stored = S.stored }) self.old self.new Always (λ w w'. Released w.plain handle result w'.plain) }
+        ensures trees { EachWorld (values_by E.Node.type_of E.Node.means E.Node.shape_of E.parts S.stored) self.old self.new Always (λ w w'. Released w.plain handle result w'.plain) }
         ensures values { self.new.values ≡ kept self.new.book self.old.values }
         ensures same { SameStore self.old self.new }
     {
@@ -257,7 +258,7 @@ where
     /// The node's value, where the handle pins the node, and else None. Refused with NoSuchHandle.
     pub fn value(&self, handle: HandleNumber) -> Result<Option<&E::Node>, Error>
         ensures lent { IfOk result (λ found. IfSome found (λ x. IsLent self.now handle x.now)) }
-        ensures trees { IfOk result (λ found. IfSome found (λ x. LendsTree (record { type_of = E.Node.type_of; means = E.Node.means; shape_of = E.Node.shape_of; parts = E.parts; stored = S.stored }) self.now handle x.now)) }
+        ensures trees { IfOk result (λ found. IfSome found (λ x. LendsTree (values_by E.Node.type_of E.Node.means E.Node.shape_of E.parts S.stored) self.now handle x.now)) }
         ensures none { IfOk result (λ found. IfNone found (PinsNothing self.now handle)) }
         ensures unknown { IfErr result (λ e. IsUnknown (plain self.now.book) handle × (e ≡ Error.NoSuchHandle)) }
     {
@@ -276,7 +277,7 @@ where
     /// and NotYours.
     pub fn set_data_key(&mut self, handle: HandleNumber, key: DataKey) -> Result<(), Error>
         ensures step { KeySet (plain self.old.book) handle key result (plain self.new.book) }
-        ensures trees { EachWorld (record { type_of = E.Node.type_of; means = E.Node.means; shape_of = E.Node.shape_of; parts = E.parts; stored = S.stored }) self.old self.new (SetKeyFits (record { type_of = E.Node.type_of; means = E.Node.means; shape_of = E.Node.shape_of; parts = E.parts; stored = S.stored }) self.old handle key) (λ w w'. KeySet w.plain handle key result w'.plain) }
+        ensures trees { EachWorld (values_by E.Node.type_of E.Node.means E.Node.shape_of E.parts S.stored) self.old self.new (SetKeyFits (values_by E.Node.type_of E.Node.means E.Node.shape_of E.parts S.stored) self.old handle key) (λ w w'. KeySet w.plain handle key result w'.plain) }
         ensures values { self.new.values ≡ kept self.new.book self.old.values }
         ensures same { SameStore self.old self.new }
     {
@@ -297,7 +298,7 @@ where
     /// The entry at this place of the list, counted from 0, moves to the caller; None past the end.
     pub fn take_pending(&mut self, place: usize) -> Option<HandleNumber>
         ensures step { Took (plain self.old.book) place result (plain self.new.book) }
-        ensures trees { EachWorld (record { type_of = E.Node.type_of; means = E.Node.means; shape_of = E.Node.shape_of; parts = E.parts; stored = S.stored }) self.old self.new Always (λ w w'. Took w.plain place result w'.plain) }
+        ensures trees { EachWorld (values_by E.Node.type_of E.Node.means E.Node.shape_of E.parts S.stored) self.old self.new Always (λ w w'. Took w.plain place result w'.plain) }
         ensures same { OnlyBook self.old self.new }
     {
         self.book.take_pending(place)
@@ -313,7 +314,7 @@ where
         ensures was_open { OnOk result (S.is_closed self.old.storage ≡ false) }
         ensures open { S.is_closed self.new.storage ≡ S.is_closed self.old.storage }
         ensures later { S.failed self.old.storage ≤ S.failed self.new.storage }
-        ensures trees { EachWorld (record { type_of = E.Node.type_of; means = E.Node.means; shape_of = E.Node.shape_of; parts = E.parts; stored = S.stored }) self.old self.new Always (λ w w'. w'.plain ≡ w.plain) }
+        ensures trees { EachWorld (values_by E.Node.type_of E.Node.means E.Node.shape_of E.parts S.stored) self.old self.new Always (λ w w'. w'.plain ≡ w.plain) }
         ensures same { OnlyStore self.old self.new }
     {
         self.storage.store_data(alloc, blob)
@@ -323,7 +324,7 @@ where
     pub fn fetch(&mut self, alloc: Global, key: DataKey) -> Result<Arc<PagableData>, Error>
         ensures ok { IfOk result (λ found. S.stored self.old.storage key ≡ Some (blob_of (arc_value found))) }
         ensures only { IfErr result (RefusesFetch key (S.stored self.old.storage key) (S.failed self.old.storage) (S.failed self.new.storage)) }
-        ensures trees { EachWorld (record { type_of = E.Node.type_of; means = E.Node.means; shape_of = E.Node.shape_of; parts = E.parts; stored = S.stored }) self.old self.new Always (λ w w'. w'.plain ≡ w.plain) }
+        ensures trees { EachWorld (values_by E.Node.type_of E.Node.means E.Node.shape_of E.parts S.stored) self.old self.new Always (λ w w'. w'.plain ≡ w.plain) }
         ensures stored { S.stored self.new.storage ≡ S.stored self.old.storage }
         ensures open { S.is_closed self.new.storage ≡ S.is_closed self.old.storage }
         ensures later { S.failed self.old.storage ≤ S.failed self.new.storage }
@@ -336,7 +337,7 @@ where
     /// key to read. Refused with NoSuchHandle, NotYours, WrongMode, NumbersSpent and OutOfMemory.
     pub fn load_begin(&mut self, handle: HandleNumber) -> Result<Beginning, Error>
         ensures step { Begun (plain self.old.book) handle result (plain self.new.book) }
-        ensures trees { EachWorld (record { type_of = E.Node.type_of; means = E.Node.means; shape_of = E.Node.shape_of; parts = E.parts; stored = S.stored }) self.old self.new Always (λ w w'. Begun w.plain handle result w'.plain) }
+        ensures trees { EachWorld (values_by E.Node.type_of E.Node.means E.Node.shape_of E.parts S.stored) self.old self.new Always (λ w w'. Begun w.plain handle result w'.plain) }
         ensures same { OnlyBook self.old self.new }
     {
         self.book.load_begin(handle)
@@ -349,7 +350,7 @@ where
         load: LoadNumber,
         want: Want,
     ) -> Result<Either<ArcRef, Arc<PagableData>>, Error>
-        ensures trees { EachWorld (record { type_of = E.Node.type_of; means = E.Node.means; shape_of = E.Node.shape_of; parts = E.parts; stored = S.stored }) self.old self.new Always (λ w w'. w'.plain ≡ w.plain) }
+        ensures trees { EachWorld (values_by E.Node.type_of E.Node.means E.Node.shape_of E.parts S.stored) self.old self.new Always (λ w w'. w'.plain ≡ w.plain) }
         ensures fetched { LoadFetched (λ blob. blob_of (arc_value blob)) load self.old.book (S.stored self.old.storage) (S.failed self.old.storage) (S.failed self.new.storage) result }
         ensures same { OnlyStore self.old self.new }
         ensures stored { S.stored self.new.storage ≡ S.stored self.old.storage }
@@ -386,7 +387,7 @@ where
     ) -> Result<HandleNumber, (Error, Option<E::Node>)>
         ensures step { IfOk result (λ k. Ended (plain self.old.book) load (Ok k) (plain self.new.book)) }
         ensures alone { OnOk result (E.Node.refs_of node ≡ []) }
-        ensures trees { EachWorld (record { type_of = E.Node.type_of; means = E.Node.means; shape_of = E.Node.shape_of; parts = E.parts; stored = S.stored }) self.old self.new (λ w. OnOk result (ReadFits (record { type_of = E.Node.type_of; means = E.Node.means; shape_of = E.Node.shape_of; parts = E.parts; stored = S.stored }) load node w)) (λ w w'. EndedAs load result w.plain w'.plain) }
+        ensures trees { EachWorld (values_by E.Node.type_of E.Node.means E.Node.shape_of E.parts S.stored) self.old self.new (λ w. OnOk result (ReadFits (values_by E.Node.type_of E.Node.means E.Node.shape_of E.parts S.stored) load node w)) (λ w w'. EndedAs load result w.plain w'.plain) }
         ensures installs { OnOk result (InstallsValue E.Node.type_of load node self.old self.new) }
         ensures closed { IfErr result (λ e. IfNone e.1 (ClosedBy load e.0 self.old self.new)) }
         ensures looked { IfErr result (λ e. IfNone e.1 (MayEnd E.Node.type_of E.Node.refs_of load node self.old.book)) }
@@ -402,7 +403,7 @@ where
     /// Gives a load up. Refused with NoSuchHandle where no such load is open.
     pub fn load_drop(&mut self, load: LoadNumber) -> Result<(), Error>
         ensures step { Dropped (plain self.old.book) load result (plain self.new.book) }
-        ensures trees { EachWorld (record { type_of = E.Node.type_of; means = E.Node.means; shape_of = E.Node.shape_of; parts = E.parts; stored = S.stored }) self.old self.new Always (λ w w'. Dropped w.plain load result w'.plain) }
+        ensures trees { EachWorld (values_by E.Node.type_of E.Node.means E.Node.shape_of E.parts S.stored) self.old self.new Always (λ w w'. Dropped w.plain load result w'.plain) }
         ensures values { self.new.values ≡ kept self.new.book self.old.values }
         ensures same { SameStore self.old self.new }
     {
@@ -528,7 +529,7 @@ where
         ensures made { IfOk result (λ k. (k.0 ≡ self.old.book.last_handle + 1) × (plain self.new.book ≡ born (plain self.old.book) (E.Node.type_of node) mode)) }
         ensures alone { OnOk result (E.Node.refs_of node ≡ []) }
         ensures values { OnOk result (self.new.values ≡ self.old.values ++ (self.old.book.last_node + 1, node) ∷ []) }
-        ensures trees { OnOk result (BirthOf (record { type_of = E.Node.type_of; means = E.Node.means; shape_of = E.Node.shape_of; parts = E.parts; stored = S.stored }) node mode self.old self.new) }
+        ensures trees { OnOk result (BirthOf (values_by E.Node.type_of E.Node.means E.Node.shape_of E.parts S.stored) node mode self.old self.new) }
         ensures same { SameStore self.old self.new }
         ensures err { OnErr result (Unchanged self.old self.new) }
         ensures why { IfErr result (λ e. RefusesNew (plain self.old.book) (E.Node.refs_of node) e.0) }
@@ -550,7 +551,7 @@ where
         requires alone { E.Node.refs_of node ≡ [] }
         ensures made { IfOk result (λ k. (k.0 ≡ self.old.book.last_handle + 1) × (plain self.new.book ≡ born (plain self.old.book) (E.Node.type_of node) mode)) }
         ensures values { OnOk result (self.new.values ≡ self.old.values ++ (self.old.book.last_node + 1, node) ∷ []) }
-        ensures trees { OnOk result (BirthOf (record { type_of = E.Node.type_of; means = E.Node.means; shape_of = E.Node.shape_of; parts = E.parts; stored = S.stored }) node mode self.old self.new) }
+        ensures trees { OnOk result (BirthOf (values_by E.Node.type_of E.Node.means E.Node.shape_of E.parts S.stored) node mode self.old self.new) }
         ensures same { SameStore self.old self.new }
         ensures err { OnErr result (Unchanged self.old self.new) }
         ensures why { IfErr result (λ e. RefusesNew (plain self.old.book) (E.Node.refs_of node) e.0) }

@@ -1,7 +1,8 @@
 use Rattle.pagable_model.specs.Blob.{key_of}
 use Rattle.pagable_machine.proofs.Closing.{load-ends}
 use Rattle.pagable_machine.proofs.Leading.{end-leads}
-use Rattle.pagable_machine.specs.Sights.{values_by, machine_by}
+use Rattle.pagable_world.specs.Sights.{values_by}
+use Rattle.pagable_machine.specs.Sights.{machine_by}
 use Rattle.pagable_machine.proofs.single.end_load.Goals as goal
 
 pub returns-clause-does : goal.returns-clause-does

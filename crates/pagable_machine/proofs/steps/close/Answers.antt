@@ -1,5 +1,6 @@
 use Rattle.pagable_model.specs.Blob.{key_of}
-use Rattle.pagable_machine.specs.Sights.{values_by, machine_by}
+use Rattle.pagable_world.specs.Sights.{values_by}
+use Rattle.pagable_machine.specs.Sights.{machine_by}
 use Rattle.pagable_machine.proofs.Closing.{drop-closes, leads}
 use Rattle.pagable_world.specs.TodayTrees.{Always}
 use Rattle.pagable_world.specs.Calls.{Dropped}

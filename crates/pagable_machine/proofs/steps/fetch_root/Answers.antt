@@ -1,6 +1,7 @@
 use Rattle.pagable_model.specs.Blob.{key_of}
 use Rattle.std.proofs.Common.{◌≡◌}
-use Rattle.pagable_machine.specs.Sights.{values_by, machine_by}
+use Rattle.pagable_world.specs.Sights.{values_by}
+use Rattle.pagable_machine.specs.Sights.{machine_by}
 use Rattle.pagable_machine.proofs.Closing.{fetch-gives, fetch-closes, leads, leads-on}
 use Rattle.pagable_world.specs.TodayTrees.{Always}
 use Rattle.pagable_machine.proofs.steps.fetch_root.Goals as goal

@@ -1,5 +1,6 @@
 use Rattle.pagable_model.specs.Blob.{key_of}
-use Rattle.pagable_machine.specs.Sights.{values_by, machine_by, events_by}
+use Rattle.pagable_world.specs.Sights.{values_by}
+use Rattle.pagable_machine.specs.Sights.{machine_by, events_by}
 use Rattle.pagable_machine.proofs.Closing.{full-closes, fetch-refused, root-kept, kept-more}
 use Rattle.std.proofs.Common.{map, ap}
 use Rattle.pagable_machine.specs.Rows.{fetched_of}

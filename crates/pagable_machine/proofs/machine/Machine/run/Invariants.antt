@@ -5,7 +5,8 @@ use Rattle.pagable_core.specs.declared.storage.data.PagableData.{PagableData}
 use Rattle.pagable_world.specs.declared.machine.MachineEvent.{MachineEvent}
 use Rattle.pagable_world.specs.MachineRuns.{FetchedFits, HasRun}
 use Rattle.pagable_machine.specs.Rows.{driven_by, fetched_of}
-use Rattle.pagable_machine.specs.Sights.{values_by, machine_by, events_by}
+use Rattle.pagable_world.specs.Sights.{values_by}
+use Rattle.pagable_machine.specs.Sights.{machine_by, events_by}
 use Rattle.pagable_machine.proofs.machine.Machine.run.Given as goal
 
 -- the events that were done so far have run, each load that has got its root's blob is open, and there is room for the replies
