@@ -21,13 +21,18 @@ fn new_cell(alloc: Global, pager: &mut TextPager, text: &str) -> Result<HandleNu
 /// A text is paged out and read back.
 pub fn text_out_and_back(alloc: Global) -> Result<bool, Error> {
     let mut pager = empty(alloc);
-    let cell = new_cell(alloc, &mut pager, "hello world")?;
+    goes_and_comes(alloc, &mut pager)
+}
+
+/// Whether a text's cell is as it should be at each step.
+fn goes_and_comes(alloc: Global, pager: &mut TextPager) -> Result<bool, Error> {
+    let cell = new_cell(alloc, pager, "hello world")?;
     pager.unpin(cell)?;
-    let listed = is_listed(&pager, cell)?;
-    paging::page_out_pending(alloc, &mut pager)?;
-    let stored = is_stored(&pager, cell)?;
-    let pinned = paging::pin(alloc, &mut pager, cell)?;
-    Ok(listed && stored && is_back(&pager, pinned)? && pager.count(cell)? == 2)
+    let listed = is_listed(pager, cell)?;
+    paging::page_out_pending(alloc, pager)?;
+    let stored = is_stored(pager, cell)?;
+    let pinned = paging::pin(alloc, pager, cell)?;
+    Ok(listed && stored && is_back(pager, pinned)? && pager.count(cell)? == 2)
 }
 
 /// Whether the cell alone waits for page-out, in memory and without a key.
@@ -59,7 +64,12 @@ fn key_number(key: OptionalDataKey) -> u128 {
 /// A Pinned handle isn't pinned, and one that was released isn't released again; nothing changes by either.
 pub fn handles_are_refused(alloc: Global) -> Result<bool, Error> {
     let mut pager = empty(alloc);
-    let cell = new_cell(alloc, &mut pager, "x")?;
+    refuses_both(alloc, &mut pager)
+}
+
+/// Whether a cell's two pins are refused so.
+fn refuses_both(alloc: Global, pager: &mut TextPager) -> Result<bool, Error> {
+    let cell = new_cell(alloc, pager, "x")?;
     let Pinning::Pinned(pinned) = pager.pin(cell)? else {
         return Ok(false);
     };
