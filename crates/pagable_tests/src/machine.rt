@@ -145,6 +145,17 @@ fn machine_of(alloc: Global, text: &str, calls_before: u64) -> Result<TextMachin
     }
 }
 
+/// Does the events of a table on a machine whose one cell, of the text `x`, is paged out, and compares what they tell.
+fn run_paged_out(
+    rt: &impl Abort,
+    alloc: Global,
+    calls_before: u64,
+    rows: &[(Event, Told)],
+) -> Result<(), Fail> {
+    let mut machine = machine_of(alloc, "x", calls_before)?;
+    run(rt, alloc, &mut machine, rows)
+}
+
 /// A machine with no cells.
 fn empty_machine(alloc: Global) -> TextMachine {
     Machine::new(alloc, empty(alloc, u64::MAX))
@@ -256,13 +267,7 @@ static A_LOAD_ENDS_BY_ITS_SECOND_STEP: [(Event, Told); 5] = [
 
 #[test]
 fn a_load_ends_by_its_second_step(rt: HostRuntime) -> Result<(), Fail> {
-    let mut machine = machine_of(rt.alloc(), "x", u64::MAX)?;
-    run(
-        &rt,
-        rt.alloc(),
-        &mut machine,
-        &A_LOAD_ENDS_BY_ITS_SECOND_STEP,
-    )
+    run_paged_out(&rt, rt.alloc(), u64::MAX, &A_LOAD_ENDS_BY_ITS_SECOND_STEP)
 }
 
 static A_LOAD_WITHOUT_ITS_HANDLE_IS_CLOSED: [(Event, Told); 5] = [
@@ -278,11 +283,10 @@ static A_LOAD_WITHOUT_ITS_HANDLE_IS_CLOSED: [(Event, Told); 5] = [
 
 #[test]
 fn a_load_without_its_handle_is_closed(rt: HostRuntime) -> Result<(), Fail> {
-    let mut machine = machine_of(rt.alloc(), "x", u64::MAX)?;
-    run(
+    run_paged_out(
         &rt,
         rt.alloc(),
-        &mut machine,
+        u64::MAX,
         &A_LOAD_WITHOUT_ITS_HANDLE_IS_CLOSED,
     )
 }
@@ -299,11 +303,5 @@ static A_LOAD_WHOSE_FETCH_FAILS_IS_CLOSED: [(Event, Told); 6] = [
 
 #[test]
 fn a_load_whose_fetch_fails_is_closed(rt: HostRuntime) -> Result<(), Fail> {
-    let mut machine = machine_of(rt.alloc(), "x", 1)?;
-    run(
-        &rt,
-        rt.alloc(),
-        &mut machine,
-        &A_LOAD_WHOSE_FETCH_FAILS_IS_CLOSED,
-    )
+    run_paged_out(&rt, rt.alloc(), 1, &A_LOAD_WHOSE_FETCH_FAILS_IS_CLOSED)
 }
