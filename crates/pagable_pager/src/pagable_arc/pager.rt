@@ -106,8 +106,8 @@ where
         self.book.is_whole()
     }
 
-    /// A new cell that holds the value, has no key, and has one loose pinned handle of the caller's. Refused with
-    /// NoSuchHandle where the value holds references, NumbersSpent where it holds none, and OutOfMemory; then the value
+    /// A new cell that holds the value, has no key, and has one loose pinned handle of the caller's. Refused with the
+    /// first of NoSuchHandle where the value holds references, and NumbersSpent; or with OutOfMemory. Then the value
     /// comes back.
     pub fn new_loose(
         &mut self,
