@@ -16,9 +16,11 @@ use Rattle.pagable_world.specs.State.{State, WellFormed}
 use Rattle.pagable_world.specs.World.{World, plain, HasCell, Closes}
 use Rattle.pagable_world.specs.Calls.{HasLoad, LoadTypeIs, Ended, Dropped}
 use Rattle.pagable_world.specs.Shown.{Shown, SameStore, Unchanged}
-use Rattle.pagable_world.specs.LoadEnds.{ClosedBy, InstallsValue, StaysOpen}
+use Rattle.pagable_world.specs.LoadEnds.{FitsLoad, ClosedBy, InstallsValue, StaysOpen}
+use Rattle.pagable_world.specs.Refusals.{IsOwn}
+use Rattle.pagable_pager.specs.Ends.{MayEnd}
 use Rattle.pagable_world.specs.TodayTrees.{Sight, TodayWorld, RepresentsToday, EachWorld, Always}
-use Rattle.pagable_world.specs.MachineSteps.{MachineSight, MachineWorld, world_of, OnlyTables, OnlyFailures, EndsLoad}
+use Rattle.pagable_world.specs.MachineSteps.{MachineSight, MachineWorld, world_of, OnlyTables, OnlyFailures, IsForLoad, EndsLoad}
 use Rattle.pagable_world.specs.LoadMoves.{FetchedRoot, EventSight, NoPinLeft, StepFetches}
 use Rattle.pagable_machine.specs.Moves.{EachLoad, LeadsIf, ClosesOnly, GetsRoot, FetchesRoot, EndsWith}
 use Rattle.pagable_machine.specs.declared.fetched.FetchedBlob.{FetchedBlob}
@@ -121,14 +123,18 @@ root-kept {N} m old new l b before after grows does p row has =
 pub kept-more : (before mid after : List FetchedBlob) (x : FetchedBlob) → after ≡ mid ++ x ∷ [] → mid ≡ before → map fetched_of after ≡ map fetched_of before ++ fetched_of x ∷ []
 kept-more before mid after x grows same = ap (map fetched_of) grows ∙ map-append fetched_of mid (x ∷ []) ∙ ap (λ (rows : List FetchedBlob). map fetched_of rows ++ fetched_of x ∷ []) same
 
+-- a value fits the load, by the cell's number and by its row
+for-load : {N S E B C : Type 0} (m : MachineSight N S E B C) (v : Shown N S E) (l : LoadNumber) (x : N) (number : NodeNumber) → FitsLoad m.sight.type_of l x v.book number → IsForLoad m (world_of m v) l x
+for-load m v l x number (p, row, cell, has, is, at, typed) =
+    let P : NodeNumber → Type 0 = λ n. HasCell (plain v.book) n cell in
+    (p, row, cell, has, subst P (sym is) at, typed)
+
 -- the end of a load, by what the pager says of it
 pub load-ends : {N S E B C : Type 0} (m : MachineSight N S E B C) (old new : Shown N S E) (l : LoadNumber) (x : N) (r : Result HandleNumber (Error × Option N)) → IfOk r (λ k. Ended (plain old.book) l (Ok k) (plain new.book)) → OnOk r (m.references x ≡ []) → OnOk r (InstallsValue m.sight.type_of l x old new)
-    → IfErr r (λ e. IfNone e.1 (ClosedBy l e.0 old new)) → IfErr r (λ e. IfSome e.1 (λ y. (y ≡ x) × Unchanged old new × StaysOpen (plain old.book) l (m.sight.type_of x) (m.references x) e.0)) → SameStore old new → EndsLoad m (world_of m old) l x r (world_of m new)
-load-ends m old new l x (Ok k) step alone (number, (p, row, cell, has, is, at, typed), installs) closed back same =
-    let P : NodeNumber → Type 0 = λ n. HasCell (plain old.book) n cell in
-    ((p, row, cell, has, subst P (sym is) at, typed), alone, step, only-tables m old new same)
-load-ends m old new l x (Err (e, None)) step alone installs closed back same = (closed.0, only-tables m old new same)
-load-ends m old new l x (Err (e, Some y)) step alone installs closed back same = (back.0, back.2, same-machine m old new back.1.world back.1.storage)
+    → IfErr r (λ e. IfNone e.1 (ClosedBy l e.0 old new)) → IfErr r (λ e. IfNone e.1 (MayEnd m.sight.type_of m.references l x old.book)) → IfErr r (λ e. IfSome e.1 (λ y. (y ≡ x) × Unchanged old new × StaysOpen (plain old.book) l (m.sight.type_of x) (m.references x) e.0)) → SameStore old new → EndsLoad m (world_of m old) l x r (world_of m new)
+load-ends m old new l x (Ok k) step alone (number, fits, installs) closed looked back same = (for-load m old l x number fits, alone, step, only-tables m old new same)
+load-ends m old new l x (Err (e, None)) step alone installs closed looked back same = (for-load m old l x looked.number looked.fits, looked.alone, closed.0, only-tables m old new same)
+load-ends m old new l x (Err (e, Some y)) step alone installs closed looked back same = (back.0, back.2, same-machine m old new back.1.world back.1.storage)
 
 -- ---- the end
 
@@ -142,21 +148,23 @@ closed-ends m old new l e whole (inl stays, values) same = absurd (let no : ⊥ 
 closed-ends {N} m old new l e whole (inr (was, (q, load, has, why, closes)), values) same = at-load old.book whole l (λ p row. EndsWith {N = N} (world_of m old) p row (ends.Refused e) (world_of m new)) q load has (inl why, (closes, only-tables m old new same))
 
 -- why a value of the load's type without references isn't pinned
-no-pin : (s : State) (l : LoadNumber) (node_type : ℕ) (refs : List ArcRef) (e : Error) → WellFormed s → LoadTypeIs (plain s) l (Ok node_type) → refs ≡ [] → StaysOpen (plain s) l node_type refs e → NoPinLeft (plain s) e
-no-pin s l node_type refs errors.NoSuchHandle whole (q, load, has, of_load) alone (inl none) = absurd (no-load-open (plain s) l q load none has)
-no-pin s l node_type refs errors.NoSuchHandle whole of_load alone (inr some) = absurd (some alone)
-no-pin s l node_type refs errors.WrongKind whole (q, load, has, (cell, at, typed)) alone (no_refs, (q', load', cell', has', at', other)) =
+no-pin : (s : State) (l : LoadNumber) (node_type : ℕ) (refs : List ArcRef) (p : ℕ) (row : LoadRow) (e : Error) → WellFormed s → HasLoad (plain s) l p row → LoadTypeIs (plain s) l (Ok node_type) → refs ≡ [] → StaysOpen (plain s) l node_type refs e → NoPinLeft (plain s) row e
+no-pin s l node_type refs p row errors.NoSuchHandle whole mine (q, load, has, of_load) alone (inl none) = absurd (no-load-open (plain s) l q load none has)
+no-pin s l node_type refs p row errors.NoSuchHandle whole mine of_load alone (inr some) = absurd (some alone)
+no-pin s l node_type refs p row errors.WrongKind whole mine (q, load, has, (cell, at, typed)) alone (no_refs, (q', load', cell', has', at', other)) =
     let Has : LoadRow → Type 0 = λ r. HasCell (plain s) r.node cell' in
     let there = subst Has (one-load s whole l q' q load' load has' has) at' in
     let same : cell' ≡ cell = one-cell s whole load.node cell' cell there at in
     absurd (other (ap (λ (c : Cell). c.node_type) same ∙ sym typed))
-no-pin s l node_type refs errors.NumbersSpent whole of_load alone (no_refs, fits, own, spent) = spent
-no-pin s l node_type refs errors.OutOfMemory whole of_load alone why = tt
-no-pin s l node_type refs _ whole of_load alone why = absurd why
+no-pin s l node_type refs p row errors.NumbersSpent whole mine of_load alone (no_refs, fits, (q, load, i, handle, has, is_own), spent) =
+    let Own : LoadRow → Type 0 = λ r. IsOwn (plain s) r.handle i handle in
+    ((i, handle, subst Own (one-load s whole l q p load row has mine) is_own), spent)
+no-pin s l node_type refs p row errors.OutOfMemory whole mine of_load alone why = tt
+no-pin s l node_type refs p row _ whole mine of_load alone why = absurd why
 
 pub open-ends : {N S E B C : Type 0} (m : MachineSight N S E B C) (old mid new : Shown N S E) (l : LoadNumber) (x : N) (e : Error) → WellFormed old.book → LoadTypeIs (plain old.book) l (Ok (m.sight.type_of x)) → m.references x ≡ [] → Unchanged old mid → StaysOpen (plain old.book) l (m.sight.type_of x) (m.references x) e
     → EachLoad (plain mid.book) l (λ p row. ClosesOnly (world_of m mid) p row (world_of m new)) → EachLoad (plain old.book) l (λ p row. EndsWith {N = N} (world_of m old) p row (ends.Refused e) (world_of m new))
 open-ends m old mid new l x e whole typed alone same why closes p row has =
     let Each : MachineWorld → Type 0 = λ w. EachLoad w.tables l (λ q r. ClosesOnly w q r (world_of m new)) in
     let it = subst Each (same-machine m old mid same.world same.storage) closes p row has in
-    (inr (no-pin old.book l (m.sight.type_of x) (m.references x) e whole typed alone why), it)
+    (inr (no-pin old.book l (m.sight.type_of x) (m.references x) p row e whole has typed alone why), it)

@@ -212,8 +212,8 @@ one-gone w w' before l keeps = record { lost = Some l; keeps = keeps; is = refl 
 end-left : {N S E B C : Type 0} (m : MachineSight N S E B C) (w w' : MachineWorld) (before : List FetchedRoot) (l : LoadNumber) (x : N) (r : Result HandleNumber (Error × Option N)) → EndsLoad m w l x r w' → Left w w' before (fetched_after {N = N} {B = B} {C = C} (calls.LoadEnd l x) (replies.LoadEnded r) before)
 end-left m w w' before l x (Ok k) s = one-gone w w' before l (ended-keeps w w' l k s.2 s.3)
 end-left m w w' before l x (Err (e, Some y)) s = all-left w w' before (same None w w' s.2)
-end-left m w w' before l x (Err (e, None)) (inl stays, only) = absurd (let no : ⊥ = let a = stays.0 in cc in no)
-end-left m w w' before l x (Err (e, None)) (inr (is, (p, load, has, why, closes)), only) = one-gone w w' before l (closes-keeps w w' l p load has closes (ap (λ (x : MachineWorld). x.stored) only))
+end-left m w w' before l x (Err (e, None)) (for, alone, inl stays, only) = absurd (let no : ⊥ = let a = stays.0 in cc in no)
+end-left m w w' before l x (Err (e, None)) (for, alone, inr (is, (p, load, has, why, closes)), only) = one-gone w w' before l (closes-keeps w w' l p load has closes (ap (λ (x : MachineWorld). x.stored) only))
 
 drop-left : (N B C : Type 0) (w w' : MachineWorld) (before : List FetchedRoot) (l : LoadNumber) (r : Result (Unit {0}) Error) → Dropped w.tables l r w'.tables → OnlyTables w w' → Left w w' before (fetched_after {N = N} {B = B} {C = C} (calls.LoadDrop l) (replies.Done r) before)
 drop-left N B C w w' before l (Ok u) (p, load, has, closes) only = one-gone w w' before l (closes-keeps w w' l p load has closes (ap (λ (x : MachineWorld). x.stored) only))

@@ -6,7 +6,7 @@ mod fetched;
 pub mod laws;
 mod list;
 pub mod machine;
-mod reading;
+pub mod reading;
 mod single;
 mod steps;
 
@@ -14,3 +14,4 @@ pub use machine::Machine;
 pub use pagable_world::{
     EventReply, Found, LoadAnswer, LoadReply, MachineCall, MachineEvent, Reply,
 };
+pub use reading::read_value;

@@ -1,6 +1,6 @@
 -- The loads that today's machine reads by steps. Values hold no references yet, so that a load takes two: the first gets the blob
 -- of its root, the second reads it and ends the load, with a pin or with a refusal.
-use Rattle.std.specs.Prelude.{ℕ, ◌≡◌, ◌≢◌, ◌+◌, ◌≤◌, ◌⊎◌, ◌==◌, not, All, List, [], ◌∷◌, ◌++◌, filter, map, Option, Some, None, Result, Ok, Err, slice_get}
+use Rattle.std.specs.Prelude.{ℕ, ◌≡◌, ◌≢◌, ◌≤◌, ◌⊎◌, ◌==◌, not, All, List, [], ◌∷◌, ◌++◌, filter, map, Option, Some, None, Result, Ok, Err, slice_get}
 use Rattle.pagable_model.specs.declared.error.Error.{Error}
 use Rattle.pagable_model.specs.declared.error.Error.TheVariants as errors
 use Rattle.pagable_model.specs.declared.numbers.ArcRef.{ArcRef}
@@ -10,13 +10,14 @@ use Rattle.pagable_model.specs.Meaning.{Meaning}
 use Rattle.pagable_model.specs.Reading.{Rest, read_typed}
 use Rattle.pagable_model.specs.Standing.{Answer, handles_at}
 use Rattle.pagable_model.specs.Stored.{RefusesFetch}
+use Rattle.pagable_world.specs.declared.rows.HandleRow.{HandleRow}
 use Rattle.pagable_world.specs.declared.rows.LoadRow.{LoadRow}
 use Rattle.pagable_world.specs.declared.events.LoadAnswer.{LoadAnswer}
 use Rattle.pagable_world.specs.declared.events.LoadAnswer.TheVariants as ends
 use Rattle.pagable_world.specs.declared.events.LoadReply.{LoadReply}
 use Rattle.pagable_world.specs.Cells.{Cell}
 use Rattle.pagable_world.specs.World.{World, greatest, HasCell, Closes}
-use Rattle.pagable_world.specs.Refusals.{RefusesOwn}
+use Rattle.pagable_world.specs.Refusals.{IsOwn, RefusesOwn}
 use Rattle.pagable_world.specs.Calls.{HasLoad, IsNoLoad, Ended}
 use Rattle.pagable_world.specs.Shown.{Shown}
 use Rattle.pagable_world.specs.LoadSteps.{one_more}
@@ -75,15 +76,17 @@ pub record IsReadFrom {N S E B C : Type 0} (m : EventSight N S E B C) (env : E) 
 abbrev pub RefusesRoot : {N S E B C : Type 0} → EventSight N S E B C → E → ℕ → Blob → Error → Type 0
 RefusesRoot m env t blob e = (read_root m env t blob ≡ Err e) ⊎ m.read_causes e
 
--- why no handle can be made: the last number was given, or memory was wanting, be it for the value's place
-abbrev pub NoPinLeft : World → Error → Type 0
-NoPinLeft w errors.NumbersSpent = w.last_handle ≡ greatest
-NoPinLeft w errors.OutOfMemory = Unit {0}
-NoPinLeft w _ = ⊥
+-- Why no handle can be made: the last number was given, where the handle by which the load was begun is still the caller's; or
+-- memory was wanting, be it for the value's place.
+abbrev pub NoPinLeft : World → LoadRow → Error → Type 0
+NoPinLeft w load errors.NumbersSpent = ((i : ℕ) × (row : HandleRow) × IsOwn w load.handle i row) × (w.last_handle ≡ greatest)
+NoPinLeft w load errors.OutOfMemory = Unit {0}
+NoPinLeft w load _ = ⊥
 
--- why a load that has read its value has no pin: its caller's handle is gone or another's, or no handle can be made
+-- Why a load that has read its value has no pin: its caller's handle is gone or another's, or no handle can be made. That the
+-- handle is gone is told before that the numbers are.
 abbrev pub RefusesPin : World → LoadRow → Error → Type 0
-RefusesPin w load e = RefusesOwn w load.handle e ⊎ NoPinLeft w e
+RefusesPin w load e = RefusesOwn w load.handle e ⊎ NoPinLeft w load e
 
 -- The first step: the load has its root's blob from now on and goes on; or the blob isn't found, and the load is closed.
 abbrev pub StepFetches : {N : Type 0} → EventWorld → ℕ → LoadRow → Option (LoadAnswer N) → EventWorld → Type 0

@@ -84,12 +84,17 @@ LoadFinds m w l (Ok (founds.Blob b)) w' = (p : ℕ) × (load : LoadRow) × HasLo
 LoadFinds m w l (Ok (founds.Cached k)) w' = ⊥
 LoadFinds m w l (Err e) w' = (IsNoLoad w.tables l × (e ≡ errors.NoSuchHandle) × (w' ≡ w)) ⊎ ((p : ℕ) × (load : LoadRow) × HasLoad w.tables l p load × FindsBlob m w load.key (Err e) w')
 
--- A load ends with a value of its node's type. Where the value comes back, the load stays open; else it is closed.
+-- the load is open for a cell of the value's type
+abbrev pub IsForLoad : {N S E B C : Type 0} → MachineSight N S E B C → MachineWorld → LoadNumber → N → Type 0
+IsForLoad m w l x = (p : ℕ) × (load : LoadRow) × (cell : Cell) × HasLoad w.tables l p load × HasCell w.tables load.node cell × (cell.node_type ≡ m.sight.type_of x)
+
+-- A load ends with a value of its node's type that has no references. Where the value comes back, the load stays open; else it is
+-- closed, and only such a value is dropped then.
 abbrev pub EndsLoad : {N S E B C : Type 0} → MachineSight N S E B C → MachineWorld → LoadNumber → N → Result HandleNumber (Error × Option N) → MachineWorld → Type 0
 EndsLoad m w l x (Ok k) w' =
-    ((p : ℕ) × (load : LoadRow) × (cell : Cell) × HasLoad w.tables l p load × HasCell w.tables load.node cell × (cell.node_type ≡ m.sight.type_of x)) × (m.references x ≡ []) × Ended w.tables l (Ok k) w'.tables × OnlyTables w w'
+    IsForLoad m w l x × (m.references x ≡ []) × Ended w.tables l (Ok k) w'.tables × OnlyTables w w'
 EndsLoad m w l x (Err (e, Some y)) w' = (y ≡ x) × StaysOpen w.tables l (m.sight.type_of x) (m.references x) e × (w' ≡ w)
-EndsLoad m w l x (Err (e, None)) w' = Ended w.tables l (Err (record { error = e; closed = true })) w'.tables × OnlyTables w w'
+EndsLoad m w l x (Err (e, None)) w' = IsForLoad m w l x × (m.references x ≡ []) × Ended w.tables l (Err (record { error = e; closed = true })) w'.tables × OnlyTables w w'
 
 -- The world may give this reply to the call, and go on to the new world.
 abbrev pub CallDoes : {N S E B C : Type 0} → MachineSight N S E B C → MachineWorld → MachineCall N B → Reply N C → MachineWorld → Type 0

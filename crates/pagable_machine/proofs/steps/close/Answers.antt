@@ -1,4 +1,3 @@
-use Rattle.pagable_model.specs.Blob.{key_of}
 use Rattle.pagable_world.specs.Sights.{values_by}
 use Rattle.pagable_machine.specs.Sights.{machine_by}
 use Rattle.pagable_machine.proofs.Closing.{drop-closes, leads}

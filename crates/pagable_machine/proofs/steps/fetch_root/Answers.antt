@@ -1,4 +1,3 @@
-use Rattle.pagable_model.specs.Blob.{key_of}
 use Rattle.std.proofs.Common.{◌≡◌}
 use Rattle.pagable_world.specs.Sights.{values_by}
 use Rattle.pagable_machine.specs.Sights.{machine_by}

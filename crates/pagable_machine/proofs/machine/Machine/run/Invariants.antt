@@ -1,6 +1,5 @@
 use Rattle.std.proofs.Common.{◌≡◌, ◌+◌, ◌≤◌, length, List, ◌++◌, vec_len, All, map}
 use Rattle.std.specs.Vec.{vec_capacity}
-use Rattle.pagable_model.specs.Blob.{key_of}
 use Rattle.pagable_core.specs.declared.storage.data.PagableData.{PagableData}
 use Rattle.pagable_world.specs.declared.machine.MachineEvent.{MachineEvent}
 use Rattle.pagable_world.specs.MachineRuns.{FetchedFits, HasRun}
