@@ -8,7 +8,7 @@ use pagable::{
     DataKey, HandleNumber, InMemoryBlobs, OptionalDataKey, PagableData, Pager, WeighHash,
 };
 use pagable_samples::{TextEnv, TextNode, paging};
-use std::alloc::Global;
+use std::alloc::{AllocError, Global};
 use std::time::{Clock, Instant};
 
 type TextPager = Pager<TextEnv<WeighHash>, InMemoryBlobs<TextEnv<WeighHash>>>;
@@ -51,16 +51,20 @@ struct Stage {
 }
 
 impl Stage {
-    /// A new cell for each text.
-    fn new(alloc: Global, texts: &[String]) -> anyhow::Result<Stage> {
-        let mut stage = Stage {
+    /// No cells, with room for so many.
+    fn with_room(alloc: Global, cells: usize) -> Result<Stage, AllocError> {
+        Ok(Stage {
+            cells: Vec::with_capacity(alloc, cells)?,
             pager: Pager::new(alloc, InMemoryBlobs::new(alloc), TextEnv::new()),
-            cells: Vec::with_capacity(alloc, texts.len())?,
-        };
+        })
+    }
+
+    /// Makes a cell for each text.
+    fn fill(&mut self, alloc: Global, texts: &[String]) -> anyhow::Result<()> {
         for text in texts {
-            stage.add(alloc, text.as_str())?;
+            self.add(alloc, text.as_str())?;
         }
-        Ok(stage)
+        Ok(())
     }
 
     /// Makes a cell, and gives its pin up.
@@ -109,7 +113,18 @@ impl Stage {
 
 /// Pages all cells out once, and loads them.
 fn cells_once(clock: &impl Clock, alloc: Global, texts: &[String]) -> anyhow::Result<Outcome> {
-    let mut stage = Stage::new(alloc, texts)?;
+    let mut stage = Stage::with_room(alloc, texts.len())?;
+    out_and_in(clock, alloc, &mut stage, texts)
+}
+
+/// Makes the cells of a stage, pages them out, and loads them.
+fn out_and_in(
+    clock: &impl Clock,
+    alloc: Global,
+    stage: &mut Stage,
+    texts: &[String],
+) -> anyhow::Result<Outcome> {
+    stage.fill(alloc, texts)?;
     let start = Instant::now(clock)?;
     paging::page_out_pending(alloc, &mut stage.pager)?;
     let time = start.elapsed(clock)?;

@@ -35,6 +35,30 @@ fn read<'de, T: PagableDeserialize<'de, AnyEnv>>(
     T::pagable_deserialize(alloc, &mut source)
 }
 
+/// The bytes of a value, and how long it took to write them.
+fn write_once<T: PagableSerialize<AnyEnv>>(
+    clock: &impl Clock,
+    alloc: Global,
+    env: &AnyEnv,
+    value: &T,
+) -> anyhow::Result<(Vec<u8>, Duration)> {
+    let start = Instant::now(clock)?;
+    let bytes = write(alloc, env, value)?;
+    Ok((bytes, start.elapsed(clock)?))
+}
+
+/// The value at the front of these bytes, and how long it took to read it.
+fn read_once<'de, T: PagableDeserialize<'de, AnyEnv> + Drop>(
+    clock: &impl Clock,
+    alloc: Global,
+    env: &AnyEnv,
+    bytes: &'de [u8],
+) -> anyhow::Result<(T, Duration)> {
+    let start = Instant::now(clock)?;
+    let value = read(alloc, env, bytes)?;
+    Ok((value, start.elapsed(clock)?))
+}
+
 /// The bytes of a value, and the shortest time of so many writings of it.
 pub fn timed_write<T: PagableSerialize<AnyEnv>>(
     clock: &impl Clock,
@@ -43,13 +67,10 @@ pub fn timed_write<T: PagableSerialize<AnyEnv>>(
     runs: u64,
 ) -> anyhow::Result<(Vec<u8>, Duration)> {
     let env = AnyEnv::new();
-    let start = Instant::now(clock)?;
-    let mut bytes = write(alloc, &env, value)?;
-    let mut best = start.elapsed(clock)?;
+    let (mut bytes, mut best) = write_once(clock, alloc, &env, value)?;
     for _ in 1..runs {
-        let start = Instant::now(clock)?;
-        let made = write(alloc, &env, value)?;
-        best = best.min(start.elapsed(clock)?);
+        let (made, took) = write_once(clock, alloc, &env, value)?;
+        best = best.min(took);
         bytes = made;
     }
     Ok((bytes, best))
@@ -63,13 +84,10 @@ fn timed_read<'de, T: PagableDeserialize<'de, AnyEnv> + Drop>(
     runs: u64,
 ) -> anyhow::Result<(T, Duration)> {
     let env = AnyEnv::new();
-    let start = Instant::now(clock)?;
-    let mut value = read(alloc, &env, bytes)?;
-    let mut best = start.elapsed(clock)?;
+    let (mut value, mut best) = read_once(clock, alloc, &env, bytes)?;
     for _ in 1..runs {
-        let start = Instant::now(clock)?;
-        let made = read(alloc, &env, bytes)?;
-        best = best.min(start.elapsed(clock)?);
+        let (made, took) = read_once(clock, alloc, &env, bytes)?;
+        best = best.min(took);
         value = made;
     }
     Ok((value, best))

@@ -9,7 +9,7 @@ pub use pagable_core::{
 };
 pub use pagable_flavors::{DataKey, Error, OptionalDataKey, PagableSlice, PagableVecFlavor};
 pub use pagable_machine::{
-    EventReply, Found, LoadAnswer, LoadReply, Machine, MachineCall, MachineEvent, Reply,
+    EventReply, Found, LoadAnswer, LoadReply, Machine, MachineCall, MachineEvent, Reply, read_value,
 };
 pub use pagable_model::{
     ArcRef, HandleNumber, Identity, Kind, LoadNumber, NodeNumber, PagableCursor, WorkerNumber,

@@ -2,11 +2,11 @@
 
 use either::Either;
 use pagable::{
-    Beginning, Env, Error, HandleNumber, LoadNumber, NoReferences, NodeSet, PagableData,
-    PagableDeserializerImpl, PagableStorage, Pager, Pinning, SerializerForPaging, SessionContext,
-    Want,
+    Beginning, Env, Error, HandleNumber, LoadNumber, NodeSet, PagableData, PagableStorage, Pager,
+    Pinning, SerializerForPaging, SessionContext, Want, read_value,
 };
 use std::alloc::Global;
+use std::sync::Arc;
 
 /// Pins a loose handle's cell, reading its value from the storage where it isn't in memory. A refusal leaves the handle
 /// as it was, and no load open.
@@ -58,33 +58,40 @@ fn finish<E: Env, S: PagableStorage<E>>(
 where
     E::Node: NodeSet<E>,
 {
-    let Either::Right(blob) = pager.load_fetch(alloc, load, Want::Root)? else {
-        return Err(Error::NoSuchHandle);
-    };
-    let value = read(alloc, pager.env(), node_type, blob.as_ref())?;
+    let blob = root_of(alloc, pager, load)?;
+    let value = read_value(pager.env(), alloc, blob.as_ref(), node_type)?;
+    ended(alloc, pager, load, value)
+}
+
+/// The blob of a load's root.
+fn root_of<E: Env, S: PagableStorage<E>>(
+    alloc: Global,
+    pager: &mut Pager<E, S>,
+    load: LoadNumber,
+) -> Result<Arc<PagableData>, Error>
+where
+    E::Node: NodeSet<E>,
+{
+    match pager.load_fetch(alloc, load, Want::Root)? {
+        Either::Right(blob) => Ok(blob),
+        Either::Left(_) => Err(Error::NoSuchHandle),
+    }
+}
+
+/// Ends a load with this value, which is given up where the load stays open.
+fn ended<E: Env, S: PagableStorage<E>>(
+    alloc: Global,
+    pager: &mut Pager<E, S>,
+    load: LoadNumber,
+    value: E::Node,
+) -> Result<HandleNumber, Error>
+where
+    E::Node: NodeSet<E>,
+{
     match pager.load_end(alloc, load, value) {
         Ok(pinned) => Ok(pinned),
         Err((refusal, _)) => Err(refusal),
     }
-}
-
-/// Reads a blob as a value of this type, which holds no references, in a session of its own.
-pub fn read<E: Env>(
-    alloc: Global,
-    env: &E,
-    node_type: u32,
-    blob: &PagableData,
-) -> Result<E::Node, Error>
-where
-    E::Node: NodeSet<E>,
-{
-    let session = SessionContext::new(alloc);
-    let mut deserializer = PagableDeserializerImpl::new(
-        blob.bytes.as_slice(),
-        blob.arcs.as_slice(),
-        NoReferences::new(env, &session),
-    );
-    E::Node::read(node_type, alloc, &mut deserializer)
 }
 
 /// Pages out the entries that stand in the list at the call, from the last to the first, and stops at the first

@@ -5,9 +5,9 @@ use crate::nodes::{NAMES, RunEnv, RunNode};
 use pagable::{
     DataKey, Error, EventReply, Found, HandleNumber, InMemoryBlobs, LoadAnswer, LoadReply, Machine,
     MachineCall, MachineEvent, NodeSet, PagableData, Pager, Reply, SerializerForPaging,
-    SessionContext,
+    SessionContext, read_value,
 };
-use pagable_samples::{FailingStorage, paging};
+use pagable_samples::FailingStorage;
 use std::alloc::Global;
 use std::sync::Arc;
 
@@ -96,7 +96,7 @@ pub fn event_of(alloc: Global, pager: &RunPager, call: Call) -> Result<Option<Ru
 
 /// The text that a blob reads as. Both types are spelled alike.
 fn text(alloc: Global, blob: &PagableData) -> Result<Answer, Error> {
-    let node: RunNode = paging::read(alloc, &RunEnv, NAMES, blob)?;
+    let node: RunNode = read_value(&RunEnv, alloc, blob, NAMES)?;
     Ok(Answer::Text(String::from_str(alloc, node.as_str())?))
 }
 

@@ -6,7 +6,7 @@ use crate::compare::{are_tables_the_same, first_difference};
 use crate::counts::Counts;
 use crate::events::{Events, state_before};
 use crate::machine::{
-    RunEvent, RunMachine, RunStorage, answer_of, answer_to, event_of, replies_to,
+    RunEvent, RunMachine, RunReply, RunStorage, answer_of, answer_to, event_of, replies_to,
 };
 use crate::nodes::RunEnv;
 use crate::plain_machine::PlainMachine;
@@ -59,6 +59,19 @@ fn storages(alloc: Global, plan: &mut Plan) -> (RunStorage, PlainStore) {
         plain.close();
     }
     (FailingStorage::new(blobs, u64::MAX), plain)
+}
+
+/// Whether the replies are these answers, one for one.
+fn are_answers(alloc: Global, replies: Vec<RunReply>, answers: Vec<Answer>) -> bool {
+    if replies.len() != answers.len() {
+        return false;
+    }
+    for (reply, answer) in replies.into_iter().zip(answers) {
+        if answer_of(alloc, reply) != answer {
+            return false;
+        }
+    }
+    true
 }
 
 /// A machine over this storage.
@@ -115,16 +128,8 @@ impl Run {
     pub fn is_same_as_a_list(self, alloc: Global, seed: u64, key: DataKey) -> Result<bool, Error> {
         let (storage, _) = storages(alloc, &mut Plan::new(seed, key));
         let mut machine = machine_over(alloc, storage);
-        let replies = replies_to(alloc, &mut machine, self.events)?;
-        if replies.len() != self.answers.len() {
-            return Ok(false);
-        }
-        for (reply, answer) in replies.into_iter().zip(self.answers) {
-            if answer_of(alloc, reply) != answer {
-                return Ok(false);
-            }
-        }
-        Ok(true)
+        let replies = replies_to(alloc, &mut machine, self.events);
+        Ok(are_answers(alloc, replies?, self.answers))
     }
 
     /// Makes a call on both machines.
