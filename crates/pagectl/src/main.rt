@@ -1,14 +1,7 @@
 //! `pagectl HASH` keeps named texts in a pager, and answers one line for each line that it reads.
 #![tactic(auto)]
 
-pub mod command;
-pub mod lines;
-pub mod serve;
-pub mod session;
-#[cfg(test)]
-mod tests;
-
-use crate::serve::serve;
+use named_texts::serve::serve;
 use pagable::WeighHash;
 use std::io::{BufReader, BufWriter};
 use std::process::ExitCode;

@@ -18,13 +18,24 @@ pub fn serve<H: KeyHash, R: BufRead, W: Write>(
 ) -> io::Result<()> {
     let mut line = line_buffer(alloc)?;
     let mut session: Session<H> = Session::new(alloc);
+    answers(alloc, &mut session, &mut line, reader, writer)
+}
+
+/// Answers each line, which the buffer holds meanwhile.
+fn answers<H: KeyHash, R: BufRead, W: Write>(
+    alloc: Global,
+    session: &mut Session<H>,
+    line: &mut Vec<u8>,
+    reader: &mut R,
+    writer: &mut W,
+) -> io::Result<()> {
     for _ in 0..u64::MAX {
-        let text = match next_line(reader, &mut line)? {
+        let text = match next_line(reader, line)? {
             Line::End => break,
             Line::TooLong => None,
             Line::Whole => str::from_utf8(line.as_slice()).ok(),
         };
-        answer(alloc, &mut session, text, writer)?;
+        answer(alloc, session, text, writer)?;
     }
     Ok(())
 }

@@ -1,6 +1,6 @@
-//! A reader and a writer that fail. What is answered to each line stands in `stdin` and `stdout`, beside `src`.
+//! Lines from a reader and to a writer that fail. What is answered to each line stands in `stdin` and `stdout` of `pagectl`.
 
-use crate::serve::serve;
+use named_texts::serve::serve;
 use pagable::WeighHash;
 use std::io;
 use std::io::{BufReader, Read, Write};
