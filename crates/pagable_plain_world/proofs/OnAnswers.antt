@@ -1,6 +1,6 @@
 -- Of what is said of answers, and of what is asked for it, examples and near misses.
-use Rattle.std.proofs.Common.{◌≡◌, ℕ, zero, suc, ◌≤◌, ◌==◌, Bool, true, false, List, [], ◌∷◌, length, refl, ap, sym, ◌∙◌, subst, inl, inr, arith}
-use Rattle.std.specs.Prelude.{◌≢◌, ◌/◌, not, Option, Some, None, Ok, Result}
+use Rattle.std.proofs.Common.{◌≡◌, ℕ, zero, suc, ◌≤◌, List, [], ◌∷◌, length, refl, ap, sym, ◌∙◌, subst, inl, inr, arith}
+use Rattle.std.specs.Prelude.{◌/◌, not, Option, Some, Ok, Result}
 use Rattle.std.proofs.lemmas.Bool.Decides.{nat_tests}
 use Rattle.pagable_model.specs.declared.error.Error.{Error}
 use Rattle.pagable_model.specs.declared.error.Error.TheVariants as errors
@@ -15,7 +15,7 @@ use Rattle.pagable_model.specs.Meaning.{Meaning, none, reference, followed}
 use Rattle.pagable_model.specs.Merkle.{unfolded, KeyOf, key-of, KeyOfItem, no-keys, more-keys}
 use Rattle.pagable_model.specs.Reading.{deepest, read, read_with, read_typed}
 use Rattle.pagable_model.specs.Shape as shapes
-use Rattle.pagable_model.specs.Trees.{Tree, KeyRef, Types, tree, key_ref, blob_context, rest_of, ReadsAs, IsFollowed, number-followed, integer-followed, text-followed, pattern-followed, none-followed, pair-followed, variant-followed, reference-followed, ReadsTree, height}
+use Rattle.pagable_model.specs.Trees.{Tree, KeyRef, tree, key_ref, blob_context, rest_of, ReadsAs, IsFollowed, number-followed, integer-followed, text-followed, pattern-followed, none-followed, pair-followed, variant-followed, reference-followed, ReadsTree, height}
 use Rattle.pagable_world.specs.declared.rows.Owner.TheVariants as owners
 use Rattle.pagable_world.specs.State.{one}
 use Rattle.pagable_world.specs.Words.{Among, times}
@@ -25,14 +25,14 @@ use Rattle.pagable_world.specs.Whole.{Whole, OpenLoad, WorkerRow, is_open_load}
 use Rattle.pagable_world.specs.Loads.{LoadCloses}
 use Rattle.pagable_world.specs.LoadSteps.{Wants, IsRead, root_frame, root_type, LoadFails}
 use Rattle.pagable_world.specs.Met.{Meets, meets-of-item, meets-entry, meets-below}
-use Rattle.pagable_world.specs.Stands.{MeaningStands, none-stands, ValueStands}
+use Rattle.pagable_world.specs.Stands.{MeaningStands, none-stands}
 use Rattle.pagable_world.specs.Bounds.{Unfolds, unfolds, UnfoldsFrom, ends-here, takes-next, LoadsAreBounded}
-use Rattle.pagable_world.specs.Premises.{ReadsItsTypes, AsksWell}
+use Rattle.pagable_world.specs.Premises.{ReadsItsTypes}
 use Rattle.pagable_world.specs.Interleaved.{ReadIsRight, ReadGives, IsLeftPagedOut, LeavesAll, AnswerLeavesAll, PublishIsKey, IsKeyOfTask, AnswerIsKey}
 use Rattle.pagable_world.specs.Alone.{IsTooDeepTask, DeepIsRefused}
 use Rattle.pagable_world.specs.Results.{kind_of_arc, HasForm, ResultStands, stands-over, ResultsStand, no-results, more-results, IsOverResults}
-use Rattle.pagable_plain_world.specs.Samples.{empty, new_pages, lone, first_node, all_of, none_of, dropped}
-use Rattle.pagable_plain_world.specs.SampleSeen.{sample, sample_types, sample_shapes, bare, referring, child_kind, reading, first_table, first_worker, nothing_written, one_reference, one_written, item_worker, first_identity, claiming}
+use Rattle.pagable_plain_world.specs.Samples.{new_pages, first_node, all_of, none_of, dropped}
+use Rattle.pagable_plain_world.specs.SampleSeen.{sample, sample_types, bare, referring, child_kind, reading, first_table, nothing_written, one_reference, one_written, item_worker, first_identity, claiming}
 use Rattle.pagable_plain_world.specs.SampleRuns.{empty_trees}
 use Rattle.pagable_plain_world.specs.SampleTurns.{faulty_load, pages_of, load_event, wait_event, fail_reply}
 use Rattle.pagable_plain_world.specs.SampleParts.{referring_load}

@@ -1,6 +1,6 @@
 -- The whole page-out of a listed cell, step by step.
-use Rattle.std.proofs.Common.{◌≡◌, ℕ, Bool, true, [], ◌∷◌, refl, inl, inr, arith}
-use Rattle.std.specs.Prelude.{Option, Some, None, Ok}
+use Rattle.std.proofs.Common.{ℕ, Bool, true, [], ◌∷◌, refl, inl, inr, arith}
+use Rattle.std.specs.Prelude.{Some, None, Ok}
 use Rattle.std.proofs.lemmas.Bool.Decides.{nat_tests}
 use Rattle.pagable_model.specs.declared.data_key.OptionalDataKey.{OptionalDataKey}
 use Rattle.pagable_model.specs.declared.data_key.OptionalDataKey.TheVariants as optional
@@ -17,12 +17,11 @@ use Rattle.pagable_world.specs.Cells.{Cell}
 use Rattle.pagable_world.specs.Whole.{Whole, Written, SlotRow, no_result, published}
 use Rattle.pagable_world.specs.Falls.{Falls, MustList, nobody}
 use Rattle.pagable_world.specs.Handles.{row_of, with_key}
-use Rattle.pagable_world.specs.WorkerSteps.{is_workers_at, IsClaimedBy, WorkerStepped}
-use Rattle.pagable_world.specs.Over.{WorkerRun, worker-ends, worker-goes-on, EntryRun, no-more, pages, PagesOutListOver}
+use Rattle.pagable_world.specs.WorkerSteps.{is_workers_at, WorkerStepped}
+use Rattle.pagable_world.specs.Over.{WorkerRun, worker-ends, worker-goes-on, EntryRun, no-more, pages}
 use Rattle.pagable_plain_world.specs.Samples.{none_of, second, first_node}
 use Rattle.pagable_plain_world.specs.SampleSeen.{sample, bare, first_table, first_worker, nothing_written}
 use Rattle.pagable_plain_world.specs.SampleParts.{third}
-use Rattle.pagable_plain_world.specs.SampleTurns.{pages_of}
 use Rattle.pagable_plain_world.specs.SampleAnswers.{nothing_identity}
 use Rattle.pagable_plain_world.specs.EntryExamples.{listed_nothing, entry_worker, entry_reference, entry_slot, entry_at, callers_row, entry_rows, pinned_rows, bare_key, bare_stored, entry_done, EntryExamples}
 use Rattle.pagable_plain_world.proofs.Alone.{given-least}

@@ -1,5 +1,5 @@
 -- Of one identity through one cache, an example and a near miss.
-use Rattle.std.proofs.Common.{◌≡◌, ℕ, zero, suc, [], ◌∷◌, refl, ap, sym, ◌∙◌, inl, inr, arith}
+use Rattle.std.proofs.Common.{◌≡◌, ℕ, zero, suc, [], refl, ap, sym, ◌∙◌, inl, inr, arith}
 use Rattle.std.specs.Prelude.{Option}
 use Rattle.pagable_model.specs.declared.numbers.HandleNumber.{HandleNumber}
 use Rattle.pagable_model.specs.declared.numbers.Kind.{Kind}
@@ -8,7 +8,6 @@ use Rattle.pagable_model.specs.Blob.{Blob}
 use Rattle.pagable_world.specs.declared.cached.CacheRow.{CacheRow}
 use Rattle.pagable_world.specs.declared.rows.Mode.TheVariants as modes
 use Rattle.pagable_world.specs.declared.rows.Owner.TheVariants as owners
-use Rattle.pagable_world.specs.declared.rows.HandleRow.{HandleRow}
 use Rattle.pagable_world.specs.Words.{Among}
 use Rattle.pagable_world.specs.Whole.{Whole, OpenLoad, of_type}
 use Rattle.pagable_world.specs.Handles.{row_of, with_handle}

@@ -2,10 +2,8 @@
 use Rattle.std.proofs.Common.{◌≡◌, ℕ, zero, suc, ◌==◌, ◌&&◌, Bool, true, false, List, [], ◌∷◌, ◌++◌, filter, refl, ap, sym, ◌∙◌, subst, inl, inr}
 use Rattle.std.specs.Prelude.{if◌then◌else◌, Option, Some, None, Ok, Err, slice_get}
 use Rattle.pagable_model.specs.declared.numbers.ArcRef.{ArcRef}
-use Rattle.pagable_model.specs.declared.numbers.Identity.{Identity}
 use Rattle.pagable_model.specs.declared.numbers.WorkerNumber.{WorkerNumber}
 use Rattle.pagable_model.specs.Blob.{Blob}
-use Rattle.pagable_world.specs.declared.events.TableNumber.{TableNumber}
 use Rattle.pagable_world.specs.declared.events.Took.{Took}
 use Rattle.pagable_world.specs.declared.events.Took.TheVariants as took
 use Rattle.pagable_world.specs.declared.events.WorkerAnswer.{WorkerAnswer}
@@ -13,11 +11,9 @@ use Rattle.pagable_world.specs.declared.events.WorkerAnswer.TheVariants as final
 use Rattle.pagable_world.specs.Words.{Among, changed}
 use Rattle.pagable_world.specs.Whole.{Whole, Written, WorkerRow, SlotRow, of_item, is_worker}
 use Rattle.pagable_world.specs.Storing.{Stores}
-use Rattle.pagable_world.specs.WorkerSteps.{IsNextReference, IsClaimedBy, WorkerDoes, AnswersWith, is_open}
-use Rattle.pagable_world.specs.Over.{WorkerRun, worker-ends, worker-goes-on, PagesOutItemOver}
-use Rattle.pagable_plain_world.specs.Samples.{none_of}
-use Rattle.pagable_plain_world.specs.SampleSeen.{sample, first_table, nothing_written, tabled}
-use Rattle.pagable_plain_world.specs.SampleTurns.{pages_of}
+use Rattle.pagable_world.specs.WorkerSteps.{IsNextReference, WorkerDoes, AnswersWith, is_open}
+use Rattle.pagable_world.specs.Over.{WorkerRun, worker-ends, worker-goes-on}
+use Rattle.pagable_plain_world.specs.SampleSeen.{sample, nothing_written}
 use Rattle.pagable_plain_world.specs.ItemExamples.{ItemIsStored}
 use Rattle.pagable_plain_world.proofs.Sums.{self-number}
 use Rattle.pagable_plain_world.proofs.OnHandles.{the-one}

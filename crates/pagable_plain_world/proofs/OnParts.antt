@@ -1,6 +1,6 @@
 -- Of the parts of loads' and workers' steps examples and near misses.
-use Rattle.std.proofs.Common.{◌≡◌, ℕ, ◌==◌, ◌&&◌, Bool, true, false, List, [], ◌∷◌, ◌++◌, filter, refl, ap, sym, ◌∙◌, subst, inl, inr, arith}
-use Rattle.std.specs.Prelude.{◌≢◌, if◌then◌else◌, not, nat_lt, Option, Some, None, Ok, Err, Result, slice_get}
+use Rattle.std.proofs.Common.{◌≡◌, ℕ, ◌==◌, ◌&&◌, Bool, true, false, [], ◌∷◌, ◌++◌, filter, refl, ap, sym, ◌∙◌, subst, inl, inr, arith}
+use Rattle.std.specs.Prelude.{◌≢◌, if◌then◌else◌, not, nat_lt, Option, Some, None, Ok, Err, Result}
 use Rattle.std.proofs.lemmas.Bool.Decides.{nat_tests}
 use Rattle.pagable_model.specs.declared.error.Error.{Error}
 use Rattle.pagable_model.specs.declared.error.Error.TheVariants as errors
@@ -15,12 +15,12 @@ use Rattle.pagable_model.specs.References.{references_in}
 use Rattle.pagable_world.specs.declared.rows.Mode.TheVariants as modes
 use Rattle.pagable_world.specs.declared.rows.Owner.TheVariants as owners
 use Rattle.pagable_world.specs.declared.rows.HandleRow.{HandleRow}
-use Rattle.pagable_world.specs.State.{has_key, is_loose, held}
+use Rattle.pagable_world.specs.State.{has_key, held}
 use Rattle.pagable_world.specs.Least.{keyed}
 use Rattle.pagable_world.specs.Cells.{Cell}
 use Rattle.pagable_world.specs.Words.{Among}
 use Rattle.pagable_world.specs.Seen.{digest}
-use Rattle.pagable_world.specs.Whole.{Whole, SlotRow, no_result}
+use Rattle.pagable_world.specs.Whole.{Whole, SlotRow}
 use Rattle.pagable_world.specs.Falls.{MustList, nobody, left_rows}
 use Rattle.pagable_world.specs.Handles.{row_of, is_named_by, with_key, SetKeyCall}
 use Rattle.pagable_world.specs.Loads.{is_owned_in}
@@ -28,7 +28,6 @@ use Rattle.pagable_world.specs.LoadSteps.{Wants, IsRead, read_frame, root_frame,
 use Rattle.pagable_world.specs.WorkerSteps.{PinsByLoad, StoreDoes, SetKeyDoes, IsBlobOf, IsKeyOfSlot}
 use Rattle.pagable_plain_world.specs.Samples.{lone, away, none_of, only_of, first, second, first_node, first_load}
 use Rattle.pagable_plain_world.specs.SampleSeen.{sample, sample_types, bare, referring, child_kind, reading, first_table, first_worker, first_identity, nothing_written, one_reference, one_written, item_worker, claimed, slot_open}
-use Rattle.pagable_plain_world.specs.SampleTurns.{load_of}
 use Rattle.pagable_plain_world.specs.SampleParts.{referring_load, nested_load, nested, cached_child, loads_row, got_child, made_child, pinning_load, pinning, pin_done, third, open_slot, own_handle, own_keyed, callers_handle, by_load}
 use Rattle.pagable_plain_world.specs.PartExamples.{LoadPartExamples, WorkerPartExamples}
 use Rattle.pagable_plain_world.proofs.Alone.{given-least}

@@ -1,6 +1,6 @@
 -- Of whole operations over an access, and of whole walks, examples and near misses.
-use Rattle.std.proofs.Common.{◌≡◌, ℕ, zero, suc, ◌==◌, Bool, true, false, List, [], ◌∷◌, ◌++◌, filter, map, refl, ap, sym, ◌∙◌, subst, inl, inr, arith}
-use Rattle.std.specs.Prelude.{◌≢◌, not, Option, Some, None, Ok, Err, Result, slice_get}
+use Rattle.std.proofs.Common.{◌≡◌, ℕ, zero, suc, true, false, List, [], ◌∷◌, ◌++◌, filter, map, refl, ap, sym, ◌∙◌, subst, inl, inr, arith}
+use Rattle.std.specs.Prelude.{not, Option, Some, None, Ok, Result, slice_get}
 use Rattle.std.specs.List.{remove}
 use Rattle.std.proofs.lemmas.Bool.Decides.{nat_tests}
 use Rattle.pagable_model.specs.declared.error.Error.{Error}
@@ -25,20 +25,18 @@ use Rattle.pagable_world.specs.declared.events.Took.TheVariants as took
 use Rattle.pagable_world.specs.declared.events.WorkerAnswer.{WorkerAnswer}
 use Rattle.pagable_world.specs.declared.events.WorkerAnswer.TheVariants as finals
 use Rattle.pagable_world.specs.State.{is_pinning, has_key}
-use Rattle.pagable_world.specs.Words.{Among, times}
-use Rattle.pagable_world.specs.Kinds.{identity_of}
+use Rattle.pagable_world.specs.Words.{Among}
 use Rattle.pagable_world.specs.Seen.{digest}
-use Rattle.pagable_world.specs.Whole.{Whole, Written, OpenLoad, of_item, of_type}
-use Rattle.pagable_world.specs.Falls.{Falls, MustList, AreNewEntries, left_rows, only_handle}
-use Rattle.pagable_world.specs.Handles.{row_of, with_handle, with_mode, PinCall, ReleaseCall}
-use Rattle.pagable_world.specs.Loads.{with_load}
+use Rattle.pagable_world.specs.Whole.{Whole, Written, OpenLoad, of_item}
+use Rattle.pagable_world.specs.Falls.{MustList, AreNewEntries, left_rows, only_handle}
+use Rattle.pagable_world.specs.Handles.{row_of, with_handle, with_mode, ReleaseCall}
 use Rattle.pagable_world.specs.LoadSteps.{root_frame, LoadDoes, LoadGoesOn, GetsRoot, LoadStepped}
-use Rattle.pagable_world.specs.Order.{Waits, no-wait, more-waits, PinsFirst, at-once, by-load, Walk, finds, does, Walks, no-walk, more-walks}
+use Rattle.pagable_world.specs.Order.{no-wait, more-waits, PinsFirst, at-once, by-load, Walk, finds, does, Walks, no-walk, more-walks}
 use Rattle.pagable_world.specs.Pages.{Pages}
-use Rattle.pagable_world.specs.Over.{LoadRun, load-ends, load-goes-on, PinTakenBack, UnpinnedBack, PinRun, ReadsOver, PagesOutItemOver, EntryRun, ListRun, no-more, skips, pages, fails, PagesOutListOver}
-use Rattle.pagable_plain_world.specs.Samples.{empty, new_pages, lone, away, lone_listed, scheduled, pinned, first, second, first_node, first_load, none_of, all_of, only_of, dropped}
+use Rattle.pagable_world.specs.Over.{LoadRun, load-ends, load-goes-on, PinTakenBack, ReadsOver, PagesOutItemOver, EntryRun, ListRun, no-more, skips, pages, fails, PagesOutListOver}
+use Rattle.pagable_plain_world.specs.Samples.{empty, new_pages, lone, away, scheduled, pinned, first, second, first_node, first_load, none_of, all_of, only_of, dropped}
 use Rattle.pagable_plain_world.specs.SampleSeen.{sample, bare, reading, first_table, first_worker, first_identity, nothing_written, one_reference, tabled, working, answered}
-use Rattle.pagable_plain_world.specs.SampleTurns.{load_of, pages_of}
+use Rattle.pagable_plain_world.specs.SampleTurns.{pages_of}
 use Rattle.pagable_plain_world.specs.WholeRunExamples.{unread_load, unread, taken_back, unpinned_too, unlisted, last_steps, walk_with, WholeRunExamples}
 use Rattle.pagable_plain_world.proofs.Alone.{given-least}
 use Rattle.pagable_plain_world.proofs.Filters.{among-filter, among-append, entries-are}

@@ -14,7 +14,7 @@ use Rattle.pagable_world.specs.Premises.{ReadsItsTypes, AsksWell}
 use Rattle.pagable_world.specs.Interleaved.{ReadIsRight, ReadGives, AnswerLeavesAll, PublishIsKey, AnswerIsKey}
 use Rattle.pagable_world.specs.Alone.{DeepIsRefused}
 use Rattle.pagable_world.specs.Results.{IsOverResults}
-use Rattle.pagable_plain_world.specs.Samples.{empty, new_pages, lone, first, all_of, none_of, dropped}
+use Rattle.pagable_plain_world.specs.Samples.{new_pages, lone, first, all_of, none_of, dropped}
 use Rattle.pagable_plain_world.specs.SampleSeen.{sample, sample_types, bare, referring, reading, one_reference, claiming}
 use Rattle.pagable_plain_world.specs.SampleRuns.{empty_trees}
 use Rattle.pagable_plain_world.specs.SampleTurns.{faulty_load, pages_of, load_event, wait_event, fail_reply}

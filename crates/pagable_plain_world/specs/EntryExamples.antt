@@ -1,5 +1,5 @@
 -- The whole page-out of a listed cell, step by step.
-use Rattle.std.specs.Prelude.{ℕ, [], ◌∷◌, List, Option, Some, None, Ok}
+use Rattle.std.specs.Prelude.{ℕ, [], ◌∷◌, List, Option, Some, Ok}
 use Rattle.pagable_model.specs.declared.data_key.OptionalDataKey.{OptionalDataKey}
 use Rattle.pagable_model.specs.declared.data_key.OptionalDataKey.TheVariants as optional
 use Rattle.pagable_model.specs.declared.numbers.ArcRef.{ArcRef}

@@ -1,7 +1,6 @@
 -- Of whole operations over an access, and of whole walks, examples and near misses.
 use Rattle.std.specs.Prelude.{ℕ, [], ◌∷◌, List, Option, Some, Ok}
 use Rattle.pagable_model.specs.declared.error.Error.TheVariants as errors
-use Rattle.pagable_model.specs.declared.numbers.HandleNumber.{HandleNumber}
 use Rattle.pagable_model.specs.Blob.{Blob}
 use Rattle.pagable_world.specs.declared.events.Claim.TheVariants as claims
 use Rattle.pagable_world.specs.declared.events.PinStep.TheVariants as pinsteps

@@ -1,5 +1,5 @@
 -- What reading a JSON value gives: its case, and then its part.
-use Rattle.std.proofs.Common.{◌≡◌, ℕ, suc, ◌-◌, ◌+◌, ◌<◌, ◌≤◌, true, false, List, [], ◌∷◌, map, arith, rules, refl, sym, ap, ◌∙◌, subst, Result, Ok, Err, inl, inr, String, Global, BTreeMap, Vec}
+use Rattle.std.proofs.Common.{◌≡◌, ℕ, suc, ◌-◌, ◌+◌, ◌<◌, ◌≤◌, true, false, List, arith, refl, sym, ap, ◌∙◌, subst, Result, Ok, Err, inl, inr, String, Global, BTreeMap, Vec}
 use Rattle.std.proofs.lemmas.Bool.{ne_eqb}
 use Rattle.std.specs.Prelude.{◌⊎◌, ℤ, pos, negsuc, Bool}
 use Rattle.std.specs.BTreeMap.{insert_entry}
@@ -13,12 +13,11 @@ use Rattle.serde_json.specs.declared.value.Value as values
 use Rattle.pagable_model.specs.declared.error.Error.{Error}
 use Rattle.pagable_model.specs.declared.error.Error.TheVariants as errors
 use Rattle.pagable_model.specs.declared.numbers.ArcRef.{ArcRef}
-use Rattle.pagable_model.specs.Steps.{◌>>=◌}
 use Rattle.pagable_model.specs.Basic.{bool_at, length_at, text_at}
 use Rattle.pagable_model.specs.Collected.{Collected}
 use Rattle.pagable_model.specs.Gives.{never, memory, memory_or}
 use Rattle.pagable_model.specs.Keys.{text_order}
-use Rattle.pagable_model.specs.Lifted.{MeanAll, MeansList, MeansPair}
+use Rattle.pagable_model.specs.Lifted.{MeanAll, MeansPair}
 use Rattle.pagable_model.specs.Meaning.{Meaning, integer, none, pair, variant, sequence}
 use Rattle.pagable_model.specs.Meaning as meanings
 use Rattle.pagable_model.specs.Numbers.{Read, unsigned_at, signed_at}

@@ -1,8 +1,7 @@
 -- What writing a JSON value adds, and which have no form.
 use Rattle.std.proofs.Common.{◌≡◌, ℕ, suc, ◌-◌, ◌+◌, ◌<◌, ◌≤◌, ◌^◌, true, false, subst, List, [], ◌∷◌, ◌++◌, length, map, arith, rules, refl, sym, ap, ◌∙◌, append_assoc, Result, Ok, Err, Some, None, inl, inr, String, Global, BTreeMap, Vec}
-use Rattle.std.proofs.lemmas.Bool.{lt-ltb, le-ltb}
-use Rattle.std.proofs.lemmas.List.{append-nil}
-use Rattle.std.specs.Prelude.{OnOk, IfErr, ◌⊎◌, IsTrue, ℤ, pos, negsuc, nat_lt, Bool, Option, if◌then◌else◌}
+use Rattle.std.proofs.lemmas.Bool.{lt-ltb}
+use Rattle.std.specs.Prelude.{OnOk, IfErr, IsTrue, ℤ, pos, nat_lt, Bool, Option, if◌then◌else◌}
 use Rattle.std.specs.Int.{w64}
 use Rattle.std.specs.String.{string_bytes, string_cmp, string_cmp_total}
 use Rattle.std.specs.Map.{keys_of}
@@ -25,7 +24,7 @@ use Rattle.pagable_model.specs.Basic.{longest, bool_form, length_form, text_form
 use Rattle.pagable_model.specs.Carried.{of_entries}
 use Rattle.pagable_model.specs.Numbers.{unsigned_form, varint, IsSigned, signed_form}
 use Rattle.pagable_model.specs.Gives.{memory}
-use Rattle.pagable_model.specs.Keys.{Entry, KeyOrder, text_order}
+use Rattle.pagable_model.specs.Keys.{text_order}
 use Rattle.pagable_model.specs.Lengths.{long_or_memory}
 use Rattle.pagable_model.specs.Lifted.{MeanAll, MeansList, MeansPair, list_single, pair_single, pair_has_meaning}
 use Rattle.pagable_model.specs.Meaning.{Meaning, integer, pair, variant, sequence, entry}
@@ -33,14 +32,14 @@ use Rattle.pagable_model.specs.Meaning as meanings
 use Rattle.pagable_model.specs.Reading.{deepest}
 use Rattle.pagable_model.specs.Shape.{Shape, json, list, both, sorted_map}
 use Rattle.pagable_model.specs.Shape as shapes
-use Rattle.pagable_model.specs.Form.{Form, list-form, sorted-map-form, json-null-form, json-flag-form, json-number-form, json-text-form, json-array-form, json-object-form}
+use Rattle.pagable_model.specs.Form.{list-form, sorted-map-form, json-null-form, json-flag-form, json-number-form, json-text-form, json-array-form, json-object-form}
 use Rattle.pagable_model.specs.Standing.{Is, SomeMeaning}
 use Rattle.pagable_model.specs.Keyed.{text_is_ordered}
-use Rattle.pagable_model.specs.Writing.{Out, Nesting, nesting, FormAt, Writes, WritesSome, added, kind_of_arc, NoForm, NoFormOfSome, WritesSomeAll, Refused, RefusedAll, IsRefusal}
-use Rattle.pagable_codec.proofs.Writing.{out_is, then, writes_bytes, memory_refuses}
+use Rattle.pagable_model.specs.Writing.{Out, Nesting, nesting, FormAt, WritesSome, added, NoForm, WritesSomeAll, Refused, RefusedAll, IsRefusal}
+use Rattle.pagable_codec.proofs.Writing.{then, writes_bytes, memory_refuses}
 use Rattle.pagable_traits.proofs.Maps.{IsOrderOf, key-order, sorted-map-splits, writes_sorted_map, refuse-count, refuses-items}
 use Rattle.pagable_traits.proofs.Items.{writes_list, refused_items, refuses-count}
-use Rattle.pagable_traits.specs.JsonData.{json_of, json_items, json_members, of_data, of_value, of_key, long_or_no_memory}
+use Rattle.pagable_traits.specs.JsonData.{json_items, json_members, of_data, of_value, of_key, long_or_no_memory}
 
 -- ---- the bytes of a case and its part
 

@@ -1,5 +1,5 @@
 -- What holds where each load's and each worker's steps stand together, and of one cache and one store.
-use Rattle.std.specs.Prelude.{ℕ, ◌≡◌, ◌≢◌, ◌+◌, ◌<◌, ◌⊎◌, ◌↔◌, false, List, Option, Some, None, Ok, Err, slice_get}
+use Rattle.std.specs.Prelude.{ℕ, ◌≡◌, ◌≢◌, ◌+◌, ◌<◌, ◌⊎◌, ◌↔◌, false, List, Some, Ok, slice_get}
 use Rattle.pagable_model.specs.declared.error.Error.{Error}
 use Rattle.pagable_model.specs.declared.error.Error.TheVariants as errors
 use Rattle.pagable_model.specs.declared.numbers.ArcRef.{ArcRef}
@@ -34,7 +34,7 @@ use Rattle.pagable_world.specs.Stands.{TreeWorld}
 use Rattle.pagable_world.specs.WorkerSteps.{IsPublished}
 use Rattle.pagable_world.specs.Events.{Run}
 use Rattle.pagable_world.specs.Premises.{ReadsItsTypes}
-use Rattle.pagable_world.specs.Runs.{Moment, Fact, Along, AreSteps, ArePremised, events_of}
+use Rattle.pagable_world.specs.Runs.{Moment, Fact, Along, ArePremised}
 use Rattle.pagable_world.specs.Interleaved.{AnswerLeavesAll, AnswerIsKey, ReadGives}
 use Rattle.pagable_world.specs.Headline.{HasTrees}
 

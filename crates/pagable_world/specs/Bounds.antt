@@ -1,5 +1,5 @@
 -- How many steps loads and workers make at most.
-use Rattle.std.specs.Prelude.{ℕ, ◌≡◌, ◌+◌, ◌*◌, ◌≤◌, ◌==◌, if◌then◌else◌, List, length, max, sum_by, Option, Some, None, IsSome, slice_get}
+use Rattle.std.specs.Prelude.{ℕ, ◌≡◌, ◌+◌, ◌*◌, ◌≤◌, ◌==◌, if◌then◌else◌, List, length, max, sum_by, Option, Some, None, IsSome}
 use Rattle.pagable_model.specs.declared.numbers.ArcRef.{ArcRef}
 use Rattle.pagable_model.specs.declared.numbers.Kind.{Kind}
 use Rattle.pagable_model.specs.Meaning.{Meaning}
@@ -7,7 +7,7 @@ use Rattle.pagable_model.specs.Blob.{Blob}
 use Rattle.pagable_model.specs.Trees.{Types, type_of}
 use Rattle.pagable_world.specs.declared.events.LoadReply.{LoadReply}
 use Rattle.pagable_world.specs.Words.{Among, times}
-use Rattle.pagable_world.specs.Whole.{Whole, Task, of_item, of_entry, Frame, OpenLoad, WorkerRow, SlotRow, Written}
+use Rattle.pagable_world.specs.Whole.{Whole, Task, of_item, of_entry, OpenLoad, WorkerRow, Written}
 use Rattle.pagable_world.specs.Seen.{Seen}
 use Rattle.pagable_world.specs.LoadSteps.{root_type, root_frame, IsRead, Wants}
 

@@ -16,10 +16,9 @@ use Rattle.pagable_world.specs.declared.rows.HandleRow.{HandleRow}
 use Rattle.pagable_world.specs.declared.answers.Pinning.{Pinning}
 use Rattle.pagable_world.specs.declared.answers.Pinning.TheVariants as pinnings
 use Rattle.pagable_world.specs.State.{pins, is_loose}
-use Rattle.pagable_world.specs.Cells.{Cell}
 use Rattle.pagable_world.specs.World.{greatest}
 use Rattle.pagable_world.specs.Words.{changed, times}
-use Rattle.pagable_world.specs.Whole.{Whole, is_handle, is_cell, RowIs, IsNotLive, HasCellOf, HasType, KeyIs, Stays}
+use Rattle.pagable_world.specs.Whole.{Whole, is_handle, is_cell, RowIs, IsNotLive, HasType, KeyIs, Stays}
 use Rattle.pagable_world.specs.Causes.{Refuses, RefusesHandle, RefusesReferences, AreReferences, IsSpent, IsFull, IsForeign, IsUnfit, AnyMode, LooseMode, Owns}
 use Rattle.pagable_world.specs.Falls.{Falls, FallsAnyhow, nobody, only_handle}
 

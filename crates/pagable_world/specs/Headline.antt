@@ -1,7 +1,5 @@
 -- The main theorem, as a clause for the contract of the machine's run.
-use Rattle.std.specs.Prelude.{List, ◌++◌}
-use Rattle.pagable_world.specs.declared.events.Event.{Event}
-use Rattle.pagable_world.specs.declared.events.EventReply.{EventReply}
+use Rattle.std.specs.Prelude.{List}
 use Rattle.pagable_world.specs.Seen.{Seen, IsLawful}
 use Rattle.pagable_world.specs.Pages.{Pages, WellFormed}
 use Rattle.pagable_world.specs.Stands.{TreeWorld, Represents}

@@ -1,13 +1,12 @@
 -- What holds of all that has happened to a pager since it was new, however loads and workers take turns. Each of these is to be
 -- carried by the contract of the machine's run, through the headline.
-use Rattle.std.specs.Prelude.{ℕ, ◌≡◌, ◌≢◌, ◌<◌, ◌≤◌, ◌==◌, ◌&&◌, ◌⊎◌, if◌then◌else◌, List, [], ◌∷◌, ◌+◌, Option, Some, None, Ok, Err}
+use Rattle.std.specs.Prelude.{ℕ, ◌≡◌, ◌≢◌, ◌<◌, ◌≤◌, ◌==◌, ◌&&◌, if◌then◌else◌, List, [], ◌∷◌, ◌+◌, Some, Ok}
 use Rattle.pagable_model.specs.declared.data_key.OptionalDataKey.TheVariants as optional
 use Rattle.pagable_model.specs.declared.numbers.ArcRef.{ArcRef}
 use Rattle.pagable_model.specs.declared.numbers.HandleNumber.{HandleNumber}
 use Rattle.pagable_model.specs.declared.numbers.Identity.{Identity}
-use Rattle.pagable_model.specs.declared.numbers.Kind.{Kind}
 use Rattle.pagable_model.specs.Blob.{Blob}
-use Rattle.pagable_model.specs.Trees.{Tree, tree, type_of, ReadsTree}
+use Rattle.pagable_model.specs.Trees.{Tree, ReadsTree}
 use Rattle.pagable_model.specs.Merkle.{KeyOf, KeyOfItem, TreeForm, IsCanonicalItem}
 use Rattle.pagable_model.specs.Canonical.{IsCanonicalTree}
 use Rattle.pagable_model.specs.Shape.{Shape}
@@ -32,13 +31,13 @@ use Rattle.pagable_world.specs.State.{pins, held}
 use Rattle.pagable_world.specs.Words.{Among, times}
 use Rattle.pagable_world.specs.Kinds.{IsLooseKind}
 use Rattle.pagable_world.specs.Whole.{Whole, Task, of_item, of_entry, OpenLoad, WorkerRow, SlotRow, Written, no_result, failed, is_owner, is_identity, HasRowOf, KeyIs, HasSlot, HasWorker, HasOpenLoad}
-use Rattle.pagable_world.specs.Seen.{Seen, digest}
+use Rattle.pagable_world.specs.Seen.{Seen}
 use Rattle.pagable_world.specs.Causes.{IsReference}
 use Rattle.pagable_world.specs.Pages.{Pages, HasValue}
 use Rattle.pagable_world.specs.Stands.{ValueStands, TreeWorld, kids_of}
 use Rattle.pagable_world.specs.Met.{Meets, TableMeets}
 use Rattle.pagable_world.specs.WorkerSteps.{IsPublished, AreKeysOf, is_workers_load}
-use Rattle.pagable_world.specs.Order.{steps_of, InOrder, OnceEach, MetError, MetFailure}
+use Rattle.pagable_world.specs.Order.{steps_of, InOrder, OnceEach, MetError}
 use Rattle.pagable_world.specs.Bounds.{WorkersAreBounded, LoadsAreBounded, IsWithinBound}
 use Rattle.pagable_world.specs.Runs.{Moment, Fact, Along, last_world, events_of, replies_of}
 

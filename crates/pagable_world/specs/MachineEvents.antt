@@ -1,5 +1,5 @@
 -- One event of today's machine: a call, a load that begins, or a load's step.
-use Rattle.std.specs.Prelude.{◌≡◌, List, Option, Some, None, Ok, Err}
+use Rattle.std.specs.Prelude.{◌≡◌, List, None, Ok, Err}
 use Rattle.pagable_world.specs.declared.calls.Reply.{Reply}
 use Rattle.pagable_world.specs.declared.calls.Reply.TheVariants as replies
 use Rattle.pagable_world.specs.declared.events.EventReply.{EventReply}

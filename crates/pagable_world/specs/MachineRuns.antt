@@ -1,5 +1,5 @@
 -- All that a machine did: its events and replies, the machine after each, and worlds with trees beside.
-use Rattle.std.specs.Prelude.{ℕ, ◌≡◌, ◌+◌, All, List, [], ◌∷◌, map, Some, Result, Ok, Err}
+use Rattle.std.specs.Prelude.{ℕ, ◌≡◌, ◌+◌, All, List, [], ◌∷◌, map, Some, Ok}
 use Rattle.pagable_model.specs.Trees.{Tree}
 use Rattle.pagable_world.specs.declared.calls.Reply.{Reply}
 use Rattle.pagable_world.specs.declared.calls.Reply.TheVariants as replies
@@ -17,7 +17,7 @@ use Rattle.pagable_world.specs.InStep.{InStep}
 use Rattle.pagable_world.specs.Shown.{Shown}
 use Rattle.pagable_world.specs.Stands.{SameTrees}
 use Rattle.pagable_world.specs.TodayTrees.{MeansTree, KeyReads, TodayWorld, RepresentsToday, SetKeyFits, ReadFits}
-use Rattle.pagable_world.specs.MachineSteps.{MachineSight, world_of, CallDoes}
+use Rattle.pagable_world.specs.MachineSteps.{MachineSight}
 use Rattle.pagable_world.specs.LoadMoves.{FetchedRoot, Driven, EventSight, event_world_of}
 use Rattle.pagable_world.specs.MachineEvents.{EventDoes}
 

@@ -1,5 +1,5 @@
 -- What a page-out meets: the references of its items or its listed cells, and those that were written of what it met.
-use Rattle.std.specs.Prelude.{ℕ, ◌≡◌, Some}
+use Rattle.std.specs.Prelude.{◌≡◌, Some}
 use Rattle.pagable_model.specs.declared.numbers.ArcRef.{ArcRef}
 use Rattle.pagable_model.specs.declared.numbers.Identity.{Identity}
 use Rattle.pagable_model.specs.declared.numbers.HandleNumber.{HandleNumber}

@@ -1,6 +1,6 @@
 -- Whole operations over an access that tells its state: each is a run that has alone, up to its end, this pin, this reading or
 -- this page-out, and its answer is what the run's last step answered.
-use Rattle.std.specs.Prelude.{ℕ, ◌≡◌, ◌+◌, ◌⊎◌, ◌↔◌, ◌<◌, Option, Some, None, length, Result, Ok, Err, slice_get}
+use Rattle.std.specs.Prelude.{ℕ, ◌≡◌, ◌+◌, ◌⊎◌, ◌↔◌, Some, None, length, Result, Ok, Err, slice_get}
 use Rattle.pagable_model.specs.declared.error.Error.{Error}
 use Rattle.pagable_model.specs.declared.error.Error.TheVariants as errors
 use Rattle.pagable_model.specs.declared.data_key.OptionalDataKey.{OptionalDataKey}
@@ -23,7 +23,7 @@ use Rattle.pagable_world.specs.declared.events.LoadReply.{LoadReply}
 use Rattle.pagable_world.specs.declared.events.WorkerAnswer.{WorkerAnswer}
 use Rattle.pagable_world.specs.declared.events.WorkerAnswer.TheVariants as finals
 use Rattle.pagable_world.specs.declared.events.WorkerReply.{WorkerReply}
-use Rattle.pagable_world.specs.Whole.{Whole, Written, of_item, of_type, HasRowOf, KeyIs, HasSlot, failed}
+use Rattle.pagable_world.specs.Whole.{Whole, Written, of_item, of_type, HasRowOf, KeyIs}
 use Rattle.pagable_world.specs.Seen.{Seen}
 use Rattle.pagable_world.specs.Pages.{Pages, HasValue}
 use Rattle.pagable_world.specs.Handles.{PinCall, UnpinCall, ReleaseCall, TakeCall}

@@ -1,5 +1,5 @@
 -- The pager as contracts see it: the plain world, a count for each node and the values in memory; and when it is whole.
-use Rattle.std.specs.Prelude.{ℕ, ◌≡◌, ◌≢◌, ◌<◌, ◌≤◌, ◌==◌, ◌&&◌, ◌||◌, ◌⊎◌, if◌then◌else◌, List, sum_by, None, nat_lt, nat_eq}
+use Rattle.std.specs.Prelude.{ℕ, ◌≡◌, ◌<◌, ◌≤◌, ◌==◌, ◌&&◌, ◌||◌, ◌⊎◌, if◌then◌else◌, List, sum_by, None, nat_lt, nat_eq}
 use Rattle.std.specs.List.{AllPairs}
 use Rattle.pagable_model.specs.declared.numbers.Kind.{Kind}
 use Rattle.pagable_model.specs.declared.numbers.ArcRef.{ArcRef}
@@ -16,7 +16,7 @@ use Rattle.pagable_world.specs.World.{greatest}
 use Rattle.pagable_world.specs.Words.{Among, times}
 use Rattle.pagable_world.specs.Least.{is_of_value, keyed, sharing}
 use Rattle.pagable_world.specs.Kinds.{FitsMode}
-use Rattle.pagable_world.specs.Whole.{Whole, OpenLoad, WorkerRow, SlotRow, no_result, is_owner, is_cell, is_open_load, is_worker, is_entry_of, is_slot, is_cached_as, is_owned_by, HasRowOf, HasType, HasWorker}
+use Rattle.pagable_world.specs.Whole.{Whole, OpenLoad, WorkerRow, SlotRow, no_result, is_owner, is_cell, is_open_load, is_worker, is_entry_of, is_slot, is_cached_as, HasRowOf, HasType, HasWorker}
 use Rattle.pagable_world.specs.Causes.{IsReference}
 use Rattle.pagable_world.specs.Seen.{Seen}
 

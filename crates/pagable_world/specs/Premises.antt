@@ -1,19 +1,17 @@
 -- What the promises on trees ask of values and callers, by name. That the storage gives back what was stored, loses nothing
 -- and keeps no two blobs under one key is asked nowhere here: these are laws of every storage, so they stand in the steps.
-use Rattle.std.specs.Prelude.{ℕ, ◌≡◌, ◌<◌, List, Option, Some, None, Ok, Err}
-use Rattle.pagable_model.specs.declared.numbers.HandleNumber.{HandleNumber}
-use Rattle.pagable_model.specs.Trees.{Tree, Types, tree, type_of, ReadsTree}
+use Rattle.std.specs.Prelude.{ℕ, ◌≡◌, Option, Some, None, Ok}
+use Rattle.pagable_model.specs.Trees.{Tree, Types, ReadsTree}
 use Rattle.pagable_model.specs.Canonical.{IsReadableType}
 use Rattle.pagable_world.specs.declared.rows.Owner.TheVariants as owners
 use Rattle.pagable_world.specs.declared.rows.HandleRow.{HandleRow}
-use Rattle.pagable_world.specs.declared.calls.Call.{Call}
 use Rattle.pagable_world.specs.declared.calls.Call.TheVariants as calls
 use Rattle.pagable_world.specs.declared.calls.Reply.TheVariants as replies
 use Rattle.pagable_world.specs.declared.events.Event.{Event}
 use Rattle.pagable_world.specs.declared.events.Event.TheVariants as events
 use Rattle.pagable_world.specs.declared.events.EventReply.{EventReply}
 use Rattle.pagable_world.specs.declared.events.EventReply.TheVariants as answers
-use Rattle.pagable_world.specs.Whole.{Whole, OpenLoad, HasOpenLoad}
+use Rattle.pagable_world.specs.Whole.{OpenLoad, HasOpenLoad}
 use Rattle.pagable_world.specs.Seen.{Seen, IsSettled}
 use Rattle.pagable_world.specs.Causes.{Owns, LooseMode, AnyMode}
 use Rattle.pagable_world.specs.Pages.{Pages}

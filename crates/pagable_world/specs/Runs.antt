@@ -1,20 +1,17 @@
 -- All that has happened since the pager was new: its states, and worlds with trees beside them.
-use Rattle.std.specs.Prelude.{ℕ, ◌≡◌, ◌≢◌, ◌+◌, ◌<◌, ◌≤◌, List, [], ◌∷◌, map, Option, Some, None, Ok, Err}
-use Rattle.pagable_model.specs.declared.numbers.NodeNumber.{NodeNumber}
-use Rattle.pagable_model.specs.Trees.{Tree, ReadsTree}
-use Rattle.pagable_world.specs.declared.calls.Call.{Call}
+use Rattle.std.specs.Prelude.{ℕ, ◌≡◌, ◌<◌, ◌≤◌, List, [], ◌∷◌, map}
+use Rattle.pagable_model.specs.Trees.{ReadsTree}
 use Rattle.pagable_world.specs.declared.calls.Call.TheVariants as calls
 use Rattle.pagable_world.specs.declared.events.Event.{Event}
 use Rattle.pagable_world.specs.declared.events.Event.TheVariants as events
 use Rattle.pagable_world.specs.declared.events.EventReply.{EventReply}
-use Rattle.pagable_world.specs.State.{held}
 use Rattle.pagable_world.specs.Words.{Among}
-use Rattle.pagable_world.specs.Whole.{Whole, Frame, OpenLoad}
+use Rattle.pagable_world.specs.Whole.{Frame, OpenLoad}
 use Rattle.pagable_world.specs.Seen.{Seen}
 use Rattle.pagable_world.specs.Pages.{Pages, HasValue, WellFormed}
 use Rattle.pagable_world.specs.Stands.{ValueStands, TreeWorld, Represents, KeepsTrees}
 use Rattle.pagable_world.specs.Events.{Step}
-use Rattle.pagable_world.specs.Premises.{IsPremised, handed_in}
+use Rattle.pagable_world.specs.Premises.{IsPremised}
 
 -- an event, its reply and the pager after it
 pub record Moment (N B W : Type 0) : Type 0 where

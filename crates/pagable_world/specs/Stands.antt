@@ -11,7 +11,7 @@ use Rattle.pagable_world.specs.State.{held}
 use Rattle.pagable_world.specs.Words.{Among}
 use Rattle.pagable_world.specs.Whole.{Whole, OpenLoad, of_cell, KeyIs, HasType}
 use Rattle.pagable_world.specs.Seen.{Seen}
-use Rattle.pagable_world.specs.Pages.{Pages, HasValue, HasNoValue, WellFormed}
+use Rattle.pagable_world.specs.Pages.{Pages, HasValue, HasNoValue}
 
 -- whatever key the node has reads as the tree
 abbrev pub KeyFits : {N B W : Type 0} → Seen N B W → Pages N → NodeNumber → Tree → Type 0

@@ -32,7 +32,7 @@ use Rattle.pagable_world.specs.Least.{is_of_value}
 use Rattle.pagable_world.specs.Kinds.{FitsMode, identity_of}
 use Rattle.pagable_world.specs.Whole.{Whole, WorkerRow, SlotRow, Written, Outcome, no_result, published, failed, of_item, of_entry, of_cell, OpenLoad, is_owner, is_worker, is_slot, HasRowOf, RowIs, IsNotLive, HasType, HasWorker, HasSlot, Stays}
 use Rattle.pagable_world.specs.Seen.{Seen, digest}
-use Rattle.pagable_world.specs.Causes.{Refuses, IsFull, IsUnfit, LooseMode, IsReference}
+use Rattle.pagable_world.specs.Causes.{Refuses, IsFull, IsUnfit, IsReference}
 use Rattle.pagable_world.specs.Falls.{FallsAnyhow, only_handle}
 use Rattle.pagable_world.specs.Handles.{moved, CloneCall, PinCall, SetKeyCall}
 use Rattle.pagable_world.specs.Storing.{StoreCall}

@@ -1,4 +1,4 @@
-use Rattle.std.proofs.Common.{rules, refl, ap, ◌≡◌, ◌≢◌, ◌∙◌, ℕ, All, sum_by}
+use Rattle.std.proofs.Common.{rules, refl, ap, ◌≡◌, ◌≢◌, ◌∙◌, All, sum_by}
 use Rattle.pagable_world.specs.State.{is_node}
 use Rattle.pagable_world.specs.Cells.{Cell, cell_of, cells_of}
 use Rattle.pagable_book.proofs.Here.{all-apart, cells-nodes}

@@ -1,14 +1,14 @@
-use Rattle.std.proofs.Common.{◌≡◌, ◌<◌, ◌≤◌, ◌+◌, ◌-◌, ◌++◌, ◌∷◌, [], length, refl, sym, rules, ◌∙◌, arith, inl, inr}
+use Rattle.std.proofs.Common.{◌≡◌, ◌<◌, ◌≤◌, ◌++◌, ◌∷◌, [], refl, rules, ◌∙◌, arith, inl, inr}
 use Rattle.std.proofs.lemmas.Result.{err_from_is_err_and}
 use Rattle.std.specs.BTreeMap.{insert_entry}
 use Rattle.std.specs.String.{string_cmp}
 use Rattle.pagable_model.specs.Gives.{memory}
 use Rattle.pagable_model.specs.Lifted.{MeansPair, mean-none}
-use Rattle.pagable_model.specs.Reading.{deepest, items, read, null_case, flag_case, number_case, text_case, array_case, object_case}
+use Rattle.pagable_model.specs.Reading.{deepest, items, read, flag_case, number_case, text_case, array_case, object_case}
 use Rattle.pagable_model.specs.Shape.{both, json, text}
 use Rattle.pagable_model.specs.Standing.{Is, handles_at}
 use Rattle.pagable_codec.proofs.Reading.{moves_trans, moves_refl}
-use Rattle.pagable_traits.specs.JsonData.{of_value, of_key, part_at}
+use Rattle.pagable_traits.specs.JsonData.{of_value, of_key}
 use Rattle.pagable_traits.proofs.Collecting.{collected_none, collected_more}
 use Rattle.pagable_traits.proofs.Items.{mean_last, starts, goes_on, is_done}
 use Rattle.pagable_traits.proofs.JsonWritten.{back}

@@ -1,16 +1,15 @@
-use Rattle.std.proofs.Common.{◌≡◌, ◌<◌, ◌≤◌, ◌+◌, length, refl, sym, rules, ◌∙◌, drop, take, arith}
+use Rattle.std.proofs.Common.{◌<◌, ◌≤◌, refl, sym, rules, ◌∙◌}
 use Rattle.std.proofs.lemmas.Result.{err_from_is_err_and}
 use Rattle.std.proofs.lemmas.List.{take_all}
 use Rattle.serde_json.specs.Data.{null, boolean, number, string, array, object}
 use Rattle.serde_json.specs.View.{number_view, items_view, members_view}
-use Rattle.pagable_model.specs.Gives.{memory}
 use Rattle.pagable_model.specs.Lifted.{MeansPair, pair_has_meaning}
 use Rattle.pagable_model.specs.Reading.{deepest}
 use Rattle.pagable_model.specs.Shape.{both, json, text}
 use Rattle.pagable_model.specs.Standing.{Is}
 use Rattle.pagable_model.specs.Writing.{nesting}
 use Rattle.pagable_codec.proofs.Writing.{grows_trans}
-use Rattle.pagable_traits.specs.JsonData.{of_data, of_value, of_key}
+use Rattle.pagable_traits.specs.JsonData.{of_value, of_key}
 use Rattle.pagable_traits.proofs.Items.{writes_no_items, writes_item, refuses_item, grows_some_all}
 use Rattle.pagable_traits.proofs.Maps.{writes_entry, written-fewer, written-none, written-more, written-all, written-refused, written-grows}
 use Rattle.pagable_traits.proofs.Parts.{refuses_first, refuses_second}

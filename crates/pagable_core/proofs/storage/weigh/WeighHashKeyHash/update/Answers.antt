@@ -1,6 +1,5 @@
-use Rattle.std.proofs.Common.{refl, sym, ◌≡◌, ◌++◌, take, subst, List, ℕ}
+use Rattle.std.proofs.Common.{refl, ◌≡◌, ◌++◌, take}
 use Rattle.std.proofs.lemmas.List.{append-nil, take_all}
-use Rattle.pagable_core.specs.Data.{IsWeighed}
 use Rattle.pagable_core.proofs.Weighing.{is_weighed_more, take_next}
 use Rattle.pagable_core.proofs.storage.weigh.WeighHashKeyHash.update.Goals as goal
 
