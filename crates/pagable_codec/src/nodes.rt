@@ -1,7 +1,7 @@
 //! The values of nodes: one case for each value type of an environment.
 
-ghost use Rattle.std.specs.Prelude.{◌≡◌, ◌<◌, ◌^◌, ◌++◌, ℕ, List, Option, Some, OnOk, IfOk, IfErr, false};
-ghost use Rattle.pagable_model.specs.Refusals.{is_reading_fault, is_writing_fault};
+ghost use Rattle.std.specs.Prelude.{◌≡◌, ◌<◌, ◌^◌, ◌++◌, ℕ, List, Option, Some, OnOk, IfOk, IfErr, true};
+ghost use Rattle.pagable_model.specs.Refusals.{is_own_reading, is_own_writing};
 ghost use Rattle.pagable_model.specs.Shape.{Shape};
 ghost use Rattle.pagable_model.specs.Meaning.{Meaning};
 ghost use Rattle.pagable_model.specs.Writing.{nesting, WritesSome, Refused, IsRefusal, Grows};
@@ -74,9 +74,9 @@ pub trait NodeSet<E: Env>: Sized {
         ensures same_env { D.environment deserializer.new ≡ D.environment deserializer.old }
         ensures same_levels { D.levels deserializer.new ≡ D.levels deserializer.old };
 
-    ghost write_causes_are_own: { (e : Refusal) → write_causes e → is_writing_fault e ≡ false };
+    ghost write_causes_are_own: { (e : Refusal) → write_causes e → is_own_writing e ≡ true };
 
-    ghost read_causes_are_own: { (e : Refusal) → read_causes e → is_reading_fault e ≡ false };
+    ghost read_causes_are_own: { (e : Refusal) → read_causes e → is_own_reading e ≡ true };
 
     // A value means something, and refers to what it means to.
     ghost has_meaning: { (n : Self) → SomeMeaning (means n) };

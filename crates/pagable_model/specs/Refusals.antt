@@ -1,4 +1,5 @@
--- The numbers of the refusals, and which of them say that an input or a value is outside the wire format.
+-- The numbers of the refusals, and which of them say that an input or a value is outside the wire format,
+-- and which others readers and writers may have.
 use Rattle.std.specs.Prelude.{ℕ, Bool, true, false}
 use Rattle.pagable_model.specs.declared.error.Error.{Error}
 use Rattle.pagable_model.specs.declared.error.Error.TheVariants as errors
@@ -49,9 +50,26 @@ is_reading_fault errors.BadStaticIndex = true
 is_reading_fault errors.NoMoreKeys = true
 is_reading_fault _ = false
 
+-- Those that a reader may have of its own beside them: a pattern that isn't built, want of memory, and what it tells in words. What
+-- a pager, a storage or a writer refuses is none of them.
+abbrev pub is_own_reading : Error → Bool
+is_own_reading errors.RegexRefused = true
+is_own_reading errors.OutOfMemory = true
+is_own_reading (errors.Custom text) = true
+is_own_reading _ = false
+
 -- the refusals of a writer by which a value has no form
 abbrev pub is_writing_fault : Error → Bool
 is_writing_fault errors.TooLong = true
 is_writing_fault errors.TooDeep = true
 is_writing_fault errors.JsonNumber = true
 is_writing_fault _ = false
+
+-- Those that a writer may have of its own beside them: a static value that isn't registered, a value of a type that isn't known, want
+-- of memory, and what it tells in words. What a pager, a storage or a reader refuses is none of them.
+abbrev pub is_own_writing : Error → Bool
+is_own_writing errors.Unregistered = true
+is_own_writing errors.WrongKind = true
+is_own_writing errors.OutOfMemory = true
+is_own_writing (errors.Custom text) = true
+is_own_writing _ = false

@@ -1,10 +1,10 @@
 -- Values that are written as an index: the registry that they stand in, as the list of its values by their index.
-use Rattle.std.specs.Prelude.{◌≡◌, refl, ℕ, ◌<◌, List, map, Bool, false, Some, Ok, IsTrue}
+use Rattle.std.specs.Prelude.{◌≡◌, refl, ℕ, ◌<◌, List, map, Bool, true, false, Some, Ok, IsTrue}
 use Rattle.std.proofs.Common.{subst, sym}
 use Rattle.std.specs.List.{slice_get}
 use Rattle.pagable_model.specs.declared.error.Error.{Error}
 use Rattle.pagable_model.specs.declared.error.Error.TheVariants as errors
-use Rattle.pagable_model.specs.Refusals.{is_writing_fault}
+use Rattle.pagable_model.specs.Refusals.{is_own_writing}
 use Rattle.pagable_model.specs.Meaning.{Meaning}
 use Rattle.pagable_model.specs.Reading.{registered}
 
@@ -30,5 +30,5 @@ StandsAt plain registry value i = registered (meanings_of plain registry) i ≡ 
 abbrev pub unregistered : Error → Type 0
 unregistered e = e ≡ errors.Unregistered
 
-pub unregistered_is_own_writing : (e : Error) → unregistered e → is_writing_fault e ≡ false
-unregistered_is_own_writing e h = let P : Error → Type 0 = λ x. is_writing_fault x ≡ false in subst P (sym h) refl
+pub unregistered_is_own_writing : (e : Error) → unregistered e → is_own_writing e ≡ true
+unregistered_is_own_writing e h = let P : Error → Type 0 = λ x. is_own_writing x ≡ true in subst P (sym h) refl

@@ -1,5 +1,5 @@
 -- What `regex` builds of a text, and why it builds nothing.
-use Rattle.std.specs.Prelude.{◌≡◌, ◌≢◌, ◌⊎◌, ℕ, List, false, refl, Result, Ok}
+use Rattle.std.specs.Prelude.{◌≡◌, ◌≢◌, ◌⊎◌, ℕ, List, true, refl, Result, Ok}
 use Rattle.std.proofs.Common.{subst, sym, inl, inr}
 use Rattle.regex.specs.Failures.{IsRightKind}
 use Rattle.regex.specs.Patterns.{default_config}
@@ -12,7 +12,7 @@ use Rattle.pagable_model.specs.declared.error.Error.{Error}
 use Rattle.pagable_model.specs.declared.error.Error.TheVariants as errors
 use Rattle.pagable_model.specs.declared.numbers.ArcRef.{ArcRef}
 use Rattle.pagable_model.specs.Meaning.{Meaning, pattern}
-use Rattle.pagable_model.specs.Refusals.{is_reading_fault}
+use Rattle.pagable_model.specs.Refusals.{is_own_reading}
 
 -- The regular expression is what the grammar of `regex` reads in this text, with the default options.
 pub record IsBuiltFrom (text : List ℕ) (built : Regex) : Type 0 where
@@ -51,6 +51,6 @@ pub record ReadsNoPattern {R : Type 0} (read : Result (Meaning ArcRef × R) Erro
 abbrev pub pattern_causes : Error → Type 0
 pattern_causes e = (e ≡ errors.OutOfMemory) ⊎ (e ≡ errors.RegexRefused)
 
-pub pattern_causes_are_own : (e : Error) → pattern_causes e → is_reading_fault e ≡ false
-pattern_causes_are_own e (inl h) = let P : Error → Type 0 = λ x. is_reading_fault x ≡ false in subst P (sym h) refl
-pattern_causes_are_own e (inr h) = let P : Error → Type 0 = λ x. is_reading_fault x ≡ false in subst P (sym h) refl
+pub pattern_causes_are_own : (e : Error) → pattern_causes e → is_own_reading e ≡ true
+pattern_causes_are_own e (inl h) = let P : Error → Type 0 = λ x. is_own_reading x ≡ true in subst P (sym h) refl
+pattern_causes_are_own e (inr h) = let P : Error → Type 0 = λ x. is_own_reading x ≡ true in subst P (sym h) refl

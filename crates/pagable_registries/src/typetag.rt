@@ -1,7 +1,7 @@
 //! Tagged values: a value of one of several types is written as its type's tag and its body, and read by the reader
 //! that is registered for the tag. Registries are handed in; there are no globals.
 
-ghost use Rattle.std.specs.Prelude.{◌≡◌, ◌≤◌, ◌∷◌, [], ℕ, List, length, map, Bool, Option, Some, None, IfOk, IfErr, IfSome, IfNone, OnOk, false};
+ghost use Rattle.std.specs.Prelude.{◌≡◌, ◌≤◌, ◌∷◌, [], ℕ, List, length, map, Bool, Option, Some, None, IfOk, IfErr, IfSome, IfNone, OnOk, true};
 ghost use Rattle.std.specs.Str.{IsUtf8};
 ghost use Rattle.std.specs.String.{string_bytes};
 ghost use Rattle.pagable_model.specs.Basic.{text_form, text_at, longest};
@@ -10,7 +10,7 @@ ghost use Rattle.pagable_model.specs.Carried.{tagged_by};
 ghost use Rattle.pagable_model.specs.Gives.{Gives, memory, memory_or};
 ghost use Rattle.pagable_model.specs.Meaning.{Meaning};
 ghost use Rattle.pagable_model.specs.Reading.{read, bytes_of};
-ghost use Rattle.pagable_model.specs.Refusals.{is_reading_fault, is_writing_fault};
+ghost use Rattle.pagable_model.specs.Refusals.{is_own_reading, is_own_writing};
 ghost use Rattle.pagable_model.specs.Shape.{Shape, tagged};
 ghost use Rattle.pagable_model.specs.Standing.{handles_at, MovesOn, GivesSome, SomeMeaning};
 ghost use Rattle.pagable_model.specs.Writing.{nesting, WritesSome, Refused, IsRefusal, Grows, added};
@@ -59,7 +59,7 @@ pub trait PagableTagged<E: Env>: Sized {
 
     ghost body_has_meaning: { (x : Self) → SomeMeaning (body_means x) };
 
-    ghost body_causes_are_own: { (e : Refusal) → body_causes e → is_writing_fault e ≡ false };
+    ghost body_causes_are_own: { (e : Refusal) → body_causes e → is_own_writing e ≡ true };
 
     /// Writes the tag and then the body, whichever tags are registered. TooLong for a tag above 4,294,967,295 bytes.
     final fn serialize_tagged<S: PagableSerializer<E>>(
@@ -136,7 +136,7 @@ pub trait TagReader<E: Env, T: PagableTagged<E>>: ForTag {
         ensures same_env { D.environment deserializer.new ≡ D.environment deserializer.old }
         ensures same_levels { D.levels deserializer.new ≡ D.levels deserializer.old };
 
-    ghost read_causes_are_own: { (e : Refusal) → read_causes e → is_reading_fault e ≡ false };
+    ghost read_causes_are_own: { (e : Refusal) → read_causes e → is_own_reading e ≡ true };
 }
 
 /// A tag, and the reader of the bodies under it, which gives values of this tag.

@@ -1,10 +1,10 @@
 //! Values that are read into a box.
 
-ghost use Rattle.std.specs.Prelude.{◌≡◌, false};
+ghost use Rattle.std.specs.Prelude.{◌≡◌, true};
 ghost use Rattle.pagable_model.specs.Causes.{memory_or_is_own_reading};
 ghost use Rattle.pagable_model.specs.Gives.{memory_or};
 ghost use Rattle.pagable_model.specs.Reading.{read};
-ghost use Rattle.pagable_model.specs.Refusals.{is_reading_fault};
+ghost use Rattle.pagable_model.specs.Refusals.{is_own_reading};
 ghost use Rattle.pagable_model.specs.Standing.{handles_at, MovesOn, GivesSome};
 ghost use Rattle.pagable_model.specs.declared.error.Error.{Error as Refusal};
 
@@ -32,7 +32,7 @@ pub trait PagableBoxDeserialize<'de, E: Env>: Carried<E> + Sized {
         ensures same_env { D.environment deserializer.new ≡ D.environment deserializer.old }
         ensures same_levels { D.levels deserializer.new ≡ D.levels deserializer.old };
 
-    ghost box_causes_are_own: { (e : Refusal) → box_causes e → is_reading_fault e ≡ false };
+    ghost box_causes_are_own: { (e : Refusal) → box_causes e → is_own_reading e ≡ true };
 }
 
 /// Want of memory for the box is a cause beside those of the value.

@@ -1,9 +1,9 @@
 //! Values without references that are written and read eagerly: a caller's own types, beside the way that the same
 //! values are carried.
 
-ghost use Rattle.std.specs.Prelude.{◌≡◌, false, OnOk, IfErr};
+ghost use Rattle.std.specs.Prelude.{◌≡◌, true, OnOk, IfErr};
 ghost use Rattle.pagable_model.specs.Reading.{read};
-ghost use Rattle.pagable_model.specs.Refusals.{is_reading_fault, is_writing_fault};
+ghost use Rattle.pagable_model.specs.Refusals.{is_own_reading, is_own_writing};
 ghost use Rattle.pagable_model.specs.Shape.{Shape};
 ghost use Rattle.pagable_model.specs.Meaning.{Meaning};
 ghost use Rattle.pagable_model.specs.Standing.{handles_at, MovesOn, GivesSome, SomeMeaning};
@@ -46,7 +46,7 @@ pub trait PagableEagerSerialize<E: Env>: EagerlyCarried<E> {
         ensures same_env { S.environment serializer.new ≡ S.environment serializer.old }
         ensures same_levels { S.levels serializer.new ≡ S.levels serializer.old };
 
-    ghost eager_write_causes_are_own: { (e : Refusal) → eager_write_causes e → is_writing_fault e ≡ false };
+    ghost eager_write_causes_are_own: { (e : Refusal) → eager_write_causes e → is_own_writing e ≡ true };
 }
 
 /// A type whose values can be read eagerly.
@@ -67,5 +67,5 @@ pub trait PagableEagerDeserialize<'de, E: Env>: EagerlyCarried<E> + Sized {
         ensures same_env { D.environment deserializer.new ≡ D.environment deserializer.old }
         ensures same_levels { D.levels deserializer.new ≡ D.levels deserializer.old };
 
-    ghost eager_read_causes_are_own: { (e : Refusal) → eager_read_causes e → is_reading_fault e ≡ false };
+    ghost eager_read_causes_are_own: { (e : Refusal) → eager_read_causes e → is_own_reading e ≡ true };
 }

@@ -1,7 +1,7 @@
 //! The types that can be written and read.
 
-ghost use Rattle.std.specs.Prelude.{◌≡◌, false, OnOk, IfErr};
-ghost use Rattle.pagable_model.specs.Refusals.{is_reading_fault, is_writing_fault};
+ghost use Rattle.std.specs.Prelude.{◌≡◌, true, OnOk, IfErr};
+ghost use Rattle.pagable_model.specs.Refusals.{is_own_reading, is_own_writing};
 ghost use Rattle.pagable_model.specs.Shape.{Shape};
 ghost use Rattle.pagable_model.specs.Meaning.{Meaning};
 ghost use Rattle.pagable_model.specs.Writing.{nesting, WritesSome, Refused, IsRefusal, Grows};
@@ -42,7 +42,7 @@ pub trait PagableSerialize<E: Env>: Carried<E> {
         ensures same_env { S.environment serializer.new ≡ S.environment serializer.old }
         ensures same_levels { S.levels serializer.new ≡ S.levels serializer.old };
 
-    ghost write_causes_are_own: { (e : Refusal) → write_causes e → is_writing_fault e ≡ false };
+    ghost write_causes_are_own: { (e : Refusal) → write_causes e → is_own_writing e ≡ true };
 }
 
 /// A type whose values can be read.
@@ -63,7 +63,7 @@ pub trait PagableDeserialize<'de, E: Env>: Carried<E> + Sized {
         ensures same_env { D.environment deserializer.new ≡ D.environment deserializer.old }
         ensures same_levels { D.levels deserializer.new ≡ D.levels deserializer.old };
 
-    ghost read_causes_are_own: { (e : Refusal) → read_causes e → is_reading_fault e ≡ false };
+    ghost read_causes_are_own: { (e : Refusal) → read_causes e → is_own_reading e ≡ true };
 }
 
 /// A type of which each value has exactly one meaning.

@@ -1,9 +1,9 @@
 -- The tags of animals, and what stands under each.
-use Rattle.std.specs.Prelude.{◌≡◌, refl, ℕ, List, [], ◌∷◌, cond, false}
+use Rattle.std.specs.Prelude.{◌≡◌, refl, ℕ, List, [], ◌∷◌, cond, true}
 use Rattle.std.proofs.Common.{subst, sym}
 use Rattle.std.specs.Int.{w8}
 use Rattle.std.specs.Str.{bytes_eq}
-use Rattle.pagable_model.specs.Refusals.{is_writing_fault}
+use Rattle.pagable_model.specs.Refusals.{is_own_writing}
 use Rattle.pagable_model.specs.declared.error.Error.{Error}
 use Rattle.pagable_model.specs.declared.error.Error.TheVariants as errors
 use Rattle.pagable_model.specs.declared.numbers.ArcRef.{ArcRef}
@@ -58,5 +58,5 @@ grammar_of readers.Dog = unsigned w8
 abbrev pub wrong_kind : Error → Type 0
 wrong_kind e = e ≡ errors.WrongKind
 
-pub wrong_kind_is_own_writing : (e : Error) → wrong_kind e → is_writing_fault e ≡ false
-wrong_kind_is_own_writing e h = let P : Error → Type 0 = λ x. is_writing_fault x ≡ false in subst P (sym h) refl
+pub wrong_kind_is_own_writing : (e : Error) → wrong_kind e → is_own_writing e ≡ true
+wrong_kind_is_own_writing e h = let P : Error → Type 0 = λ x. is_own_writing x ≡ true in subst P (sym h) refl
