@@ -65,11 +65,10 @@ is_writing_fault errors.TooDeep = true
 is_writing_fault errors.JsonNumber = true
 is_writing_fault _ = false
 
--- Those that a writer may have of its own beside them: a static value that isn't registered, a value of a type that isn't known, want
--- of memory, and what it tells in words. What a pager, a storage or a reader refuses is none of them.
+-- Those that a writer may have of its own beside them: a value that isn't registered, want of memory, and what it tells in words.
+-- What a pager, a storage or a reader refuses is none of them.
 abbrev pub is_own_writing : Error → Bool
 is_own_writing errors.Unregistered = true
-is_own_writing errors.WrongKind = true
 is_own_writing errors.OutOfMemory = true
 is_own_writing (errors.Custom text) = true
 is_own_writing _ = false

@@ -115,7 +115,7 @@ fn a_tag_need_not_be_registered_to_be_written(rt: HostRuntime) -> Result<(), Fai
     let rows: [(Animal, Result<&[u8], Error>); 3] = [
         (Animal::Cat, Ok(b"\x03Cat")),
         (Animal::Dog(7), Ok(b"\x03Dog\x07")),
-        (Animal::OldCat(5), Err(Error::WrongKind)),
+        (Animal::OldCat(5), Err(Error::Unregistered)),
     ];
     for (animal, wanted) in rows {
         let found = is_written(rt.alloc(), &zoo, &animal, wanted);

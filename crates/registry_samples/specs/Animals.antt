@@ -1,11 +1,7 @@
 -- The tags of animals, and what stands under each.
-use Rattle.std.specs.Prelude.{◌≡◌, refl, ℕ, List, [], ◌∷◌, cond, true}
-use Rattle.std.proofs.Common.{subst, sym}
+use Rattle.std.specs.Prelude.{◌≡◌, refl, ℕ, List, [], ◌∷◌, cond}
 use Rattle.std.specs.Int.{w8}
 use Rattle.std.specs.Str.{bytes_eq}
-use Rattle.pagable_model.specs.Refusals.{is_own_writing}
-use Rattle.pagable_model.specs.declared.error.Error.{Error}
-use Rattle.pagable_model.specs.declared.error.Error.TheVariants as errors
 use Rattle.pagable_model.specs.declared.numbers.ArcRef.{ArcRef}
 use Rattle.pagable_model.specs.Carried.{of_tagged}
 use Rattle.pagable_model.specs.Meaning.{Meaning, none, number}
@@ -53,10 +49,3 @@ abbrev pub grammar_of : AnimalReader → Shape
 grammar_of readers.Cat = nothing
 grammar_of readers.OldCat = unsigned w8
 grammar_of readers.Dog = unsigned w8
-
--- the refusal of a cat of old
-abbrev pub wrong_kind : Error → Type 0
-wrong_kind e = e ≡ errors.WrongKind
-
-pub wrong_kind_is_own_writing : (e : Error) → wrong_kind e → is_own_writing e ≡ true
-wrong_kind_is_own_writing e h = let P : Error → Type 0 = λ x. is_own_writing x ≡ true in subst P (sym h) refl

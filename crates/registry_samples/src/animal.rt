@@ -5,8 +5,9 @@ ghost use Rattle.pagable_model.specs.Carried.{tagged_by};
 ghost use Rattle.pagable_model.specs.Causes.{memory_or_is_own_reading, memory_or_is_own_writing, never_is_own_reading};
 ghost use Rattle.pagable_model.specs.Gives.{memory_or, never};
 ghost use Rattle.pagable_model.specs.Standing.{Is};
+ghost use Rattle.pagable_model.specs.Statics.{unregistered, unregistered_is_own_writing};
 ghost use Rattle.pagable_model.specs.Tagged.{grammars};
-ghost use Rattle.registry_samples.specs.Animals.{animal_means, animal_has_meaning, tag_of, written, body_of, tag_read, grammar_of, wrong_kind, wrong_kind_is_own_writing};
+ghost use Rattle.registry_samples.specs.Animals.{animal_means, animal_has_meaning, tag_of, written, body_of, tag_read, grammar_of};
 
 use crate::zoo::Zoo;
 use pagable::{
@@ -54,11 +55,11 @@ impl PagableTagged<Zoo> for Animal {
 
     ghost body_means = { Is body_of };
 
-    ghost body_causes = { memory_or wrong_kind };
+    ghost body_causes = { memory_or unregistered };
 
     ghost body_has_meaning = { λ x. (body_of x, refl) };
 
-    ghost body_causes_are_own = { memory_or_is_own_writing wrong_kind wrong_kind_is_own_writing };
+    ghost body_causes_are_own = { memory_or_is_own_writing unregistered unregistered_is_own_writing };
 
     fn pagable_type_tag(&self) -> &'static str {
         match self {
@@ -68,7 +69,7 @@ impl PagableTagged<Zoo> for Animal {
         }
     }
 
-    /// Writes nothing of a cat, and a dog's age. A cat of old is refused with WrongKind.
+    /// Writes nothing of a cat, and a dog's age. A cat of old is refused with Unregistered.
     #[tactic(auto, using(pagable_codec::proofs::Writing::parts))]
     fn pagable_serialize_body<S: PagableSerializer<Zoo>>(
         &self,
@@ -76,7 +77,7 @@ impl PagableTagged<Zoo> for Animal {
     ) -> Result<(), Error> {
         match self {
             Animal::Cat => ().pagable_serialize(serializer),
-            Animal::OldCat(_) => Err(Error::WrongKind),
+            Animal::OldCat(_) => Err(Error::Unregistered),
             Animal::Dog(age) => age.pagable_serialize(serializer),
         }
     }
@@ -124,9 +125,9 @@ impl Carried<Zoo> for Animal {
 }
 
 impl PagableSerialize<Zoo> for Animal {
-    ghost write_causes = { memory_or (memory_or wrong_kind) };
+    ghost write_causes = { memory_or (memory_or unregistered) };
 
-    ghost write_causes_are_own = { memory_or_is_own_writing (memory_or wrong_kind) (memory_or_is_own_writing wrong_kind wrong_kind_is_own_writing) };
+    ghost write_causes_are_own = { memory_or_is_own_writing (memory_or unregistered) (memory_or_is_own_writing unregistered unregistered_is_own_writing) };
 
     fn pagable_serialize<S: PagableSerializer<Zoo>>(
         &self,

@@ -7,7 +7,7 @@ ghost use Rattle.pagable_model.specs.Gives.{either, memory, memory_or, never};
 ghost use Rattle.pagable_model.specs.Shape.{both, static_value, unsigned};
 ghost use Rattle.pagable_model.specs.Statics.{meanings_of, unregistered, unregistered_is_own_writing};
 ghost use Rattle.pagable_model.specs.Tagged.{grammars};
-ghost use Rattle.registry_samples.specs.Animals.{written, grammar_of, wrong_kind, wrong_kind_is_own_writing};
+ghost use Rattle.registry_samples.specs.Animals.{written, grammar_of};
 ghost use Rattle.registry_samples.specs.Sightings.{sighting_means, sighting_has_meaning};
 ghost use Rattle.registry_samples.specs.Words.{word};
 
@@ -36,9 +36,9 @@ impl Carried<Zoo> for Sighting {
 }
 
 impl PagableSerialize<Zoo> for Sighting {
-    ghost write_causes = { either (memory_or (memory_or wrong_kind)) (either (memory_or unregistered) memory) };
+    ghost write_causes = { either (memory_or (memory_or unregistered)) (either (memory_or unregistered) memory) };
 
-    ghost write_causes_are_own = { either_is_own_writing (memory_or (memory_or wrong_kind)) (either (memory_or unregistered) memory) (memory_or_is_own_writing (memory_or wrong_kind) (memory_or_is_own_writing wrong_kind wrong_kind_is_own_writing)) (either_is_own_writing (memory_or unregistered) memory (memory_or_is_own_writing unregistered unregistered_is_own_writing) memory_is_own_writing) };
+    ghost write_causes_are_own = { either_is_own_writing (memory_or (memory_or unregistered)) (either (memory_or unregistered) memory) (memory_or_is_own_writing (memory_or unregistered) (memory_or_is_own_writing unregistered unregistered_is_own_writing)) (either_is_own_writing (memory_or unregistered) memory (memory_or_is_own_writing unregistered unregistered_is_own_writing) memory_is_own_writing) };
 
     #[tactic(auto, using(pagable_codec::proofs::Writing::parts, pagable_traits::proofs::Parts::pairs, pagable_traits::proofs::Parts::causes))]
     fn pagable_serialize<S: PagableSerializer<Zoo>>(
