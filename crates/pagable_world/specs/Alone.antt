@@ -18,6 +18,7 @@ use Rattle.pagable_world.specs.declared.cached.CacheRow.{CacheRow}
 use Rattle.pagable_world.specs.declared.answers.Beginning.TheVariants as beginnings
 use Rattle.pagable_world.specs.declared.calls.Want.TheVariants as wants
 use Rattle.pagable_world.specs.declared.calls.Call.TheVariants as calls
+use Rattle.pagable_world.specs.declared.calls.Reply.TheVariants as replies
 use Rattle.pagable_world.specs.declared.events.TableNumber.{TableNumber}
 use Rattle.pagable_world.specs.declared.events.WorkerAnswer.TheVariants as finals
 use Rattle.pagable_world.specs.declared.events.LoadAnswer.TheVariants as ends
@@ -47,6 +48,7 @@ pub data Turn : Type 0 where
 abbrev pub turn_of : {N B W : Type 0} → Event N B W → EventReply N B W → Turn
 turn_of (events.LoadStep l) reply = of_load l.0
 turn_of (events.LoadStart h) (answers.Started (Ok (beginnings.Load l key))) = of_load l.0
+turn_of (events.Call (calls.LoadBegin h)) (answers.CallReply (replies.Begun (Ok (beginnings.Load l key)))) = of_load l.0
 turn_of (events.LoadKey k t) (answers.Started (Ok (beginnings.Load l key))) = of_load l.0
 turn_of (events.WorkerStep v) reply = of_worker v.0
 turn_of (events.WorkerItem t written) (answers.WorkerMade (Ok v)) = of_worker v.0

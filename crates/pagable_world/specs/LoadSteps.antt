@@ -26,7 +26,7 @@ use Rattle.pagable_world.specs.Whole.{Whole, Root, of_cell, of_type, of_key, Fra
 use Rattle.pagable_world.specs.Seen.{Seen}
 use Rattle.pagable_model.specs.References.{references_in, SameHandles}
 use Rattle.pagable_world.specs.Causes.{Refuses, IsFull, IsNotOpen, IsForeignLoad, OwnsLoad}
-use Rattle.pagable_world.specs.Loads.{from_cache, from_store, AskCall, AdoptCall, EndCall, HandOverCall, LoadCloses, LoadIs}
+use Rattle.pagable_world.specs.Loads.{from_cache, from_store, AskCall, AdoptCall, EndCall, HandOverCall, LoadCloses, LoadIs, IsKeyRoot}
 
 -- in a load's own steps no value is given back
 abbrev pub no_value : Unit {0}
@@ -171,8 +171,8 @@ LoadMeets m w me load e w' =
     ⊎ ((kind : Kind) × (key : ℕ) × LoadWants m load kind key × AskCall w me load.number (wants.Nested kind key) (Err e) w')
     ⊎ ((kind : Kind) × (key : ℕ) × (blob : Blob) × LoadWants m load kind key × (longest_path < length load.frames) × AskCall w me load.number (wants.Nested kind key) (Ok (from_store blob)) w' × (e ≡ errors.TooDeep))
     ⊎ ((references : List ArcRef) × (reads : LoadAdopts m load references) × AdoptCall w me load.number reads.top.kind reads.top.key no_value reads.top.node_type references (Err (e, no_value)) w')
-    ⊎ ((references : List ArcRef) × (t : ℕ) × RootIsRead m load references × (root_type load.root ≡ Some t) × EndCall w me load.number no_value t references (Err (e, Some no_value)) w')
-    ⊎ ((references : List ArcRef) × RootIsRead m load references × HandOverCall w me load.number (map (λ r. r.handle) references) (Err e) w')
+    ⊎ ((references : List ArcRef) × (t : ℕ) × RootIsRead m load references × (¬ IsKeyRoot load.root) × (root_type load.root ≡ Some t) × EndCall w me load.number no_value t references (Err (e, Some no_value)) w')
+    ⊎ ((references : List ArcRef) × RootIsRead m load references × IsKeyRoot load.root × HandOverCall w me load.number (map (λ r. r.handle) references) (Err e) w')
 
 -- The load is refused: it is closed, and all that it owns is given up.
 abbrev pub LoadFails : {N B W : Type 0} → Seen N B W → Whole → Owner → OpenLoad → Error → Whole → Type 0

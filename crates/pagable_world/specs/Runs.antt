@@ -5,6 +5,7 @@ use Rattle.pagable_world.specs.declared.calls.Call.TheVariants as calls
 use Rattle.pagable_world.specs.declared.events.Event.{Event}
 use Rattle.pagable_world.specs.declared.events.Event.TheVariants as events
 use Rattle.pagable_world.specs.declared.events.EventReply.{EventReply}
+use Rattle.pagable_world.specs.declared.rows.Owner.TheVariants as owners
 use Rattle.pagable_world.specs.Words.{Among}
 use Rattle.pagable_world.specs.Whole.{Frame, OpenLoad}
 use Rattle.pagable_world.specs.Seen.{Seen}
@@ -52,9 +53,9 @@ IsMadeOf m s' u' n x = HasValue s' n x × ValueStands m s' x (u'.tree n)
 abbrev pub IsReadOf : {N B W : Type 0} → Seen N B W → Pages N → TreeWorld → ℕ → ℕ → ℕ → Type 0
 IsReadOf m s u' n t key = ((u'.tree n).type ≡ t) × ReadsTree s.world.stored m.types key (u'.tree n)
 
--- the node was made of the innermost blob of a load
-abbrev pub IsReadByLoad : {N B W : Type 0} → Seen N B W → Pages N → TreeWorld → ℕ → Type 0
-IsReadByLoad m s u' n = (load : OpenLoad) × (top : Frame) × (rest : List Frame) × Among s.world.loads load × (load.frames ≡ top ∷ rest) × IsReadOf m s u' n top.node_type top.key
+-- the node was made of the innermost blob of such a load
+abbrev pub IsReadByLoad : {N B W : Type 0} → (OpenLoad → Type 0) → Seen N B W → Pages N → TreeWorld → ℕ → Type 0
+IsReadByLoad P m s u' n = (load : OpenLoad) × P load × (top : Frame) × (rest : List Frame) × Among s.world.loads load × (load.frames ≡ top ∷ rest) × IsReadOf m s u' n top.node_type top.key
 
 -- What a new node's tree is: that of the value that was handed in, and the node has this value; or what its key reads as.
 abbrev pub FixesTree : {N B W : Type 0} → Seen N B W → Fact N B W
@@ -63,8 +64,8 @@ FixesTree m s u (events.Call (calls.NewLoose x)) reply s' u' = (n : ℕ) → IsN
 FixesTree m s u (events.Call (calls.NewShared x)) reply s' u' = (n : ℕ) → IsNewNode u u' n → IsMadeOf m s' u' n x
 FixesTree m s u (events.Call (calls.NewPagedOut t key)) reply s' u' = (n : ℕ) → IsNewNode u u' n → IsReadOf m s u' n t key
 FixesTree m s u (events.Call (calls.LoadAdopt l kind key x)) reply s' u' = (n : ℕ) → IsNewNode u u' n → IsMadeOf m s' u' n x
-FixesTree m s u (events.LoadStep l) reply s' u' = (n : ℕ) → IsNewNode u u' n → IsReadByLoad m s u' n
-FixesTree m s u (events.WorkerStep v) reply s' u' = (n : ℕ) → IsNewNode u u' n → IsReadByLoad m s u' n
+FixesTree m s u (events.LoadStep l) reply s' u' = (n : ℕ) → IsNewNode u u' n → IsReadByLoad (λ load. load.number ≡ l) m s u' n
+FixesTree m s u (events.WorkerStep v) reply s' u' = (n : ℕ) → IsNewNode u u' n → IsReadByLoad (λ load. load.owner ≡ owners.Worker v) m s u' n
 FixesTree m s u event reply s' u' = (n : ℕ) → ¬ IsNewNode u u' n
 
 -- a step of the world with trees, to one that the pager stands for
