@@ -1,6 +1,6 @@
 //! What values are read from.
 
-ghost use Rattle.std.specs.Prelude.{◌≡◌, ◌≤◌, ◌<◌, ◌+◌, ◌-◌, ℕ, OnOk, IfOk, IfErr};
+ghost use Rattle.std.specs.Prelude.{◌≡◌, ◌≤◌, ◌<◌, ◌+◌, ◌-◌, ℕ, drop, OnOk, IfOk, IfErr};
 ghost use Rattle.std.specs.Borrow.{Lends, sem};
 ghost use Rattle.pagable_model.specs.Track.{left, GoesOn};
 ghost use Rattle.pagable_model.specs.Gives.{Gives, never};
@@ -44,6 +44,7 @@ pub trait PagableDeserializer<E: Env> {
     fn deserialize_arc(&mut self, kind: Kind) -> Result<ArcRef, Error>
         ensures of_kind { IfOk result (λ r. r.kind ≡ kind) }
         ensures gives { Gives never (λ r. (meaning_of r, rest self.new)) result (reference_at answer_at kind.0 (rest self.old).refs (rest self.old)) }
+        ensures used { rest self.new ≡ record (rest self.old) { refs = drop 1 (rest self.old).refs } }
         ensures moves { MovesOn (standing self.old) (standing self.new) }
         ensures same_env { environment self.new ≡ environment self.old }
         ensures same_levels { levels self.new ≡ levels self.old };

@@ -35,10 +35,10 @@ pub trait NodeSet<E: Env>: Sized {
     // The references in the value, in the order in which they are written.
     ghost refs_of: { Self → List Reference };
 
-    // The refusals beside the faults of a value, of the input and of references.
-    ghost write_causes: { Refusal → Type 0 };
+    // The refusals of a value type's writing and reading beside the faults of a value, of the input and of references.
+    ghost write_causes: { ℕ → Refusal → Type 0 };
 
-    ghost read_causes: { Refusal → Type 0 };
+    ghost read_causes: { ℕ → Refusal → Type 0 };
 
     /// The number of the node's value type, below 2^30.
     fn node_type(&self) -> u32
@@ -56,7 +56,7 @@ pub trait NodeSet<E: Env>: Sized {
             (own_shape (S.environment serializer.old) self.now) (S.out serializer.old) (S.out serializer.new)) }
         ensures listed { OnOk result ((S.out serializer.new).refs ≡ (S.out serializer.old).refs ++ refs_of self.now) }
         ensures refused { IfErr result (Refused (means self.now) (nesting (S.levels serializer.old) (E.parts (S.environment serializer.old))) (own_shape (S.environment serializer.old) self.now)) }
-        ensures only { IfErr result (IsRefusal write_causes) }
+        ensures only { IfErr result (IsRefusal (write_causes (type_of self.now))) }
         ensures err { Grows (S.out serializer.old) (S.out serializer.new) }
         ensures same_env { S.environment serializer.new ≡ S.environment serializer.old }
         ensures same_levels { S.levels serializer.new ≡ S.levels serializer.old };
@@ -67,16 +67,16 @@ pub trait NodeSet<E: Env>: Sized {
         alloc: Global,
         deserializer: &mut D,
     ) -> Result<Self, Error>
-        ensures gives { GivesSome read_causes means (D.rest deserializer.new) result
+        ensures gives { GivesSome (read_causes node_type) means (D.rest deserializer.new) result
             (read_typed (handles_at (D.levels deserializer.old) (E.parts (D.environment deserializer.old))) (shape_of (D.environment deserializer.old) node_type) (D.rest deserializer.old)) }
         ensures asked { IfOk result (λ x. type_of x ≡ node_type) }
         ensures moves { MovesOn (D.standing deserializer.old) (D.standing deserializer.new) }
         ensures same_env { D.environment deserializer.new ≡ D.environment deserializer.old }
         ensures same_levels { D.levels deserializer.new ≡ D.levels deserializer.old };
 
-    ghost write_causes_are_own: { (e : Refusal) → write_causes e → is_own_writing e ≡ true };
+    ghost write_causes_are_own: { (t : ℕ) (e : Refusal) → write_causes t e → is_own_writing e ≡ true };
 
-    ghost read_causes_are_own: { (e : Refusal) → read_causes e → is_own_reading e ≡ true };
+    ghost read_causes_are_own: { (t : ℕ) (e : Refusal) → read_causes t e → is_own_reading e ≡ true };
 
     // A value means something, and refers to what it means to.
     ghost has_meaning: { (n : Self) → SomeMeaning (means n) };

@@ -48,6 +48,15 @@ module _ (answer : ℕ → ℕ → ℕ → Result ArcRef Error) where
       let e : drop at (answers_from answer 0 keys) ≡ (λ k. answer at key k) ∷ drop (at + 1) (answers_from answer 0 keys) = rw none at (some_from 0 at key keys h) in
       rw e refl
 
+-- of no key, none is used; of a key that was taken, that one, whatever was answered
+used_none : (answer : ℕ → ℕ → ℕ → Result ArcRef Error) (keys reader : Track) → length keys.all ≤ keys.position
+    → rest_at (standing_of answer keys reader) ≡ record (rest_at (standing_of answer keys reader)) { refs = drop 1 (rest_at (standing_of answer keys reader)).refs }
+used_none answer keys reader h = rw (none_from answer 0 keys.position keys.all h) refl
+
+pub used_of_none : (answer : ℕ → ℕ → ℕ → Result ArcRef Error) (old new reader : Track) → new ≡ old → length old.all ≤ old.position
+    → rest_at (standing_of answer new reader) ≡ record (rest_at (standing_of answer old reader)) { refs = drop 1 (rest_at (standing_of answer old reader)).refs }
+used_of_none answer old new reader same h = rw same (used_none answer old reader h)
+
 -- what was answered is what reading gives
 pub gives_answer : (r : Result ArcRef Error) (read : Result (Meaning ArcRef × Rest Answer) Error) (after : Rest Answer) → read ≡ (r >>= λ b. Ok (meanings.reference b, after)) → Gives never (λ b. (meanings.reference b, after)) r read
 gives_answer (Ok x) read after e = e
@@ -61,6 +70,12 @@ module _ (before after : ℕ → ℕ → ℕ → Result ArcRef Error) (old new r
       let read = some_left before kind old.position key old.all (rest_at (standing_of before old reader)) found in
       let answered : r ≡ before old.position key kind = rw (← at) is in
       rw (same, moved) (gives_answer r _ _ (rw answered read))
+
+  pub took_one : rest_at (standing_of after new reader) ≡ record (rest_at (standing_of before old reader)) { refs = drop 1 (rest_at (standing_of before old reader)).refs }
+  took_one =
+      let none : 0 + old.position ≡ old.position = omega arith in
+      let from = some_from before 0 old.position key old.all found in
+      rw (same, moved, from) refl
 
   pub took_moves : old.position < length old.all → MovesOn (standing_of before old reader) (standing_of after new reader)
   took_moves h = rw (same, moved) (record {

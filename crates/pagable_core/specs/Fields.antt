@@ -1,5 +1,10 @@
 -- What the fields of serializers, deserializers and those who answer for references stand for.
-use Rattle.std.specs.Prelude.{ℕ, List}
+use Rattle.std.specs.Prelude.{◌≡◌, refl, ℕ, List, Result, Err, true}
+use Rattle.std.proofs.Common.{subst}
+use Rattle.pagable_model.specs.declared.error.Error.{Error}
+use Rattle.pagable_model.specs.declared.error.Error.TheVariants as errors
+use Rattle.pagable_model.specs.declared.numbers.ArcRef.{ArcRef}
+use Rattle.pagable_model.specs.Refusals.{may_refuse_reference}
 use Rattle.pagable_model.specs.Track.{Track}
 use Rattle.pagable_model.specs.Writing.{Out}
 use Rattle.pagable_core.specs.declared.context.reading.PagableDeserializerImpl.{PagableDeserializerImpl}
@@ -59,3 +64,12 @@ with_reader s r = record s { reader = r }
 
 abbrev pub environment_without : {E N H K V : Type 0} → NoReferences E N H K V → E
 environment_without s = s.env.now
+
+abbrev pub wrong_kind : Result ArcRef Error
+wrong_kind = Err errors.WrongKind
+
+pub wrong_kind_may_refuse : (e : Error) → wrong_kind ≡ Err e → may_refuse_reference e ≡ true
+wrong_kind_may_refuse e is =
+    let same : errors.WrongKind ≡ e = cc in
+    let P : Error → Type 0 = λ x. may_refuse_reference x ≡ true in
+    subst P same refl

@@ -59,13 +59,13 @@ impl<H: KeyHash> NodeSet<Menu<H>> for MenuNode {
 
     ghost refs_of = { λ n. [] };
 
-    ghost write_causes = { memory };
+    ghost write_causes = { λ t. memory };
 
-    ghost read_causes = { memory };
+    ghost read_causes = { λ t. memory };
 
-    ghost write_causes_are_own = { memory_is_own_writing };
+    ghost write_causes_are_own = { λ t. memory_is_own_writing };
 
-    ghost read_causes_are_own = { memory_is_own_reading };
+    ghost read_causes_are_own = { λ t. memory_is_own_reading };
 
     ghost has_meaning = { has_meaning };
 
@@ -113,6 +113,7 @@ impl<H: KeyHash> NodeSet<Menu<H>> for MenuNode {
 
 impl<H: KeyHash> InNode<Menu<H>> for Dish {
     ghost use Rattle.std.specs.Prelude.{◌≡◌, Some, refl};
+    ghost use Rattle.std.proofs.Common.{inl};
     ghost use Rattle.std.specs.Arc.{arc_value};
     ghost use Rattle.pagable_examples.specs.Menus.{dish_in, dish_number_is_small, dish_type, no_dish_type, dish_meaning, dish_meaning_back};
 
@@ -145,11 +146,16 @@ impl<H: KeyHash> InNode<Menu<H>> for Dish {
 
     ghost same_meaning = { dish_meaning };
 
+    ghost writes_as = { λ e h. h };
+
+    ghost reads_as = { λ e h. inl h };
+
     ghost meaning_back = { dish_meaning_back };
 }
 
 impl<H: KeyHash> InNode<Menu<H>> for Portion {
     ghost use Rattle.std.specs.Prelude.{◌≡◌, Some, refl};
+    ghost use Rattle.std.proofs.Common.{inl};
     ghost use Rattle.std.specs.Arc.{arc_value};
     ghost use Rattle.pagable_examples.specs.Menus.{portion_in, portion_number_is_small, portion_type, no_portion_type, portion_meaning, portion_meaning_back};
 
@@ -181,6 +187,10 @@ impl<H: KeyHash> InNode<Menu<H>> for Portion {
     ghost other_type = { no_portion_type };
 
     ghost same_meaning = { portion_meaning };
+
+    ghost writes_as = { λ e h. inl h };
+
+    ghost reads_as = { λ e h. inl h };
 
     ghost meaning_back = { portion_meaning_back };
 }

@@ -64,7 +64,7 @@ abbrev ReadsBlob : {N S E B C : Type 0} → EventSight N S E B C → E → ℕ �
 ReadsBlob m env t blob (Ok x) = IsReadFrom m env t blob x
 ReadsBlob m env t blob (Err e) = RefusesRoot m env t blob e
 
-reads-blob : {N S E B C : Type 0} (m : EventSight N S E B C) (env : E) (t : ℕ) (blob : Blob) (r : Result N Error) → IfOk r (λ x. m.machine.sight.type_of x ≡ t) → ReadsAlone m.read_causes m.machine.sight.means (record { nodes = m.machine.sight.shape_of env; parts = m.machine.sight.parts env }) t blob r → ReadsBlob m env t blob r
+reads-blob : {N S E B C : Type 0} (m : EventSight N S E B C) (env : E) (t : ℕ) (blob : Blob) (r : Result N Error) → IfOk r (λ x. m.machine.sight.type_of x ≡ t) → ReadsAlone (m.read_causes t) m.machine.sight.means (record { nodes = m.machine.sight.shape_of env; parts = m.machine.sight.parts env }) t blob r → ReadsBlob m env t blob r
 reads-blob m env t blob (Ok x) typed (after, gave) = record { own = gave.m; rest = after; read = sym (same-root m env t blob) ∙ gave.gave; typed = typed; means = gave.is }
 reads-blob m env t blob (Err e) typed (after, inl fault) = inl (sym (same-root m env t blob) ∙ fault)
 reads-blob m env t blob (Err e) typed (after, inr own) = inr own
@@ -82,11 +82,11 @@ ends-by m env w w' p row t blob (Err e) (ends.Refused d) why ended =
     (inl (subst (RefusesRoot m env t blob) same why), ended.1.0, ended.1.1)
 
 pub second-does : {N S E B C : Type 0} (m : EventSight N S E B C) (old new : Shown N S E) (before after : List FetchedRoot) (l : LoadNumber) (t : ℕ) (f : FetchedRoot) (r : Result N Error) (answer : LoadAnswer N) (steps : ℕ) → LoadTypeIs (plain old.book) l (Ok t) → HasFetched before l f → steps ≡ one_more f.steps
-    → IfOk r (λ x. m.machine.sight.type_of x ≡ t) → (env : E) → env ≡ old.env → ReadsAlone m.read_causes m.machine.sight.means (record { nodes = m.machine.sight.shape_of env; parts = m.machine.sight.parts env }) t f.blob r
+    → IfOk r (λ x. m.machine.sight.type_of x ≡ t) → (env : E) → env ≡ old.env → ReadsAlone (m.read_causes t) m.machine.sight.means (record { nodes = m.machine.sight.shape_of env; parts = m.machine.sight.parts env }) t f.blob r
     → EachLoad (plain old.book) l (λ p row. EndsRead (world_of m.machine old) p row r answer (world_of m.machine new)) → after ≡ without_load l before
     → LoadStepped m old.env (record { pager = world_of m.machine old; fetched = before }) l (Ok (record { ended = Some answer; steps = steps })) (record { pager = world_of m.machine new; fetched = after })
 second-does {E = E} m old new before after l t f r answer steps (p, row, has, (cell, at, is)) here counted typed env same reads does forgot =
-    let Reads : E → Type 0 = λ v. ReadsAlone m.read_causes m.machine.sight.means (record { nodes = m.machine.sight.shape_of v; parts = m.machine.sight.parts v }) t f.blob r in
+    let Reads : E → Type 0 = λ v. ReadsAlone (m.read_causes t) m.machine.sight.means (record { nodes = m.machine.sight.shape_of v; parts = m.machine.sight.parts v }) t f.blob r in
     let Step : ℕ → Type 0 = λ u. StepEnds m old.env (world_of m.machine old) p row u f.blob (Some answer) (world_of m.machine new) in
     let it = ends-by m old.env (world_of m.machine old) (world_of m.machine new) p row t f.blob r answer (reads-blob m old.env t f.blob r typed (subst Reads same reads)) (does p row has) in
     (p, row, cell, has, at, inr (f, here, counted, subst Step is it, forgot))

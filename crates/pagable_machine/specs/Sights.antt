@@ -26,8 +26,8 @@ abbrev pub machine_by : {N S E : Type 0} → Sight N S E → (N → List ArcRef)
 machine_by sight references digest is_closed failed =
     record { sight = sight; references = references; digest = key_of digest; blob_of = blob_of; found = λ b. blob_of (arc_value b); is_closed = is_closed; failed = failed }
 
--- with that: why a reader of values may refuse one
-abbrev pub events_by : {N S E : Type 0} → MachineSight N S E PagableData (Arc PagableData Global) → (Error → Type 0) → EventSight N S E PagableData (Arc PagableData Global)
+-- with that: why a reader of a type's values may refuse one
+abbrev pub events_by : {N S E : Type 0} → MachineSight N S E PagableData (Arc PagableData Global) → (ℕ → Error → Type 0) → EventSight N S E PagableData (Arc PagableData Global)
 events_by machine read_causes = record { machine = machine; read_causes = read_causes }
 
 -- the call is a step of the plain world

@@ -21,7 +21,7 @@ where
     E::Node: NodeSet<E>,
     ensures asked { IfOk result (λ x. E.Node.type_of x ≡ node_type) }
     ensures none { IfOk result (λ x. E.Node.refs_of x ≡ []) }
-    ensures reads { ReadsAlone E.Node.read_causes E.Node.means (record { nodes = E.Node.shape_of env.now; parts = E.parts env.now }) node_type (blob_of blob.now) result }
+    ensures reads { ReadsAlone (E.Node.read_causes node_type) E.Node.means (record { nodes = E.Node.shape_of env.now; parts = E.parts env.now }) node_type (blob_of blob.now) result }
     ensures tree { IfOk result (λ x. MeansItsTree (E.Node.means x) (record { nodes = E.Node.shape_of env.now; parts = E.parts env.now }) node_type (blob_of blob.now)) }
 {
     let session = SessionContext::new(alloc);

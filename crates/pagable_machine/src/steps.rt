@@ -174,7 +174,7 @@ where
     E::Node: NodeSet<E>,
     ensures typed { IfOk result (λ x. E.Node.type_of x ≡ node_type) }
     ensures alone { IfOk result (λ x. E.Node.refs_of x ≡ []) }
-    ensures reads { ReadsAlone E.Node.read_causes E.Node.means (record { nodes = E.Node.shape_of env.now; parts = E.parts env.now }) node_type (blob_of (arc_value row.now.blob)) result }
+    ensures reads { ReadsAlone (E.Node.read_causes node_type) E.Node.means (record { nodes = E.Node.shape_of env.now; parts = E.parts env.now }) node_type (blob_of (arc_value row.now.blob)) result }
     ensures tree { IfOk result (λ x. MeansItsTree (E.Node.means x) (record { nodes = E.Node.shape_of env.now; parts = E.parts env.now }) node_type (blob_of (arc_value row.now.blob))) }
 {
     let read = read_value(env, alloc, row.blob.as_ref(), node_type);

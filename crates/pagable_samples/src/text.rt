@@ -68,13 +68,13 @@ impl<H: KeyHash> NodeSet<TextEnv<H>> for TextNode {
 
     ghost refs_of = { λ n. [] };
 
-    ghost write_causes = { memory };
+    ghost write_causes = { λ t. memory };
 
-    ghost read_causes = { memory };
+    ghost read_causes = { λ t. memory };
 
-    ghost write_causes_are_own = { memory_is_own_writing };
+    ghost write_causes_are_own = { λ t. memory_is_own_writing };
 
-    ghost read_causes_are_own = { memory_is_own_reading };
+    ghost read_causes_are_own = { λ t. memory_is_own_reading };
 
     ghost has_meaning = { λ n. (text_of n, refl) };
 

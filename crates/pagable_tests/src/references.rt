@@ -9,7 +9,7 @@ ghost use Rattle.pagable_model.specs.Causes.{memory_is_own_writing, never_is_own
 
 use crate::equal::equal;
 use pagable::{
-    ArcRef, Carried, DataKey, Env, Error, HandleNumber, Kind, NodeNumber, PagableDeserialize,
+    ArcRef, Carried, DataKey, Env, Error, HandleNumber, Kind, NoReferences, NodeNumber, PagableDeserialize,
     PagableDeserializer, PagableDeserializerImpl, PagableSerialize, PagableSerializer,
     PagableSerializerImpl, References, SessionContext, WeighHash,
 };
@@ -94,6 +94,8 @@ impl References<TestEnv> for Places {
 
     ghost answer = { λ s place key kind. Ok (record { kind = record { 0 = kind }; node = record { 0 = 7 }; handle = record { 0 = 9 } }) };
 
+    ghost refusals = { λ s place key kind e is. let none : ⊥ = cc in absurd none };
+
     fn env(&self) -> &TestEnv {
         &self.env
     }
@@ -134,6 +136,27 @@ fn a_reference_takes_one_key(rt: HostRuntime) -> Result<(), Fail> {
     PagableDeserializer::<TestEnv>::seek(&mut source, front);
     let again = Held::pagable_deserialize(alloc, &mut source);
     equal(&rt, again, Ok(first), "first reference again");
+    Ok(())
+}
+
+#[test]
+fn a_refused_reference_uses_its_key(rt: HostRuntime) -> Result<(), Fail> {
+    let alloc = rt.alloc();
+    let env = TestEnv;
+    let session = SessionContext::new(alloc);
+    let arcs = vec![in alloc; key(5)?, key(6)?]?;
+    let nobody = NoReferences::new(&env, &session);
+    let mut source = PagableDeserializerImpl::new(b"", arcs.as_slice(), nobody);
+    for used in 1..3 {
+        let refused = Held::pagable_deserialize(alloc, &mut source);
+        equal(&rt, refused, Err(Error::WrongKind), "reference");
+        let place = PagableDeserializer::<TestEnv>::position(&source);
+        equal(&rt, place.arc_index, used, "keys used");
+    }
+    let none = Held::pagable_deserialize(alloc, &mut source);
+    equal(&rt, none, Err(Error::NoMoreKeys), "no key left");
+    let place = PagableDeserializer::<TestEnv>::position(&source);
+    equal(&rt, place.arc_index, 2, "keys used");
     Ok(())
 }
 

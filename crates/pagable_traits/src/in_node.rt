@@ -2,17 +2,20 @@
 
 ghost use Rattle.std.specs.Prelude.{◌≡◌, ◌≢◌, ◌<◌, ◌^◌, ℕ, Option, Some, None, IfOk, IfErr, option_map};
 ghost use Rattle.std.specs.Arc.{arc_value};
+ghost use Rattle.pagable_model.specs.Gives.{memory_or};
 ghost use Rattle.pagable_model.specs.Meaning.{Meaning};
 ghost use Rattle.pagable_model.specs.declared.numbers.ArcRef.{ArcRef as Reference};
+ghost use Rattle.pagable_model.specs.declared.error.Error.{Error as Refusal};
 
-use crate::traits::Carried;
+use crate::traits::{Carried, PagableDeserialize, PagableSerialize};
 use pagable_codec::{Env, NodeSet};
 use pagable_flavors::Error;
 use std::alloc::Global;
 use std::sync::Arc;
 
-/// A value type of an environment.
-pub trait InNode<E: Env>: Carried<E> + Sized
+/// A value type of an environment. It is read without borrowing from the input, so at `'static`.
+pub trait InNode<E: Env>:
+    Carried<E> + PagableSerialize<E> + PagableDeserialize<'static, E> + Sized
 where
     E::Node: NodeSet<E>,
 {
@@ -42,6 +45,11 @@ where
     ghost other_type: { (n : E.Node) → held n ≡ None → E.Node.type_of n ≢ TYPE };
 
     ghost same_meaning: { (n : E.Node) (v : Self) (m : Meaning Reference) → held n ≡ Some v → E.Node.means n m → Self.Carried.means v m };
+
+    // A node of this type is refused by the type's own causes, and when it is read, for want of memory for its place.
+    ghost writes_as: { (e : Refusal) → E.Node.write_causes TYPE e → Self.PagableSerialize.write_causes e };
+
+    ghost reads_as: { (e : Refusal) → E.Node.read_causes TYPE e → memory_or Self.PagableDeserialize.read_causes e };
 
     ghost meaning_back: { (n : E.Node) (v : Self) (m : Meaning Reference) → held n ≡ Some v → Self.Carried.means v m → E.Node.means n m };
 }

@@ -38,7 +38,7 @@ pub record Driven (N S E : Type 0) : Type 0 where
 -- reads.
 pub record EventSight (N S E B C : Type 0) : Type 1 where
   pub machine : MachineSight N S E B C
-  pub read_causes : Error → Type 0
+  pub read_causes : ℕ → Error → Type 0
 
 -- the plain world that a machine is
 pub record EventWorld : Type 0 where
@@ -72,9 +72,9 @@ pub record IsReadFrom {N S E B C : Type 0} (m : EventSight N S E B C) (env : E) 
   pub typed : m.machine.sight.type_of x ≡ t
   pub means : m.machine.sight.means x own
 
--- why the blob gives no value: by a fault, or by a cause of the reader's own
+-- why the blob gives no value of the type: by a fault, or by a cause of the type's own
 abbrev pub RefusesRoot : {N S E B C : Type 0} → EventSight N S E B C → E → ℕ → Blob → Error → Type 0
-RefusesRoot m env t blob e = (read_root m env t blob ≡ Err e) ⊎ m.read_causes e
+RefusesRoot m env t blob e = (read_root m env t blob ≡ Err e) ⊎ m.read_causes t e
 
 -- Why no handle can be made: the last number was given, where the handle by which the load was begun is still the caller's; or
 -- memory was wanting, be it for the value's place.

@@ -1,6 +1,7 @@
 //! What a deserializer asks for references.
 
-ghost use Rattle.std.specs.Prelude.{◌≡◌, ℕ, Result, Err, IfOk};
+ghost use Rattle.std.specs.Prelude.{◌≡◌, ℕ, Result, Err, IfOk, true};
+ghost use Rattle.pagable_model.specs.Refusals.{may_refuse_reference};
 ghost use Rattle.pagable_model.specs.declared.numbers.ArcRef.{ArcRef as Reference};
 ghost use Rattle.pagable_model.specs.declared.error.Error.{Error as Refusal};
 ghost use Rattle.pagable_model.specs.declared.error.Error.TheVariants.{WrongKind};
@@ -27,6 +28,9 @@ pub trait References<E: Env> {
         ensures answer { result ≡ answer self.old place key kind.0 }
         ensures same_env { environment self.new ≡ environment self.old }
         ensures same_answers { answer self.new ≡ answer self.old };
+
+    // A refusal is one that a reference may have.
+    ghost refusals: { (s : Self) (place key kind : ℕ) (e : Refusal) → answer s place key kind ≡ Err e → may_refuse_reference e ≡ true };
 }
 
 /// An environment whose values hold no references: each one that a blob asks for is WrongKind.
@@ -49,11 +53,13 @@ impl<'e, E: Env> NoReferences<'e, E> {
 }
 
 impl<'e, E: Env> References<E> for NoReferences<'e, E> {
-    ghost use Rattle.pagable_core.specs.Fields.{environment_without};
+    ghost use Rattle.pagable_core.specs.Fields.{environment_without, wrong_kind_may_refuse};
 
     ghost environment = { environment_without };
 
     ghost answer = { λ s place key kind. Err WrongKind };
+
+    ghost refusals = { λ s place key kind e is. wrong_kind_may_refuse e is };
 
     fn env(&self) -> &E {
         self.env
