@@ -188,7 +188,7 @@ impl<H: KeyHash> InNode<Menu<H>> for Portion {
 
     ghost same_meaning = { portion_meaning };
 
-    ghost writes_as = { λ e h. inl h };
+    ghost writes_as = { λ e h. h };
 
     ghost reads_as = { λ e h. inl h };
 

@@ -2,13 +2,14 @@
 
 use crate::equal::equal;
 use pagable::{
-    Env, Error, NoReferences, PagableDeserialize, PagableDeserializerImpl, PagableSerialize,
-    PagableSerializerImpl, SessionContext, WeighHash,
+    Env, Error, InNode, NoReferences, NodeSet, PagableDeserialize, PagableDeserializerImpl,
+    PagableSerialize, PagableSerializerImpl, SessionContext, WeighHash,
 };
-use pagable_examples::{Dish, Expression, Guest, Menu, Portion, Sheet, Size};
+use pagable_examples::{Dish, Expression, Guest, Menu, MenuNode, Portion, Sheet, Size};
 use std::alloc::{AllocError, Global};
 use std::fmt::Debug;
 use std::process::Abort;
+use std::sync::Arc;
 use std::test::Fail;
 
 type Card = Menu<WeighHash>;
@@ -85,6 +86,42 @@ fn an_enum_is_its_case_and_its_part(rt: HostRuntime) -> Result<(), Fail> {
     let env = Card::new();
     carried(&rt, alloc, &env, Portion::Whole, b"\x00")?;
     carried(&rt, alloc, &env, Portion::Part(300), b"\x01\xac\x02")
+}
+
+/// The node at the front of these bytes, of the type of this number.
+fn read_node(
+    alloc: Global,
+    env: &Card,
+    node_type: u32,
+    bytes: &[u8],
+) -> Result<MenuNode, Error> {
+    let session = SessionContext::new(alloc);
+    let mut source = PagableDeserializerImpl::new(bytes, &[], NoReferences::new(env, &session));
+    NodeSet::<Card>::read(node_type, alloc, &mut source)
+}
+
+#[test]
+fn a_node_holds_a_value_of_its_type(rt: HostRuntime) -> Result<(), Fail> {
+    let alloc = rt.alloc();
+    let env = Card::new();
+    let part = Arc::new(alloc, Portion::Part(300))?;
+    let node = <Portion as InNode<Card>>::into_node(part);
+    equal(&rt, NodeSet::<Card>::node_type(&node), 1, "type");
+    let refs = NodeSet::<Card>::refs(&node, alloc).ok().ok_or("refs")?;
+    equal(&rt, refs.len(), 0, "references");
+    let mut out = PagableSerializerImpl::testing_new(alloc, &env);
+    equal(&rt, node.write(&mut out), Ok(()), "written");
+    let data = out.finish().ok().ok_or("not finished")?;
+    equal(&rt, data.bytes.as_slice(), b"\x01\xac\x02", "bytes");
+    let again = read_node(alloc, &env, 1, data.bytes.as_slice()).ok().ok_or("not read")?;
+    let portion = <Portion as InNode<Card>>::from_node(alloc, &again).ok().flatten();
+    let portion = portion.ok_or("another type")?;
+    equal(&rt, portion.as_ref(), &Portion::Part(300), "value");
+    let dish = <Dish as InNode<Card>>::from_node(alloc, &again).ok().ok_or("memory")?;
+    equal(&rt, dish.is_none(), true, "no dish");
+    let unknown = read_node(alloc, &env, 2, b"\x00").err();
+    equal(&rt, unknown, Some(Error::WrongKind), "no such type");
+    Ok(())
 }
 
 #[test]
