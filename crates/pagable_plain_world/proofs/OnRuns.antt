@@ -18,7 +18,7 @@ use Rattle.pagable_world.specs.State.{one, held, pins, has_key, is_listed}
 use Rattle.pagable_world.specs.Words.{Among}
 use Rattle.pagable_world.specs.Whole.{Whole, KeyIs, HasType}
 use Rattle.pagable_world.specs.Seen.{IsLawful, IsSettled, digest}
-use Rattle.pagable_model.specs.References.{SameHandles, references_in}
+use Rattle.pagable_model.specs.References.{SameReferences, references_in}
 use Rattle.pagable_world.specs.Pages.{WellFormed, HasValue, IsWhole}
 use Rattle.pagable_world.specs.Stands.{NodeStands, here, away, none-stands, ValueStands, Represents, TreeWorld}
 use Rattle.pagable_world.specs.Interleaved.{GivesTree, ClaimsAreDistinct, IsInterleaved}
@@ -122,7 +122,7 @@ not-represented stored r = not-other-type stored (tree 1 none) refl (r.stands 1 
 
 pub lawful : IsLawful sample
 unfolding references_in
-lawful = record { some = λ x. (none, refl); refers = λ x a is. subst (λ b. SameHandles [] (references_in b)) (sym is) (λ q. refl) }
+lawful = record { some = λ x. (none, refl); refers = λ x a is. subst (λ b. SameReferences [] (references_in b)) (sym is) (λ test. refl) }
 
 not-settled : (x : ℕ) → ¬ IsSettled unsettled x
 not-settled x settled = let e : number 1 ≡ none = settled none (number 1) tt tt in absurd (cc)

@@ -5,7 +5,7 @@ use Rattle.pagable_model.specs.Blob.{Blob}
 use Rattle.pagable_model.specs.Meaning.{Meaning, lifted}
 use Rattle.pagable_model.specs.Trees.{Tree}
 use Rattle.pagable_model.specs.Canonical.{HasNoReference}
-use Rattle.pagable_model.specs.References.{references_in, SameHandles}
+use Rattle.pagable_model.specs.References.{references_in, SameReferences}
 use Rattle.pagable_world.specs.declared.rows.Owner.{Owner}
 use Rattle.pagable_world.specs.declared.rows.Owner.TheVariants as owners
 use Rattle.pagable_world.specs.declared.rows.HandleRow.{HandleRow}
@@ -115,7 +115,7 @@ MeaningsHaveNone {N} {S} {E} g =
 -- the values in memory hold no references, and mean what they refer to
 pub record HoldNoReferences {N S E : Type 0} (g : Sight N S E) (references : N → List ArcRef) (v : Shown N S E) : Type 0 where
   pub none : All (λ x. references x.1 ≡ []) v.values
-  pub refers : (x : N) (a : Meaning ArcRef) → g.means x a → SameHandles (references x) (references_in a)
+  pub refers : (x : N) (a : Meaning ArcRef) → g.means x a → SameReferences (references x) (references_in a)
 
 -- Where the values in memory hold no references, no tree has one that they stand for in the whole product.
 abbrev pub HoldersHaveNone : {N S E : Type 0} → Sight N S E → Type 0

@@ -24,7 +24,7 @@ use Rattle.pagable_world.specs.World.{greatest}
 use Rattle.pagable_world.specs.Words.{changed}
 use Rattle.pagable_world.specs.Whole.{Whole, Root, of_cell, of_type, of_key, Frame, OpenLoad, is_open_load, HasRowOf}
 use Rattle.pagable_world.specs.Seen.{Seen}
-use Rattle.pagable_model.specs.References.{references_in, SameHandles}
+use Rattle.pagable_model.specs.References.{references_in, SameReferences}
 use Rattle.pagable_world.specs.Causes.{Refuses, IsFull, IsNotOpen, IsForeignLoad, OwnsLoad}
 use Rattle.pagable_world.specs.Loads.{from_cache, from_store, AskCall, AdoptCall, EndCall, HandOverCall, LoadCloses, LoadIs, IsKeyRoot}
 
@@ -133,7 +133,7 @@ pub record LoadAdopts {N B W : Type 0} (m : Seen N B W) (load : OpenLoad) (refer
   pub frames : load.frames ≡ top ∷ below ∷ rest
   pub own : Meaning ArcRef
   pub read : IsRead m.types top own
-  pub refers : SameHandles references (references_in own)
+  pub refers : SameReferences references (references_in own)
 
 -- its value became a node
 pub record MakesNode {N B W : Type 0} (m : Seen N B W) (w : Whole) (me : Owner) (load : OpenLoad) (w' : Whole) : Type 0 where
@@ -156,7 +156,7 @@ pub record RootIsRead {N B W : Type 0} (m : Seen N B W) (load : OpenLoad) (refer
   pub frames : load.frames ≡ root ∷ []
   pub own : Meaning ArcRef
   pub read : IsRead m.types root own
-  pub refers : SameHandles references (references_in own)
+  pub refers : SameReferences references (references_in own)
 
 -- The load ends with a pin of its cell.
 abbrev pub LoadPins : {N B W : Type 0} → Seen N B W → Whole → Owner → OpenLoad → HandleNumber → Whole → Type 0

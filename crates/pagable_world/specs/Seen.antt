@@ -5,7 +5,7 @@ use Rattle.pagable_model.specs.declared.numbers.ArcRef.{ArcRef}
 use Rattle.pagable_model.specs.Meaning.{Meaning}
 use Rattle.pagable_model.specs.Blob.{Blob, key_of}
 use Rattle.pagable_model.specs.Trees.{Types}
-use Rattle.pagable_model.specs.References.{references_in, SameHandles}
+use Rattle.pagable_model.specs.References.{references_in, SameReferences}
 use Rattle.pagable_world.specs.Whole.{Written}
 
 -- What the environment and the storage say of values of the type N, blobs of the type B and what is written, of the type W:
@@ -33,7 +33,7 @@ seen_blob f (Err e) = Err e
 -- the laws of values that are asked of the caller: a value means something, and refers to what it means to
 pub record IsLawful {N B W : Type 0} (m : Seen N B W) : Type 0 where
   pub some : (x : N) → (a : Meaning ArcRef) × m.means x a
-  pub refers : (x : N) (a : Meaning ArcRef) → m.means x a → SameHandles (m.references x) (references_in a)
+  pub refers : (x : N) (a : Meaning ArcRef) → m.means x a → SameReferences (m.references x) (references_in a)
 
 -- a value of which the clauses on trees speak: it means one thing, whatever is written to it later
 abbrev pub IsSettled : {N B W : Type 0} → Seen N B W → N → Type 0
