@@ -2,7 +2,7 @@
 use Rattle.std.specs.Prelude.{ℕ, ◌≡◌, List, Result, Ok, Err}
 use Rattle.pagable_model.specs.declared.error.Error.{Error}
 use Rattle.pagable_model.specs.declared.numbers.ArcRef.{ArcRef}
-use Rattle.pagable_model.specs.Meaning.{Meaning}
+use Rattle.pagable_model.specs.Meaning.{Meaning, number, integer, text, pattern, none, pair, variant, reference, followed}
 use Rattle.pagable_model.specs.Blob.{Blob, key_of}
 use Rattle.pagable_model.specs.Trees.{Types}
 use Rattle.pagable_model.specs.References.{references_in, SameReferences}
@@ -30,10 +30,23 @@ abbrev pub seen_blob : {B : Type 0} → (B → Blob) → Result B Error → Resu
 seen_blob f (Ok b) = Ok (f b)
 seen_blob f (Err e) = Err e
 
--- the laws of values that are asked of the caller: a value means something, and refers to what it means to
+-- No reference in the meaning is followed already. A value leads to others by its handles alone.
+unfoldable pub HasNoFollowed : Meaning ArcRef → Type 0
+HasNoFollowed (number n) = Unit {0}
+HasNoFollowed (integer z) = Unit {0}
+HasNoFollowed (text t) = Unit {0}
+HasNoFollowed (pattern t) = Unit {0}
+HasNoFollowed none = Unit {0}
+HasNoFollowed (pair a b) = HasNoFollowed a × HasNoFollowed b
+HasNoFollowed (variant n a) = HasNoFollowed a
+HasNoFollowed (reference r) = Unit {0}
+HasNoFollowed (followed kind a) = ⊥
+
+-- the laws of values that are asked of the caller: a value means something, refers to what it means to, and to all of it by handles
 pub record IsLawful {N B W : Type 0} (m : Seen N B W) : Type 0 where
   pub some : (x : N) → (a : Meaning ArcRef) × m.means x a
   pub refers : (x : N) (a : Meaning ArcRef) → m.means x a → SameReferences (m.references x) (references_in a)
+  pub unfollowed : (x : N) (a : Meaning ArcRef) → m.means x a → HasNoFollowed a
 
 -- a value of which the clauses on trees speak: it means one thing, whatever is written to it later
 abbrev pub IsSettled : {N B W : Type 0} → Seen N B W → N → Type 0
