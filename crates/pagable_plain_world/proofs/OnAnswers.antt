@@ -42,7 +42,7 @@ use Rattle.pagable_plain_world.proofs.TodayLoad.{own_of}
 use Rattle.pagable_plain_world.proofs.Filters.{sum-filter-none}
 use Rattle.pagable_plain_world.proofs.OnHandles.{the-one}
 use Rattle.pagable_plain_world.proofs.OnSteps.{wants-it, not-read}
-use Rattle.pagable_plain_world.proofs.OnRuns.{no-key}
+use Rattle.pagable_plain_world.proofs.OnRuns.{no-key, not-settled}
 use Rattle.pagable_plain_world.proofs.OnTurns.{reads-bare-tree}
 
 -- ---- what is read
@@ -314,4 +314,7 @@ premises =
       not_unread = not-unread;
       well = λ key. (tree 1 none, refl, reads-bare-tree key);
       not_missing = λ key asks. let e = asks.2.reads.stored in absurd (cc);
+      held = λ stored n x has a b one other. other ∙ sym one;
+      not_held = λ stored held. not-settled 0 (held 1 0 (0, refl));
+      not_read = λ x read_it. not-settled x (read_it x refl);
     }

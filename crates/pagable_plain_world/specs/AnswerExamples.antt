@@ -10,13 +10,13 @@ use Rattle.pagable_world.specs.declared.events.EventReply.TheVariants as answers
 use Rattle.pagable_world.specs.Seen.{digest}
 use Rattle.pagable_world.specs.LoadSteps.{LoadFails}
 use Rattle.pagable_world.specs.Bounds.{LoadsAreBounded}
-use Rattle.pagable_world.specs.Premises.{ReadsItsTypes, AsksWell}
+use Rattle.pagable_world.specs.Premises.{ReadsItsTypes, HoldsSettled, ReadsSettled, AsksWell}
 use Rattle.pagable_world.specs.Interleaved.{ReadIsRight, ReadGives, AnswerLeavesAll, PublishIsKey, AnswerIsKey}
 use Rattle.pagable_world.specs.Alone.{DeepIsRefused}
 use Rattle.pagable_world.specs.Results.{IsOverResults}
 use Rattle.pagable_plain_world.specs.Samples.{new_pages, lone, first, all_of, none_of, dropped}
 use Rattle.pagable_plain_world.specs.SampleSeen.{sample, sample_types, bare, referring, reading, one_reference, claiming}
-use Rattle.pagable_plain_world.specs.SampleRuns.{empty_trees}
+use Rattle.pagable_plain_world.specs.SampleRuns.{unsettled, lone_pages, empty_trees}
 use Rattle.pagable_plain_world.specs.SampleTurns.{faulty_load, pages_of, load_event, wait_event, fail_reply}
 use Rattle.pagable_plain_world.specs.SampleAnswers.{nothing_reference, paged, nothing_trees, deep_trees, read_reply, answer_reply, publish_reply, referring_steps, run_types}
 
@@ -43,9 +43,12 @@ pub record PageOutExamples : Type 0 where
   pub over_results : IsOverResults sample [] (nothing_reference ∷ []) (digest sample bare)
   pub not_formless : (key : ℕ) → ¬ IsOverResults sample [] (one_reference ∷ []) key
 
--- Types that are read, and keys that read as the type.
+-- Types that are read, keys that read as the type, and values in memory that mean one thing each.
 pub record PremiseExamples : Type 0 where
   pub types : ReadsItsTypes sample_types
   pub not_unread : ¬ ReadsItsTypes run_types
   pub well : (key : ℕ) → AsksWell sample (new_pages (all_of bare)) (events.Call (calls.NewPagedOut 1 key)) (answers.CallReply (replies.Handle (Ok first)))
   pub not_missing : (key : ℕ) → ¬ AsksWell sample (new_pages none_of) (events.Call (calls.NewPagedOut 1 key)) (answers.CallReply (replies.Handle (Ok first)))
+  pub held : (stored : ℕ → Option Blob) → HoldsSettled sample (lone_pages stored)
+  pub not_held : (stored : ℕ → Option Blob) → ¬ HoldsSettled unsettled (lone_pages stored)
+  pub not_read : (x : ℕ) → ¬ ReadsSettled unsettled (read_reply x)
