@@ -26,6 +26,10 @@ sample_shapes (suc n) = Some shapes.nothing
 abbrev pub sample_types : Types
 sample_types = record { nodes = sample_shapes; parts = λ n. shapes.nothing }
 
+-- types of which each is a reference to the type 1
+abbrev pub ring_types : Types
+ring_types = record { nodes = λ t. Some (shapes.reference 5); parts = λ n. shapes.nothing }
+
 abbrev pub sample : Seen ℕ Blob Written
 sample = record { node_type = λ x. x; references = λ x. []; means = λ x a. a ≡ none; blob_of = λ b. b; written_of = λ w. w; types = sample_types; hash = λ bytes. [] }
 
