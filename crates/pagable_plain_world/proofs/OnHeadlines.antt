@@ -71,6 +71,7 @@ interleaved : (stored : ℕ → Option Blob) (u : TreeWorld) → IsInterleaved s
 interleaved stored u =
     record {
       pins_give = (tt, (tt, tt));
+      refuses = (tt, (tt, tt));
       reads_give = (tt, (tt, tt));
       counts = (tt, ((row_of 1 first_node modes.LoosePinned owners.Caller, ((0, refl), refl), refl), tt));
       waits = (tt, (tt, tt));

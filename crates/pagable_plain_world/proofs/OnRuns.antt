@@ -174,6 +174,7 @@ headline stored =
     nothing-yet u stands =
         record {
           pins_give = tt;
+          refuses = tt;
           reads_give = tt;
           counts = tt;
           waits = tt;

@@ -155,8 +155,11 @@ not-published w i key height none_is (slot, (among, table, kind, node), known) =
 abbrev failing_slot : SlotRow
 failing_slot = record { table = first_table; reference = one_reference; worker = first_worker; written = Some nothing_written; outcome = failed }
 
-no-slot-on : (w : Whole) (i : Identity) → w.slots ≡ [] → HasFailed w first_table i → ⊥
-no-slot-on w i none_is (slot, (among, table, kind, node), known) = let e : slice_get [] among.0 ≡ Some slot = subst (λ ss. slice_get ss among.0 ≡ Some slot) none_is among.1 in absurd (cc)
+pub unclaimed : (w : Whole) (i : Identity) (slot : SlotRow) → w.slots ≡ [] → HasSlot w first_table i slot → ⊥
+unclaimed w i slot none_is (among, table, kind, node) = let e : slice_get [] among.0 ≡ Some slot = subst (λ ss. slice_get ss among.0 ≡ Some slot) none_is among.1 in absurd (cc)
+
+pub not-failed : (w : Whole) (i : Identity) → w.slots ≡ [] → HasFailed w first_table i → ⊥
+not-failed w i none_is (slot, has, known) = unclaimed w i slot none_is has
 
 known-ended : (stored : ℕ → Option Blob) (key : ℕ) (i : Identity) (slot : SlotRow) → HasSlot (slot_known stored key) first_table i slot → slot.outcome ≢ no_result
 known-ended stored key i slot (among, table, kind, node) open_is = let e : published key 0 ≡ no_result = sym (ap (λ s. s.outcome) (the-one _ slot among)) ∙ open_is in absurd (cc)
@@ -178,7 +181,7 @@ said =
       sound = sound;
       not_lost = not-lost;
       not_same_results = λ stored key same. not-published (empty stored) first_identity key 0 refl ((same.known first_identity key 0).0 (known_slot key, ((0, refl), refl, refl, refl), refl));
-      not_forgotten = λ stored same. no-slot-on (empty stored) first_identity refl ((same.failures first_identity).0 (failing_slot, ((0, refl), refl, refl, refl), refl));
+      not_forgotten = λ stored same. not-failed (empty stored) first_identity refl ((same.failures first_identity).0 (failing_slot, ((0, refl), refl, refl, refl), refl));
       not_open_yet = λ stored same. same.ended first_identity open_slot ((0, refl), refl, refl, refl) refl;
       same_results = λ stored key. record { known = λ i k height. (λ p. p, λ p. p); failures = λ i. (λ p. p, λ p. p); ended = known-ended stored key; ended_too = known-ended stored key };
       not_read = λ key read_it. (read_it.stands (tree 1 none) refl (reads-bare-tree key)).means;

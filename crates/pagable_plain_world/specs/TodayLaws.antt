@@ -75,12 +75,15 @@ count_of node = (node.number.0, node.count)
 abbrev pub pages_of : {N S E : Type 0} → Beside → Shown N S E → Pages N
 pages_of b v = record { world = whole_of b v.book; counts = map count_of v.book.nodes; values = v.values }
 
--- how values, blobs and what is written are seen, where values have these references
+-- how values, blobs and what is written are seen, where values have these references; for what causes they are refused plays no
+-- part in the laws
 abbrev pub seen_of : {N S E : Type 0} → Sight N S E → E → (N → List ArcRef) → (List ℕ → List ℕ) → Seen N Blob Written
 seen_of g env references hash =
     record {
       node_type = g.type_of;
       references = references;
+      read_causes = λ t e. ⊥;
+      write_causes = λ t e. ⊥;
       means = g.means;
       blob_of = λ blob. blob;
       written_of = λ written. written;

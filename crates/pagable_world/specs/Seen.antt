@@ -17,6 +17,9 @@ pub record Seen (N B W : Type 0) : Type 1 where
   pub means : N → Meaning ArcRef → Type 0
   pub blob_of : B → Blob
   pub written_of : W → Written
+  -- why a reader or a writer of values of the type may refuse one, by a cause of its own
+  pub read_causes : ℕ → Error → Type 0
+  pub write_causes : ℕ → Error → Type 0
   -- how values are spelled, and the hash
   pub types : Types
   pub hash : List ℕ → List ℕ
