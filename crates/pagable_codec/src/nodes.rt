@@ -6,7 +6,7 @@ ghost use Rattle.pagable_model.specs.Shape.{Shape};
 ghost use Rattle.pagable_model.specs.Meaning.{Meaning};
 ghost use Rattle.pagable_model.specs.Writing.{nesting, WritesSome, Refused, IsRefusal, Grows};
 ghost use Rattle.pagable_model.specs.Reading.{read_typed};
-ghost use Rattle.pagable_model.specs.References.{references_in, SameHandles};
+ghost use Rattle.pagable_model.specs.References.{references_in, SameReferences};
 ghost use Rattle.pagable_model.specs.Standing.{handles_at, MovesOn, GivesSome, SomeMeaning};
 ghost use Rattle.pagable_model.specs.declared.numbers.ArcRef.{ArcRef as Reference};
 ghost use Rattle.pagable_model.specs.declared.error.Error.{Error as Refusal};
@@ -81,7 +81,7 @@ pub trait NodeSet<E: Env>: Sized {
     // A value means something, and refers to what it means to.
     ghost has_meaning: { (n : Self) → SomeMeaning (means n) };
 
-    ghost refers: { (n : Self) (m : Meaning Reference) → means n m → SameHandles (refs_of n) (references_in m) };
+    ghost refers: { (n : Self) (m : Meaning Reference) → means n m → SameReferences (refs_of n) (references_in m) };
 
     // A node's own type is there.
     ghost has_shape: { (e : E) (n : Self) → shape_of e (type_of n) ≡ Some (own_shape e n) };

@@ -4,7 +4,7 @@ use Rattle.std.specs.Prelude.{◌≡◌, ◌≢◌, ◌<◌, ◌^◌, refl, ℕ,
 use Rattle.std.specs.Arc.{arc_value}
 use Rattle.pagable_model.specs.declared.numbers.ArcRef.{ArcRef}
 use Rattle.pagable_model.specs.Meaning.{Meaning, number}
-use Rattle.pagable_model.specs.References.{references_in, SameHandles}
+use Rattle.pagable_model.specs.References.{references_in, SameReferences}
 use Rattle.pagable_model.specs.Shape.{Shape, both, text, unsigned, optional}
 use Rattle.pagable_model.specs.Standing.{Is, SomeMeaning}
 use Rattle.pagable_model.specs.Lifted.{MeansPair, MeansOption, means-none, means-some}
@@ -58,9 +58,9 @@ portion-refers _ _ means-none = refl
 portion-refers _ _ (means-some x m is) = rw is refl
 
 -- dishes and portions refer to nothing
-pub refers_to_nothing : (n : MenuNode) (m : Meaning ArcRef) → means n m → SameHandles [] (references_in m)
-refers_to_nothing (nodes.Dish d) m h = rw (dish-refers (arc_value d) m h) (λ q. refl)
-refers_to_nothing (nodes.Portion p) m h = rw (portion-refers _ m h) (λ q. refl)
+pub refers_to_nothing : (n : MenuNode) (m : Meaning ArcRef) → means n m → SameReferences [] (references_in m)
+refers_to_nothing (nodes.Dish d) m h = rw (dish-refers (arc_value d) m h) (λ is. refl)
+refers_to_nothing (nodes.Portion p) m h = rw (portion-refers _ m h) (λ is. refl)
 
 -- ---- what a node holds
 

@@ -17,7 +17,7 @@ use Rattle.pagable_model.specs.Keys.{Entry, KeyOrder, ordered, same_key, code_or
 use Rattle.pagable_model.specs.Carried.{of_entries, of_tagged, of_hash_map}
 use Rattle.pagable_model.specs.Shape.{Shape, nothing, unsigned, signed, flag, letter, duration, json, optional, outcome, list, run, array, both, sorted_map, placed_map, hash_map, sorted_set, placed_set, static_value, tagged, cases, nested}
 use Rattle.pagable_model.specs.Shape as shapes
-use Rattle.pagable_model.specs.References.{references_in, SameHandles}
+use Rattle.pagable_model.specs.References.{references_in, SameReferences}
 use Rattle.pagable_model.specs.Standing.{Answer, answer_at, handles_at}
 use Rattle.pagable_model.specs.Trees.{Tree, KeyRef, Types, blob_context, rest_of, ReadsAs, IsFollowed, number-followed, integer-followed, text-followed, pattern-followed, none-followed, pair-followed, variant-followed, reference-followed}
 use Rattle.pagable_world.specs.Shown.{Shown}
@@ -418,13 +418,13 @@ has-none types type blob own after gave =
     ap (λ (m : Meaning ArcRef). references_in m) alike.whole ∙ followed-holds-none (plain own)
 
 -- So a value that means it holds none.
-pub holds-none : {X : Type 0} (refs_of : X → List ArcRef) (x : X) (types : Types) (type : ℕ) (blob : Blob) (own : Meaning ArcRef) (after : Rest Answer) → SameHandles (refs_of x) (references_in own)
+pub holds-none : {X : Type 0} (refs_of : X → List ArcRef) (x : X) (types : Types) (type : ℕ) (blob : Blob) (own : Meaning ArcRef) (after : Rest Answer) → SameReferences (refs_of x) (references_in own)
     → read_typed (handles_at 0 types.parts) (types.nodes type) (refused_rest blob) ≡ Ok (own, after) → refs_of x ≡ []
-holds-none refs_of x types type blob own after same gave = nothing-named (refs_of x) (subst (λ rs. SameHandles rs (refs_of x)) (has-none types type blob own after gave) (λ q. sym (same q)))
+holds-none refs_of x types type blob own after same gave = nothing-named (refs_of x) (subst (λ rs. SameReferences rs (refs_of x)) (has-none types type blob own after gave) (λ is. sym (same is)))
 
 -- ---- of a result
 
-pub none-held : {X : Type 0} (own : Error → Type 0) (means : X → Meaning ArcRef → Type 0) (refs_of : X → List ArcRef) (types : Types) (type : ℕ) (blob : Blob) (r : Result X Error) → ((x : X) (m : Meaning ArcRef) → means x m → SameHandles (refs_of x) (references_in m))
+pub none-held : {X : Type 0} (own : Error → Type 0) (means : X → Meaning ArcRef → Type 0) (refs_of : X → List ArcRef) (types : Types) (type : ℕ) (blob : Blob) (r : Result X Error) → ((x : X) (m : Meaning ArcRef) → means x m → SameReferences (refs_of x) (references_in m))
     → ReadsAlone own means types type blob r → IfOk r (λ x. refs_of x ≡ [])
 none-held own means refs_of types type blob (Ok x) refers (after, gave) = holds-none refs_of x types type blob gave.m after (refers x gave.m gave.is) gave.gave
 none-held own means refs_of types type blob (Err e) refers reads = tt

@@ -1,7 +1,6 @@
 -- What each call does to a world with trees.
 use Rattle.std.proofs.Common.{◌≡◌, ℕ, ◌+◌, List, [], ◌∷◌, ◌++◌, refl, ap, sym, ◌∙◌, subst, arith, Ok, Err, Result, OnOk, OnErr, Option}
-use Rattle.std.specs.Prelude.{◌==◌, if◌then◌else◌}
-use Rattle.std.proofs.lemmas.Bool.Decides.{nat_tests}
+use Rattle.std.specs.Prelude.{true}
 use Rattle.std.proofs.lemmas.List.Sums.{sum_by-cons}
 use Rattle.pagable_model.specs.declared.error.Error.{Error}
 use Rattle.pagable_model.specs.declared.numbers.ArcRef.{ArcRef}
@@ -9,7 +8,7 @@ use Rattle.pagable_model.specs.declared.numbers.HandleNumber.{HandleNumber}
 use Rattle.pagable_model.specs.declared.numbers.LoadNumber.{LoadNumber}
 use Rattle.pagable_model.specs.Meaning.{Meaning, number, integer, text, pattern, none, pair, variant, reference, followed, rename, plain, lifted}
 use Rattle.pagable_model.specs.Trees.{Tree, tree}
-use Rattle.pagable_model.specs.References.{references_in, SameHandles}
+use Rattle.pagable_model.specs.References.{references_in, SameReferences}
 use Rattle.pagable_model.specs.Standing.{SomeMeaning}
 use Rattle.pagable_world.specs.Shown.{Shown, OnlyBook, Unchanged}
 use Rattle.pagable_world.specs.declared.rows.Mode.{Mode}
@@ -26,17 +25,13 @@ use Rattle.pagable_world.specs.MachineRuns.{LeadsOn}
 use Rattle.pagable_pager.proofs.Kept.{cells-move, loads-move}
 use Rattle.std.proofs.lemmas.List.Elements.{All-same}
 
--- the named handle is counted
-is_named : ℕ → ArcRef → ℕ
-is_named q r = if r.handle.0 == q then 1 else 0
-
 -- who names what nobody names, names nothing
-pub nothing-named : (rs : List ArcRef) → SameHandles [] rs → rs ≡ []
+pub nothing-named : (rs : List ArcRef) → SameReferences [] rs → rs ≡ []
 nothing-named [] same = refl
 nothing-named (r ∷ rs) same =
-    let counted = sum_by-cons (λ (x : ArcRef). if x.handle.0 == r.handle.0 then 1 else 0) r rs in
-    let named = same r.handle.0 in
-    absurd (grind (arith, nat_tests))
+    let counted = sum_by-cons (λ (x : ArcRef). 1) r rs in
+    let named = same (λ x. true) in
+    absurd (omega arith)
 
 both-nothing : {A : Type 0} (xs ys : List A) → xs ++ ys ≡ [] → (xs ≡ []) × (ys ≡ [])
 both-nothing [] ys e = (refl, e)
@@ -70,16 +65,16 @@ unchanged-stands g old new w same rep =
     }
 
 -- a value without references means a tree
-tree-of : {N S E : Type 0} (g : Sight N S E) (refs_of : N → List ArcRef) (x : N) → refs_of x ≡ [] → SomeMeaning (g.means x) → ((m : Meaning ArcRef) → g.means x m → SameHandles (refs_of x) (references_in m)) → (t : Tree) × MeansTree g x t
+tree-of : {N S E : Type 0} (g : Sight N S E) (refs_of : N → List ArcRef) (x : N) → refs_of x ≡ [] → SomeMeaning (g.means x) → ((m : Meaning ArcRef) → g.means x m → SameReferences (refs_of x) (references_in m)) → (t : Tree) × MeansTree g x t
 tree-of g refs_of x alone some refers =
     let m = some.0 in
-    let named = subst (λ rs. SameHandles rs (references_in m)) alone (refers m some.1) in
+    let named = subst (λ rs. SameReferences rs (references_in m)) alone (refers m some.1) in
     let is = all-followed m (nothing-named (references_in m) named) in
     (tree (g.type_of x) (plain m), record { typed = refl; means = subst (g.means x) is some.1 })
 
 -- a birth with a handle of this mode
 birth-leads : {N S E B C : Type 0} (m : MachineSight N S E B C) (old new : Shown N S E) (x : N) (mode : Mode) (w : TodayWorld) → m.references x ≡ [] → BirthOf m.sight x mode old new → SomeMeaning (m.sight.means x)
-    → ((a : Meaning ArcRef) → m.sight.means x a → SameHandles (m.references x) (references_in a)) → RepresentsToday m.sight old w
+    → ((a : Meaning ArcRef) → m.sight.means x a → SameReferences (m.references x) (references_in a)) → RepresentsToday m.sight old w
     → (w' : TodayWorld) × SameTrees w.plain.last_node w.tree w'.tree × MeansTree m.sight x (w'.tree (w.plain.last_node + 1)) × RepresentsToday m.sight new w'
 birth-leads m old new x mode w alone born some refers rep =
     let means = tree-of m.sight m.references x alone some refers in
@@ -87,14 +82,14 @@ birth-leads m old new x mode w alone born some refers rep =
     (next.0, next.2, subst (MeansTree m.sight x) (sym next.1.1) means.1, next.3)
 
 pub loose-leads : {N S E B C : Type 0} (m : MachineSight N S E B C) (old new : Shown N S E) (x : N) (r : Result HandleNumber (Error × N)) → OnOk r (m.references x ≡ []) → OnOk r (BirthOf m.sight x modes.LoosePinned old new) → OnErr r (Unchanged old new)
-    → SomeMeaning (m.sight.means x) → ((a : Meaning ArcRef) → m.sight.means x a → SameHandles (m.references x) (references_in a)) → LeadsOn m old (calls.NewLoose x) (replies.Made r) new
+    → SomeMeaning (m.sight.means x) → ((a : Meaning ArcRef) → m.sight.means x a → SameReferences (m.references x) (references_in a)) → LeadsOn m old (calls.NewLoose x) (replies.Made r) new
 loose-leads m old new x (Ok k) alone born refused some refers w rep asks =
     let next = birth-leads m old new x modes.LoosePinned w alone born some refers rep in
     (next.0, record { keeps = next.1; fixes = next.2; stands = next.3 })
 loose-leads m old new x (Err e) alone born refused some refers w rep asks = (w, record { keeps = λ n made. refl; fixes = tt; stands = unchanged-stands m.sight old new w refused rep })
 
 pub pinned-leads : {N S E B C : Type 0} (m : MachineSight N S E B C) (old new : Shown N S E) (x : N) (r : Result HandleNumber (Error × N)) → OnOk r (m.references x ≡ []) → OnOk r (BirthOf m.sight x modes.Pinned old new) → OnErr r (Unchanged old new)
-    → SomeMeaning (m.sight.means x) → ((a : Meaning ArcRef) → m.sight.means x a → SameHandles (m.references x) (references_in a)) → LeadsOn m old (calls.NewPinned x) (replies.Made r) new
+    → SomeMeaning (m.sight.means x) → ((a : Meaning ArcRef) → m.sight.means x a → SameReferences (m.references x) (references_in a)) → LeadsOn m old (calls.NewPinned x) (replies.Made r) new
 pinned-leads m old new x (Ok k) alone born refused some refers w rep asks =
     let next = birth-leads m old new x modes.Pinned w alone born some refers rep in
     (next.0, record { keeps = next.1; fixes = next.2; stands = next.3 })

@@ -1,5 +1,5 @@
 -- The references in a value.
-use Rattle.std.specs.Prelude.{ℕ, ◌≡◌, ◌++◌, ◌==◌, if◌then◌else◌, List, [], ◌∷◌, sum_by}
+use Rattle.std.specs.Prelude.{◌≡◌, ◌++◌, if◌then◌else◌, Bool, List, [], ◌∷◌, sum_by}
 use Rattle.pagable_model.specs.declared.numbers.ArcRef.{ArcRef}
 use Rattle.pagable_model.specs.Meaning.{Meaning, number, integer, text, pattern, none, pair, variant, reference, followed}
 
@@ -15,6 +15,7 @@ references_in (variant n a) = references_in a
 references_in (reference a) = a ∷ []
 references_in (followed kind a) = references_in a
 
--- The same handles are named, each as often, in any order: a hash map is written in an order of its own.
-abbrev pub SameHandles : List ArcRef → List ArcRef → Type 0
-SameHandles rs ss = (q : ℕ) → sum_by (λ (r : ArcRef). if r.handle.0 == q then 1 else 0) rs ≡ sum_by (λ (r : ArcRef). if r.handle.0 == q then 1 else 0) ss
+-- The same references, each as often, in any order, since a hash map is written in an order of its own: every test of a reference
+-- holds of as many in both.
+abbrev pub SameReferences : List ArcRef → List ArcRef → Type 0
+SameReferences rs ss = (is : ArcRef → Bool) → sum_by (λ (r : ArcRef). if is r then 1 else 0) rs ≡ sum_by (λ (r : ArcRef). if is r then 1 else 0) ss

@@ -15,6 +15,7 @@ use Rattle.pagable_model.specs.Meaning.{Meaning, none, reference, followed}
 use Rattle.pagable_model.specs.Merkle.{unfolded, KeyOf, key-of, KeyOfItem, no-keys, more-keys}
 use Rattle.pagable_model.specs.Reading.{deepest, read, read_with, read_typed}
 use Rattle.pagable_model.specs.Shape as shapes
+use Rattle.pagable_model.specs.Writing.{nesting, FormAt, NoFormOfSome}
 use Rattle.pagable_model.specs.Trees.{Tree, KeyRef, tree, key_ref, blob_context, rest_of, ReadsAs, IsFollowed, number-followed, integer-followed, text-followed, pattern-followed, none-followed, pair-followed, variant-followed, reference-followed, ReadsTree, height}
 use Rattle.pagable_world.specs.declared.rows.Owner.TheVariants as owners
 use Rattle.pagable_world.specs.State.{one}
@@ -28,21 +29,21 @@ use Rattle.pagable_world.specs.Met.{Meets, meets-of-item, meets-entry, meets-bel
 use Rattle.pagable_world.specs.Stands.{MeaningStands, none-stands}
 use Rattle.pagable_world.specs.Bounds.{Unfolds, unfolds, UnfoldsFrom, ends-here, takes-next, LoadsAreBounded}
 use Rattle.pagable_world.specs.Premises.{ReadsItsTypes}
-use Rattle.pagable_world.specs.Interleaved.{ReadIsRight, ReadGives, IsLeftPagedOut, LeavesAll, AnswerLeavesAll, PublishIsKey, IsKeyOfTask, AnswerIsKey}
+use Rattle.pagable_world.specs.Interleaved.{HasFormlessValue, RefusesFormless, ReadIsRight, ReadGives, IsLeftPagedOut, LeavesAll, AnswerLeavesAll, PublishIsKey, IsKeyOfTask, AnswerIsKey}
 use Rattle.pagable_world.specs.Alone.{IsTooDeepTask, DeepIsRefused}
 use Rattle.pagable_world.specs.Results.{kind_of_arc, HasForm, ResultStands, stands-over, ResultsStand, no-results, more-results, IsOverResults}
 use Rattle.pagable_plain_world.specs.Samples.{new_pages, first_node, all_of, none_of, dropped}
 use Rattle.pagable_plain_world.specs.SampleSeen.{sample, sample_types, bare, referring, child_kind, reading, first_table, nothing_written, one_reference, one_written, item_worker, first_identity, claiming}
-use Rattle.pagable_plain_world.specs.SampleRuns.{empty_trees}
+use Rattle.pagable_plain_world.specs.SampleRuns.{lone_pages, empty_trees}
 use Rattle.pagable_plain_world.specs.SampleTurns.{faulty_load, pages_of, load_event, wait_event, fail_reply}
 use Rattle.pagable_plain_world.specs.SampleParts.{referring_load}
-use Rattle.pagable_plain_world.specs.SampleAnswers.{nothing_reference, nothing_identity, paged_item, paged_slot, paged_worker, paged, nothing_trees, chain, deep_trees, read_reply, answer_reply, publish_reply, referring_steps, run_types}
+use Rattle.pagable_plain_world.specs.SampleAnswers.{nothing_reference, nothing_identity, paged_item, paged_slot, paged_worker, paged, nothing_trees, chain, deep_trees, read_reply, answer_reply, publish_reply, referring_steps, run_types, write_reply, nothing_pages}
 use Rattle.pagable_plain_world.specs.AnswerExamples.{ReadExamples, PageOutExamples, PremiseExamples}
 use Rattle.pagable_plain_world.proofs.TodayLoad.{own_of}
 use Rattle.pagable_plain_world.proofs.Filters.{sum-filter-none}
 use Rattle.pagable_plain_world.proofs.OnHandles.{the-one}
 use Rattle.pagable_plain_world.proofs.OnSteps.{wants-it, not-read}
-use Rattle.pagable_plain_world.proofs.OnRuns.{no-key}
+use Rattle.pagable_plain_world.proofs.OnRuns.{no-key, not-settled}
 use Rattle.pagable_plain_world.proofs.OnTurns.{reads-bare-tree}
 
 -- ---- what is read
@@ -258,6 +259,24 @@ over-results = (digest sample bare ∷ [], more-results nothing_reference 1 (dig
 no-form : (bytes : List ℕ) (references : List ArcRef) → Form ArcRef kind_of_arc sample_types.parts deepest (shapes.reference 5) none bytes references → ⊥
 no-form bytes references form = elim form [ ]
 
+formless : (stored : ℕ → Option Blob) → HasFormlessValue sample (lone_pages stored) first_node
+formless stored = (
+  0,
+  (0, refl),
+  λ shape is. let same : shape ≡ shapes.reference 5 = cc in
+      subst (λ s. NoFormOfSome (sample.means 0) (nesting 0 sample_types.parts) s) (sym same) (record { m = none; is = refl; no_form = no-form }),
+)
+
+refuses : (stored : ℕ → Option Blob) → RefusesFormless sample (lone_pages stored) (empty_trees stored) wait_event (write_reply errors.TooLong) (lone_pages stored) (empty_trees stored)
+refuses stored i e is fault = let same : i ≡ first_identity = cc in subst (λ j. HasFormlessValue sample (lone_pages stored) j.node) (sym same) (formless stored)
+
+not-of-form : (stored : ℕ → Option Blob) → ¬ RefusesFormless sample (nothing_pages stored) (empty_trees stored) wait_event (write_reply errors.TooLong) (nothing_pages stored) (empty_trees stored)
+not-of-form stored all =
+    let given = all first_identity errors.TooLong refl refl in
+    let one_is : given.0 ≡ 1 = ap (λ v. v.1) (the-one _ (1, given.0) given.1) in
+    let none_has = given.2 shapes.nothing (subst (λ n. sample_types.nodes n ≡ Some shapes.nothing) (sym one_is) refl) in
+    none_has.no_form [] [] (subst (λ a. FormAt (nesting 0 sample_types.parts) shapes.nothing a [] []) (sym none_has.is) (nothing-form deepest))
+
 has-no-form : (x : ℕ) (bytes : List ℕ) (references : List ArcRef) → x ≡ 0 → HasForm sample x bytes references → ⊥
 has-no-form x bytes references zero_is has =
     let there : Some (shapes.reference 5) ≡ Some has.shape = subst (λ n. sample_types.nodes n ≡ Some has.shape) zero_is has.is in
@@ -285,6 +304,12 @@ page-outs =
       answers = answers;
       not_other = λ stored key other all. let it = all (paged_worker key) key ((0, refl), refl) refl in other it.0.is;
       deep = deep;
+      own = λ w w'. refl;
+      not_own = λ w w' cause. cause;
+      of_writing = λ w w'. refl;
+      not_of_writing = λ w w' cause. cause;
+      refuses = refuses;
+      not_of_form = not-of-form;
       over_results = over-results;
       not_formless = not-formless;
     }
@@ -314,4 +339,7 @@ premises =
       not_unread = not-unread;
       well = λ key. (tree 1 none, refl, reads-bare-tree key);
       not_missing = λ key asks. let e = asks.2.reads.stored in absurd (cc);
+      held = λ stored n x has a b one other. other ∙ sym one;
+      not_held = λ stored held. not-settled 0 (held 1 0 (0, refl));
+      not_read = λ x read_it. not-settled x (read_it x refl);
     }

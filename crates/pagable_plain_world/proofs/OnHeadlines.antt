@@ -71,6 +71,7 @@ interleaved : (stored : ℕ → Option Blob) (u : TreeWorld) → IsInterleaved s
 interleaved stored u =
     record {
       pins_give = (tt, (tt, tt));
+      refuses = (tt, (tt, tt));
       reads_give = (tt, (tt, tt));
       counts = (tt, ((row_of 1 first_node modes.LoosePinned owners.Caller, ((0, refl), refl), refl), tt));
       waits = (tt, (tt, tt));
@@ -112,7 +113,7 @@ no-deep stored [] along = along
 no-deep stored (v ∷ vs) along = not-deep stored along.0
 
 premised : (stored : ℕ → Option Blob) → ArePremised sample (pages_of (working stored (of_item nothing_written))) (deep_moment stored ∷ [])
-premised stored = (record { settled = λ x is a b one other. other ∙ sym one; stays_open = tt; well = tt }, tt)
+premised stored = (record { settled = λ x is a b one other. other ∙ sym one; reads_settled = λ x is a b one other. other ∙ sym one; holds_settled = λ n x has a b one other. other ∙ sym one; stays_open = tt; well = tt }, tt)
 
 working-stands : (stored : ℕ → Option Blob) → Represents sample (pages_of (working stored (of_item nothing_written))) (trees_of (working stored (of_item nothing_written)))
 working-stands stored = record { same = refl; stands = λ n some. absurd (omega arith); typed = λ n some. absurd (omega arith); loads = λ load among. absurd (cc) }

@@ -6,7 +6,7 @@ use Rattle.pagable_model.specs.declared.data_key.OptionalDataKey.TheVariants as 
 use Rattle.pagable_model.specs.declared.numbers.HandleNumber.{HandleNumber}
 use Rattle.pagable_model.specs.declared.numbers.NodeNumber.{NodeNumber}
 use Rattle.pagable_model.specs.Blob.{Blob}
-use Rattle.pagable_model.specs.Meaning.{number, none}
+use Rattle.pagable_model.specs.Meaning.{number, none, reference, followed}
 use Rattle.pagable_model.specs.Trees.{Tree, tree}
 use Rattle.pagable_world.specs.declared.rows.Mode.TheVariants as modes
 use Rattle.pagable_world.specs.declared.rows.Owner.TheVariants as owners
@@ -17,8 +17,8 @@ use Rattle.pagable_world.specs.declared.events.WorkerAnswer.{WorkerAnswer}
 use Rattle.pagable_world.specs.State.{one, held, pins, has_key, is_listed}
 use Rattle.pagable_world.specs.Words.{Among}
 use Rattle.pagable_world.specs.Whole.{Whole, KeyIs, HasType}
-use Rattle.pagable_world.specs.Seen.{IsLawful, IsSettled, digest}
-use Rattle.pagable_model.specs.References.{SameHandles, references_in}
+use Rattle.pagable_world.specs.Seen.{IsLawful, HasNoFollowed, IsSettled, digest}
+use Rattle.pagable_model.specs.References.{SameReferences, references_in}
 use Rattle.pagable_world.specs.Pages.{WellFormed, HasValue, IsWhole}
 use Rattle.pagable_world.specs.Stands.{NodeStands, here, away, none-stands, ValueStands, Represents, TreeWorld}
 use Rattle.pagable_world.specs.Interleaved.{GivesTree, ClaimsAreDistinct, IsInterleaved}
@@ -28,8 +28,8 @@ use Rattle.pagable_world.specs.Over.{LoadRun, load-ends, load-goes-on, PinsOver,
 use Rattle.pagable_world.specs.Results.{ResultsStand, no-results, IsOverResults}
 use Rattle.pagable_world.specs.Handles.{row_of}
 use Rattle.pagable_plain_world.specs.Samples.{empty, new_pages, lone, first, first_node, first_load, pinned, pinned_kind, cached, dropped}
-use Rattle.pagable_plain_world.specs.SampleSeen.{sample, bare, reading, first_table, first_identity}
-use Rattle.pagable_plain_world.specs.SampleRuns.{unsettled, lone_pages, lone_trees, load_moment, call_moment, claim_event, claim_reply, one_working, twice_cached}
+use Rattle.pagable_plain_world.specs.SampleSeen.{sample, bare, reading, first_table, first_identity, one_reference}
+use Rattle.pagable_plain_world.specs.SampleRuns.{unsettled, following, misnaming, lone_pages, lone_trees, load_moment, call_moment, claim_event, claim_reply, one_working, twice_cached}
 use Rattle.pagable_plain_world.specs.RunExamples.{WholeExamples, RunExamples, FactExamples, OverExamples}
 use Rattle.pagable_plain_world.proofs.Joining.{new-is-whole}
 use Rattle.pagable_plain_world.proofs.OnHandles.{the-one, pin-examples}
@@ -121,10 +121,18 @@ not-represented : (stored : ℕ → Option Blob) → ¬ Represents sample (lone_
 not-represented stored r = not-other-type stored (tree 1 none) refl (r.stands 1 (omega arith))
 
 pub lawful : IsLawful sample
-unfolding references_in
-lawful = record { some = λ x. (none, refl); refers = λ x a is. subst (λ b. SameHandles [] (references_in b)) (sym is) (λ q. refl) }
+unfolding references_in HasNoFollowed
+lawful = record { some = λ x. (none, refl); unfollowed = λ x a is. subst HasNoFollowed (sym is) tt; refers = λ x a is. subst (λ b. SameReferences [] (references_in b)) (sym is) (λ test. refl) }
 
-not-settled : (x : ℕ) → ¬ IsSettled unsettled x
+not-followed : ¬ IsLawful following
+unfolding HasNoFollowed
+not-followed laws = laws.unfollowed 0 (followed 5 none) refl
+
+not-misnamed : ¬ IsLawful misnaming
+unfolding references_in
+not-misnamed laws = let named = laws.refers 0 (reference (record one_reference { node = record { 0 = 2 } })) refl (λ r. r.node.0 == 1) in omega arith
+
+pub not-settled : (x : ℕ) → ¬ IsSettled unsettled x
 not-settled x settled = let e : number 1 ≡ none = settled none (number 1) tt tt in absurd (cc)
 
 pub wholes : WholeExamples
@@ -141,6 +149,8 @@ wholes =
       not_kept = λ stored keeps. let e : ◌≡◌ {A = ℕ} 1 0 = ap (λ t. t.type) (keeps 1 (omega arith)) in omega arith;
       lawful = lawful;
       not_lawful = λ law. (law.some 0).1;
+      not_followed = not-followed;
+      not_misnamed = not-misnamed;
       settled = λ x a b is same. same ∙ sym is;
       not_settled = not-settled;
     }
@@ -164,6 +174,7 @@ headline stored =
     nothing-yet u stands =
         record {
           pins_give = tt;
+          refuses = tt;
           reads_give = tt;
           counts = tt;
           waits = tt;

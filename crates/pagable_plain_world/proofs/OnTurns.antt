@@ -1,6 +1,6 @@
 -- Of what single steps of workers and loads do, and of what is said of them, examples and near misses.
 use Rattle.std.proofs.Common.{◌≡◌, ℕ, [], refl, ap, sym, ◌∙◌, subst, inl, inr, arith}
-use Rattle.std.specs.Prelude.{Option, Some, None, Ok, slice_get}
+use Rattle.std.specs.Prelude.{◌≢◌, Option, Some, None, Ok, slice_get}
 use Rattle.std.proofs.lemmas.Bool.Decides.{nat_tests}
 use Rattle.pagable_model.specs.declared.error.Error.TheVariants as errors
 use Rattle.pagable_model.specs.declared.numbers.Identity.{Identity}
@@ -15,7 +15,7 @@ use Rattle.pagable_world.specs.declared.events.WorkerAnswer.{WorkerAnswer}
 use Rattle.pagable_world.specs.declared.events.WorkerAnswer.TheVariants as finals
 use Rattle.pagable_world.specs.Words.{times}
 use Rattle.pagable_world.specs.Seen.{digest}
-use Rattle.pagable_world.specs.Whole.{Whole, SlotRow, no_result, published, failed, of_item, of_cell}
+use Rattle.pagable_world.specs.Whole.{Whole, SlotRow, no_result, published, failed, of_item, of_cell, HasSlot}
 use Rattle.pagable_world.specs.Falls.{Falls, nobody}
 use Rattle.pagable_world.specs.Handles.{row_of}
 use Rattle.pagable_world.specs.LoadSteps.{LoadFails, root_frame}
@@ -23,16 +23,16 @@ use Rattle.pagable_world.specs.Met.{TableMeets, meets-of-item}
 use Rattle.pagable_world.specs.WorkerSteps.{WriteDoes, FailDoes, IsPublished, is_open}
 use Rattle.pagable_world.specs.Interleaved.{WaitsRightly, ClaimsAreMet, HasLetGo}
 use Rattle.pagable_world.specs.Alone.{DeepIsRefused, LoadIsSound, IsOfChance}
-use Rattle.pagable_world.specs.Over.{WorkerRun, worker-ends, worker-goes-on}
+use Rattle.pagable_world.specs.Over.{WorkerRun, worker-ends, worker-goes-on, HasFailed}
 use Rattle.pagable_plain_world.specs.Samples.{empty, none_of, all_of, first, second, first_node, first_load, dropped}
-use Rattle.pagable_plain_world.specs.SampleSeen.{sample, sample_types, bare, reading, first_table, first_worker, first_identity, nothing_written, one_written, one_reference, item_worker, working, answered, claimed, slot_open}
+use Rattle.pagable_plain_world.specs.SampleSeen.{sample, sample_types, bare, reading, first_table, first_worker, first_identity, nothing_written, one_written, one_reference, item_worker, working, answered, claimed, slot_open, slot_known}
 use Rattle.pagable_plain_world.specs.SampleRuns.{empty_trees}
 use Rattle.pagable_plain_world.specs.SampleTurns.{faulty_load, pinned_by_worker, written_by_worker, pages_of, trees_of, waiting_for_other, wait_event, wait_reply, fail_reply, sound_world, refused_reply, load_event, failed_slot}
 use Rattle.pagable_plain_world.specs.TurnExamples.{KindExamples, TurnExamples, SaidExamples}
 use Rattle.pagable_plain_world.proofs.Alone.{given-least}
 use Rattle.pagable_plain_world.proofs.OnHandles.{the-one}
 use Rattle.pagable_plain_world.proofs.OnSteps.{is-fault}
-use Rattle.pagable_plain_world.proofs.OnWork.{worker-stores, unfolds-bare}
+use Rattle.pagable_plain_world.proofs.OnWork.{worker-stores, unfolds-bare, not-met}
 
 pub kinds : KindExamples
 kinds = record { pin = refl; not_loose = λ fits. omega arith; mode = refl; not_unpinned = λ kind no. no }
@@ -137,7 +137,7 @@ claims-met stored slot among =
     (item_worker one_written, (0, refl), refl, meets-of-item one_written one_reference refl (0, refl))
 
 pub not-deep : (stored : ℕ → Option Blob) → ¬ DeepIsRefused sample (pages_of (empty stored)) (trees_of (working stored (of_item nothing_written))) wait_event fail_reply (pages_of (empty stored)) (trees_of (empty stored))
-not-deep stored all = elim ((all (item_worker nothing_written) ((0, refl), refl)).0 refl) [ inl (r, among, deep) ↦ absurd (cc) | inr (r, among, none_is) ↦ absurd (cc) ]
+not-deep stored all = elim ((all (item_worker nothing_written) ((0, refl), refl)).0 refl) [ inl (r, among, deep) ↦ absurd (cc) | inr (inl (r, among, none_is)) ↦ absurd (cc) | inr (inr (i, key, meets, away, deep)) ↦ not-met (working stored (of_item nothing_written)) i meets ]
 
 sound : (stored : ℕ → Option Blob) (key : ℕ) → LoadIsSound (pages_of (sound_world stored key)) (trees_of (sound_world stored key)) load_event (refused_reply errors.OutOfMemory) (pages_of (empty stored)) (trees_of (empty stored))
 sound stored key load node t h e has cell out ended = let same : e ≡ errors.OutOfMemory = cc in subst IsOfChance (sym same) tt
@@ -151,8 +151,18 @@ not-lost stored key all = all (record { number = first_load; owner = owners.Call
 pub not-published : (w : Whole) (i : Identity) (key height : ℕ) → w.slots ≡ [] → IsPublished w first_table i key height → ⊥
 not-published w i key height none_is (slot, (among, table, kind, node), known) = let e : slice_get [] among.0 ≡ Some slot = subst (λ ss. slice_get ss among.0 ≡ Some slot) none_is among.1 in absurd (cc)
 
-open-unpublished : (stored : ℕ → Option Blob) (i : Identity) (key height : ℕ) → IsPublished (slot_open stored) first_table i key height → ⊥
-open-unpublished stored i key height (slot, (among, table, kind, node), known) = let e : published key height ≡ no_result = sym known ∙ ap (λ s. s.outcome) (the-one _ slot among) in absurd (cc)
+-- the claim has failed
+abbrev failing_slot : SlotRow
+failing_slot = record { table = first_table; reference = one_reference; worker = first_worker; written = Some nothing_written; outcome = failed }
+
+pub unclaimed : (w : Whole) (i : Identity) (slot : SlotRow) → w.slots ≡ [] → HasSlot w first_table i slot → ⊥
+unclaimed w i slot none_is (among, table, kind, node) = let e : slice_get [] among.0 ≡ Some slot = subst (λ ss. slice_get ss among.0 ≡ Some slot) none_is among.1 in absurd (cc)
+
+pub not-failed : (w : Whole) (i : Identity) → w.slots ≡ [] → HasFailed w first_table i → ⊥
+not-failed w i none_is (slot, has, known) = unclaimed w i slot none_is has
+
+known-ended : (stored : ℕ → Option Blob) (key : ℕ) (i : Identity) (slot : SlotRow) → HasSlot (slot_known stored key) first_table i slot → slot.outcome ≢ no_result
+known-ended stored key i slot (among, table, kind, node) open_is = let e : published key 0 ≡ no_result = sym (ap (λ s. s.outcome) (the-one _ slot among)) ∙ open_is in absurd (cc)
 
 pub reads-bare-tree : (key : ℕ) → ReadsTree (all_of bare) sample_types key (tree 1 none)
 unfolding read read_with
@@ -171,6 +181,8 @@ said =
       sound = sound;
       not_lost = not-lost;
       not_same_results = λ stored key same. not-published (empty stored) first_identity key 0 refl ((same.known first_identity key 0).0 (known_slot key, ((0, refl), refl, refl, refl), refl));
-      same_results = λ stored. record { known = λ i key height. (λ p. absurd (open-unpublished stored i key height p), λ p. absurd (not-published (empty stored) i key height refl p)) };
+      not_forgotten = λ stored same. not-failed (empty stored) first_identity refl ((same.failures first_identity).0 (failing_slot, ((0, refl), refl, refl, refl), refl));
+      not_open_yet = λ stored same. same.ended first_identity open_slot ((0, refl), refl, refl, refl) refl;
+      same_results = λ stored key. record { known = λ i k height. (λ p. p, λ p. p); failures = λ i. (λ p. p, λ p. p); ended = known-ended stored key; ended_too = known-ended stored key };
       not_read = λ key read_it. (read_it.stands (tree 1 none) refl (reads-bare-tree key)).means;
     }

@@ -44,7 +44,7 @@ use Rattle.pagable_plain_world.proofs.Missing.{first-root}
 use Rattle.pagable_plain_world.proofs.OnHandles.{the-one, pin-examples}
 use Rattle.pagable_plain_world.proofs.OnRuns.{no-key}
 use Rattle.pagable_plain_world.proofs.OnSteps.{answers-it, starts}
-use Rattle.pagable_plain_world.proofs.OnTurns.{turns, not-published}
+use Rattle.pagable_plain_world.proofs.OnTurns.{turns, not-published, not-failed, unclaimed}
 
 -- ---- a pin that is taken back
 
@@ -167,7 +167,12 @@ item-over : PagesOutItemOver sample (pages_of (tabled none_of)) first_table noth
 item-over = (
   answered (digest sample bare),
   record { rows = refl; cells = refl; list = refl; cache = refl; stored = λ k. refl },
-  record { known = λ i key height. (λ p. absurd (not-published (answered (digest sample bare)) i key height refl p), λ p. absurd (not-published (tabled (only_of (digest sample bare) bare)) i key height refl p)) },
+  record {
+    known = λ i key height. (λ p. absurd (not-published (answered (digest sample bare)) i key height refl p), λ p. absurd (not-published (tabled (only_of (digest sample bare) bare)) i key height refl p));
+    failures = λ i. (λ p. absurd (not-failed (answered (digest sample bare)) i refl p), λ p. absurd (not-failed (tabled (only_of (digest sample bare) bare)) i refl p));
+    ended = λ i slot has without. unclaimed (answered (digest sample bare)) i slot refl has;
+    ended_too = λ i slot has without. unclaimed (tabled (only_of (digest sample bare) bare)) i slot refl has;
+  },
   inl (working none_of (of_item nothing_written), first_worker, starts.item none_of, turns.run),
 )
 

@@ -1,6 +1,7 @@
 -- Of what workers do, meet and may do in which order, and of the bounds, examples and near misses.
-use Rattle.std.proofs.Common.{◌≡◌, ℕ, ◌≤◌, Bool, true, false, List, [], ◌∷◌, ◌++◌, length, refl, ap, sym, ◌∙◌, subst, inl, inr, arith}
-use Rattle.std.specs.Prelude.{◌≢◌, Option, Some, None, Ok}
+use Rattle.std.proofs.Common.{◌≡◌, ℕ, zero, suc, ◌≤◌, Bool, true, false, List, [], ◌∷◌, ◌++◌, length, refl, ap, sym, ◌∙◌, subst, inl, inr, arith}
+use Rattle.std.specs.Prelude.{◌≢◌, Option, Some, None, Ok, slice_get}
+use Rattle.pagable_model.specs.declared.error.Error.TheVariants as errors
 use Rattle.pagable_model.specs.declared.data_key.OptionalDataKey.TheVariants as optional
 use Rattle.pagable_model.specs.declared.numbers.ArcRef.{ArcRef}
 use Rattle.pagable_model.specs.declared.numbers.Identity.{Identity}
@@ -20,13 +21,13 @@ use Rattle.pagable_world.specs.Seen.{digest}
 use Rattle.pagable_world.specs.Whole.{Whole, Written, SlotRow, OpenLoad, no_result, published, of_item, of_type}
 use Rattle.pagable_world.specs.Falls.{nobody}
 use Rattle.pagable_world.specs.Handles.{row_of}
-use Rattle.pagable_world.specs.LoadSteps.{IsRead, root_frame}
+use Rattle.pagable_world.specs.LoadSteps.{Wants, IsRead, IsFault, root_frame}
 use Rattle.pagable_world.specs.Met.{Meets, meets-of-item, meets-entry, meets-below}
 use Rattle.pagable_world.specs.WorkerSteps.{PublishDoes, ReleaseDoes, IsHeight, WorkerStepped, AreKeysOf, IsBlobOf}
 use Rattle.pagable_world.specs.Order.{Waits, no-wait, more-waits, LoadRuns, load-pins, load-goes, at-once, Walk, Walks, finds, does, no-walk, AllSteps, InOrder, OnceEach, IsBroken, is_later_of, is_claim_of, LaterKind}
-use Rattle.pagable_world.specs.Bounds.{WorkersAreBounded, Unfolds, unfolds, ends-here, LoadsAreBounded}
+use Rattle.pagable_world.specs.Bounds.{WorkersAreBounded, Unfolds, unfolds, ends-here, LeadsDown, is-there, goes-down, ReadsTooDeep, LoadsAreBounded}
 use Rattle.pagable_plain_world.specs.Samples.{none_of, all_of, only_of, first, first_node, first_load}
-use Rattle.pagable_plain_world.specs.SampleSeen.{sample, sample_types, bare, first_table, first_worker, first_identity, nothing_written, working, answered, one_reference, one_written, item_worker, slot_open, slot_known, reading_steps}
+use Rattle.pagable_plain_world.specs.SampleSeen.{sample, sample_types, ring_types, bare, referring, child_kind, first_table, first_worker, first_identity, nothing_written, working, answered, one_reference, one_written, item_worker, slot_open, slot_known, reading_steps}
 use Rattle.pagable_plain_world.specs.WorkExamples.{WorkerExamples, OrderExamples, BoundExamples}
 use Rattle.pagable_plain_world.proofs.Alone.{given-least}
 use Rattle.pagable_plain_world.proofs.OnHandles.{the-one}
@@ -72,7 +73,7 @@ not-invented stored key w' other (slot, written, ((among, table, kind, node), wo
 not-before : (stored : ℕ → Option Blob) (w' : Whole) → ¬ ReleaseDoes (slot_open stored) (item_worker one_written) first_identity w'
 not-before stored w' ((key, height, (slot, (among, table, kind, node), known)), falls) = let e : published key height ≡ no_result = sym known ∙ ap (λ s. s.outcome) (the-one _ slot among) in absurd (cc)
 
-not-met : (w : Whole) (i : Identity) → ¬ Meets w (item_worker nothing_written) i
+pub not-met : (w : Whole) (i : Identity) → ¬ Meets w (item_worker nothing_written) i
 not-met w _ (meets-of-item written r task among) = let e : written ≡ nothing_written = cc in let f : Among nothing_written.references r = subst (λ x. Among x.references r) e among in absurd (cc)
 not-met w _ (meets-entry h i task) = absurd (cc)
 not-met w _ (meets-below i slot written r meets has is among) = not-met w i meets
@@ -204,6 +205,36 @@ unfolds-bare key = unfolds 1 key 0 0 bare refl (ends-here 1 key 0 bare (reads-ba
 not-missing : (t key many longest : ℕ) → ¬ Unfolds sample_types none_of t key many longest
 not-missing t key many longest (unfolds _ _ _ _ blob is from) = absurd (cc)
 
+-- a ring of keys leads down as far as one likes
+ring-wants : Wants ring_types (root_frame 1 1 (referring 1)) child_kind 1
+unfolding read read_with
+ring-wants = (refl, λ e other. refl)
+
+ring-down : (n : ℕ) → LeadsDown ring_types (all_of (referring 1)) 1 1 n 1 1
+ring-down zero = is-there 1 1
+ring-down (suc n) = goes-down 1 1 1 n (suc n) 1 1 (referring 1) [] child_kind (omega arith) refl ring-wants (ring-down n)
+
+-- what has no key leads nowhere
+stays-there : (t key n last_type last : ℕ) → LeadsDown sample_types (all_of bare) t key n last_type last → (n ≡ 0) × (last_type ≡ t)
+stays-there t key _ _ _ (is-there _ _) = (refl, refl)
+stays-there t key _ _ _ (goes-down _ _ child n longer last_type last blob got kind one_more_is is wants leads) =
+    let same : blob ≡ bare = cc in
+    let there : slice_get bare.keys (length got) ≡ Some child = subst (λ (b : Blob). slice_get b.keys (length got) ≡ Some child) same wants.0 in
+    absurd (cc)
+
+no-fault : (last : ℕ) (got : List ArcRef) → length got ≤ 0 → ¬ IsFault sample_types (record (root_frame last 1 bare) { got = got }) errors.TooDeep
+unfolding read read_with
+no-fault last [] none_got refused = let f = refused [] refl in absurd (cc)
+no-fault last (r ∷ rs) some refused = absurd (omega arith)
+
+not-too-deep : (key : ℕ) → ¬ ReadsTooDeep sample_types (all_of bare) 1 key
+not-too-deep key (n, t, last, blob, leads, is, inl long) = let a = (stays-there 1 key n t last leads).0 in absurd (omega arith)
+not-too-deep key (n, t, last, blob, leads, is, inr (got, within, refused)) =
+    let one_is = (stays-there 1 key n t last leads).1 in
+    let same : blob ≡ bare = cc in
+    let typed = subst (λ u. IsFault sample_types (record (root_frame last u blob) { got = got }) errors.TooDeep) one_is refused in
+    no-fault last got (subst (λ (b : Blob). length got ≤ length b.keys) same within) (subst (λ b. IsFault sample_types (record (root_frame last 1 b) { got = got }) errors.TooDeep) same typed)
+
 loads-bounded : (key : ℕ) → LoadsAreBounded sample (reading_steps key 1)
 loads-bounded key load many longest among takes = let a : load.steps ≡ 1 = ap (λ l. l.steps) (the-one _ load among) in omega arith
 
@@ -217,6 +248,8 @@ bounds =
       not_idle = λ stored all. let a = all (record { number = first_worker; table = first_table; task = of_item nothing_written; steps = 5; answer = None }) (0, refl) in omega arith;
       unfolds = unfolds-bare;
       not_missing = not-missing;
+      too_deep = (129, 1, 1, referring 1, ring-down 129, refl, inl (omega arith));
+      not_too_deep = not-too-deep;
       loads = loads-bounded;
       not_longer = λ key all. let a = all (load_after key 2) 0 0 (0, refl) (1, refl, unfolds-bare key) in omega arith;
     }

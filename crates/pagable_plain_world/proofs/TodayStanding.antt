@@ -1,6 +1,5 @@
 -- What stands for a world with trees today does so by the whole product's definition, and the other way round.
 use Rattle.std.proofs.Common.{◌≡◌, ℕ, ◌<◌, ◌==◌, true, List, [], ◌∷◌, ◌++◌, sum_by, All, refl, ap, sym, ◌∙◌, subst, inl, inr, arith}
-use Rattle.std.specs.Prelude.{if◌then◌else◌}
 use Rattle.std.proofs.Math.Nat.{eq-zero-or-pos}
 use Rattle.std.proofs.lemmas.Bool.Decides.{nat_tests}
 use Rattle.std.proofs.lemmas.List.Sums.{sum_by-cons}
@@ -12,7 +11,7 @@ use Rattle.pagable_model.specs.Blob.{Blob}
 use Rattle.pagable_model.specs.Meaning.{Meaning, number, integer, text, pattern, none, pair, variant, reference, followed, rename, lifted}
 use Rattle.pagable_model.specs.Trees.{Tree, Types, ReadsTree}
 use Rattle.pagable_model.specs.Canonical.{HasNoReference}
-use Rattle.pagable_model.specs.References.{references_in, SameHandles}
+use Rattle.pagable_model.specs.References.{references_in, SameReferences}
 use Rattle.pagable_world.specs.State.{WellFormed, one, held, has_key}
 use Rattle.pagable_world.specs.Cells.{Cell, cell_of, cells_of}
 use Rattle.pagable_world.specs.World.{plain}
@@ -77,16 +76,14 @@ stands-bare m p _ _ (pair-stands x y a b f g) h = (stands-bare m p x a f (left-n
 stands-bare m p _ _ (variant-stands i x a f) h = stands-bare m p x a f h
 stands-bare m p _ _ (reference-stands r a f) h = absurd (cc)
 
--- who names no handle has no reference
-none-named : (rs ss : List ArcRef) → rs ≡ [] → SameHandles rs ss → ss ≡ []
+-- who names nothing has no reference
+none-named : (rs ss : List ArcRef) → rs ≡ [] → SameReferences rs ss → ss ≡ []
 none-named rs [] e same = refl
 none-named rs (s ∷ ss) e same =
-    let q = s.handle.0 in
-    let f : ArcRef → ℕ = λ r. if r.handle.0 == q then 1 else 0 in
+    let f : ArcRef → ℕ = λ r. 1 in
     let none : sum_by f rs ≡ 0 = ap (sum_by f) e in
     let c = sum_by-cons f s ss in
-    let one_there : f s ≡ 1 = grind (arith, nat_tests) in
-    let both = same q in
+    let both : sum_by f rs ≡ sum_by f (s ∷ ss) = same (λ r. true) in
     absurd (omega arith)
 
 -- what has a key has some key

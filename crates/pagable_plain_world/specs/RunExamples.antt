@@ -24,7 +24,7 @@ use Rattle.pagable_world.specs.Over.{LoadRun, SameParts, PinsOver, ListRun}
 use Rattle.pagable_world.specs.Results.{IsOverResults}
 use Rattle.pagable_plain_world.specs.Samples.{empty, new_pages, lone, first, second, first_node, first_load, cached, dropped}
 use Rattle.pagable_plain_world.specs.SampleSeen.{sample, bare, reading, tabled}
-use Rattle.pagable_plain_world.specs.SampleRuns.{unsettled, meaningless, lone_pages, valueless, pinned_pages, empty_trees, lone_trees, birth, birth_to, load_moment, call_moment, claim_event, claim_reply, one_working, twice_cached}
+use Rattle.pagable_plain_world.specs.SampleRuns.{unsettled, meaningless, following, misnaming, lone_pages, valueless, pinned_pages, empty_trees, lone_trees, birth, birth_to, load_moment, call_moment, claim_event, claim_reply, one_working, twice_cached}
 
 -- A pinned node has its value and its count, stands for a tree of its own type, and keeps it.
 pub record WholeExamples : Type 0 where
@@ -39,6 +39,8 @@ pub record WholeExamples : Type 0 where
   pub not_kept : (stored : ℕ → Option Blob) → ¬ KeepsTrees (lone_trees stored 0) (lone_trees stored 1)
   pub lawful : IsLawful sample
   pub not_lawful : ¬ IsLawful meaningless
+  pub not_followed : ¬ IsLawful following
+  pub not_misnamed : ¬ IsLawful misnaming
   pub settled : (x : ℕ) → IsSettled sample x
   pub not_settled : (x : ℕ) → ¬ IsSettled unsettled x
 

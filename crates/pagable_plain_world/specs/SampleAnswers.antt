@@ -1,5 +1,7 @@
 -- Small worlds in which loads and workers answer, and what they answer.
-use Rattle.std.specs.Prelude.{ℕ, zero, suc, [], ◌∷◌, Option, Some, None, Ok}
+use Rattle.std.specs.Prelude.{ℕ, zero, suc, ◌≡◌, [], ◌∷◌, Option, Some, None, Ok, Err}
+use Rattle.pagable_model.specs.declared.error.Error.{Error}
+use Rattle.pagable_model.specs.declared.error.Error.TheVariants as errors
 use Rattle.pagable_model.specs.declared.data_key.OptionalDataKey.TheVariants as optional
 use Rattle.pagable_model.specs.declared.numbers.ArcRef.{ArcRef}
 use Rattle.pagable_model.specs.declared.numbers.Identity.{Identity}
@@ -14,9 +16,11 @@ use Rattle.pagable_world.specs.declared.events.WorkerAnswer.TheVariants as final
 use Rattle.pagable_world.specs.declared.events.EventReply.{EventReply}
 use Rattle.pagable_world.specs.declared.events.EventReply.TheVariants as answers
 use Rattle.pagable_world.specs.Whole.{Whole, Written, WorkerRow, SlotRow, published}
+use Rattle.pagable_world.specs.Seen.{Seen}
+use Rattle.pagable_world.specs.Pages.{Pages}
 use Rattle.pagable_world.specs.Stands.{TreeWorld}
 use Rattle.pagable_plain_world.specs.Samples.{lone, first, first_node, all_of}
-use Rattle.pagable_plain_world.specs.SampleSeen.{referring, reading, first_table, first_worker, nothing_written, item_worker}
+use Rattle.pagable_plain_world.specs.SampleSeen.{sample, referring, reading, first_table, first_worker, first_identity, nothing_written, item_worker}
 use Rattle.pagable_plain_world.specs.SampleParts.{referring_load}
 
 -- a loose reference to a cell of the type 1, and an item of it
@@ -72,3 +76,14 @@ referring_steps key child steps = record (reading (all_of (referring child)) key
 -- values that are never read
 abbrev pub run_types : Types
 run_types = record { nodes = λ n. Some (shapes.run shapes.nothing); parts = λ n. shapes.nothing }
+
+-- an environment whose readers may refuse a pattern, and whose writers what isn't registered
+abbrev pub choosy : Seen ℕ Blob Written
+choosy = record sample { read_causes = λ t e. e ≡ errors.RegexRefused; write_causes = λ t e. e ≡ errors.Unregistered }
+
+-- a write that is refused, and a cell in memory of the type 1
+abbrev pub write_reply : Error → EventReply ℕ Blob Written
+write_reply e = answers.WorkerMoved (Ok (record { took = took.Write first_identity (Err e); answer = None; steps = 1 }))
+
+abbrev pub nothing_pages : (ℕ → Option Blob) → Pages ℕ
+nothing_pages stored = record { world = lone stored; counts = (1, 1) ∷ []; values = (1, 1) ∷ [] }

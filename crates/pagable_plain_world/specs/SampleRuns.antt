@@ -1,7 +1,7 @@
 -- Small states and moments over the small environment.
-use Rattle.std.specs.Prelude.{ℕ, [], ◌∷◌, Option, None, Ok}
+use Rattle.std.specs.Prelude.{ℕ, ◌≡◌, [], ◌∷◌, Option, None, Ok}
 use Rattle.pagable_model.specs.Blob.{Blob}
-use Rattle.pagable_model.specs.Meaning.{none}
+use Rattle.pagable_model.specs.Meaning.{none, reference, followed}
 use Rattle.pagable_model.specs.Trees.{tree}
 use Rattle.pagable_world.specs.declared.calls.Call.TheVariants as calls
 use Rattle.pagable_world.specs.declared.calls.Reply.TheVariants as replies
@@ -17,7 +17,7 @@ use Rattle.pagable_world.specs.Pages.{Pages}
 use Rattle.pagable_world.specs.Stands.{TreeWorld}
 use Rattle.pagable_world.specs.Runs.{Moment}
 use Rattle.pagable_plain_world.specs.Samples.{empty, lone, first, pinned, pinned_kind, first_load, cached}
-use Rattle.pagable_plain_world.specs.SampleSeen.{sample, first_worker, first_identity, nothing_written, working}
+use Rattle.pagable_plain_world.specs.SampleSeen.{sample, first_worker, first_identity, nothing_written, one_reference, working}
 
 -- values that may mean anything, and that mean nothing
 abbrev pub unsettled : Seen ℕ Blob Written
@@ -25,6 +25,13 @@ unsettled = record sample { means = λ x a. Unit {0} }
 
 abbrev pub meaningless : Seen ℕ Blob Written
 meaningless = record sample { means = λ x a. ⊥ }
+
+-- values that mean a reference that is followed already; and values that name a handle, and mean it as one of another node
+abbrev pub following : Seen ℕ Blob Written
+following = record sample { means = λ x a. a ≡ followed 5 none }
+
+abbrev pub misnaming : Seen ℕ Blob Written
+misnaming = record sample { references = λ x. one_reference ∷ []; means = λ x a. a ≡ reference (record one_reference { node = record { 0 = 2 } }) }
 
 -- the caller's lone cell with its value; without it; and with a second pin
 abbrev pub lone_pages : (ℕ → Option Blob) → Pages ℕ

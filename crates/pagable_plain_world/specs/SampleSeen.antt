@@ -1,5 +1,6 @@
 -- A small environment: values are numbers, each of the type that it names and meaning nothing more; a value of the type 0 is read
--- as a reference of the kind 5, to one of the type 1, and one of every other type has no byte.
+-- as a reference of the kind 5, to one of the type 1, and one of every other type has no byte. Readers and writers have no causes
+-- of their own.
 use Rattle.std.specs.Prelude.{ℕ, zero, suc, ◌≡◌, [], ◌∷◌, Option, Some, None}
 use Rattle.pagable_model.specs.declared.numbers.ArcRef.{ArcRef}
 use Rattle.pagable_model.specs.declared.numbers.Identity.{Identity}
@@ -26,8 +27,12 @@ sample_shapes (suc n) = Some shapes.nothing
 abbrev pub sample_types : Types
 sample_types = record { nodes = sample_shapes; parts = λ n. shapes.nothing }
 
+-- types of which each is a reference to the type 1
+abbrev pub ring_types : Types
+ring_types = record { nodes = λ t. Some (shapes.reference 5); parts = λ n. shapes.nothing }
+
 abbrev pub sample : Seen ℕ Blob Written
-sample = record { node_type = λ x. x; references = λ x. []; means = λ x a. a ≡ none; blob_of = λ b. b; written_of = λ w. w; types = sample_types; hash = λ bytes. [] }
+sample = record { node_type = λ x. x; references = λ x. []; means = λ x a. a ≡ none; blob_of = λ b. b; written_of = λ w. w; read_causes = λ t e. ⊥; write_causes = λ t e. ⊥; types = sample_types; hash = λ bytes. [] }
 
 -- a blob with nothing in it, and one with a key
 abbrev pub bare : Blob

@@ -5,7 +5,7 @@ use Rattle.pagable_model.specs.Blob.{Blob}
 use Rattle.pagable_model.specs.Meaning.{Meaning, lifted}
 use Rattle.pagable_model.specs.Trees.{Tree}
 use Rattle.pagable_model.specs.Canonical.{HasNoReference}
-use Rattle.pagable_model.specs.References.{references_in, SameHandles}
+use Rattle.pagable_model.specs.References.{references_in, SameReferences}
 use Rattle.pagable_world.specs.declared.rows.Owner.{Owner}
 use Rattle.pagable_world.specs.declared.rows.Owner.TheVariants as owners
 use Rattle.pagable_world.specs.declared.rows.HandleRow.{HandleRow}
@@ -75,12 +75,15 @@ count_of node = (node.number.0, node.count)
 abbrev pub pages_of : {N S E : Type 0} → Beside → Shown N S E → Pages N
 pages_of b v = record { world = whole_of b v.book; counts = map count_of v.book.nodes; values = v.values }
 
--- how values, blobs and what is written are seen, where values have these references
+-- how values, blobs and what is written are seen, where values have these references; for what causes they are refused plays no
+-- part in the laws
 abbrev pub seen_of : {N S E : Type 0} → Sight N S E → E → (N → List ArcRef) → (List ℕ → List ℕ) → Seen N Blob Written
 seen_of g env references hash =
     record {
       node_type = g.type_of;
       references = references;
+      read_causes = λ t e. ⊥;
+      write_causes = λ t e. ⊥;
       means = g.means;
       blob_of = λ blob. blob;
       written_of = λ written. written;
@@ -115,7 +118,7 @@ MeaningsHaveNone {N} {S} {E} g =
 -- the values in memory hold no references, and mean what they refer to
 pub record HoldNoReferences {N S E : Type 0} (g : Sight N S E) (references : N → List ArcRef) (v : Shown N S E) : Type 0 where
   pub none : All (λ x. references x.1 ≡ []) v.values
-  pub refers : (x : N) (a : Meaning ArcRef) → g.means x a → SameHandles (references x) (references_in a)
+  pub refers : (x : N) (a : Meaning ArcRef) → g.means x a → SameReferences (references x) (references_in a)
 
 -- Where the values in memory hold no references, no tree has one that they stand for in the whole product.
 abbrev pub HoldersHaveNone : {N S E : Type 0} → Sight N S E → Type 0

@@ -57,5 +57,7 @@ pub record SaidExamples : Type 0 where
   pub sound : (stored : ℕ → Option Blob) (key : ℕ) → LoadIsSound (pages_of (sound_world stored key)) (trees_of (sound_world stored key)) load_event (refused_reply errors.OutOfMemory) (pages_of (empty stored)) (trees_of (empty stored))
   pub not_lost : (stored : ℕ → Option Blob) (key : ℕ) → ¬ LoadIsSound (pages_of (sound_world stored key)) (trees_of (sound_world stored key)) load_event (refused_reply (errors.NoData key)) (pages_of (empty stored)) (trees_of (empty stored))
   pub not_same_results : (stored : ℕ → Option Blob) (key : ℕ) → ¬ SameResults (slot_known stored key) first_table (empty stored) first_table
-  pub same_results : (stored : ℕ → Option Blob) → SameResults (slot_open stored) first_table (empty stored) first_table
+  pub not_forgotten : (stored : ℕ → Option Blob) → ¬ SameResults (failed_slot stored) first_table (empty stored) first_table
+  pub not_open_yet : (stored : ℕ → Option Blob) → ¬ SameResults (slot_open stored) first_table (slot_open stored) first_table
+  pub same_results : (stored : ℕ → Option Blob) (key : ℕ) → SameResults (slot_known stored key) first_table (slot_known stored key) first_table
   pub not_read : (key : ℕ) → ¬ ReadIsRight meaningless (pages_of (empty (all_of bare))) key 1

@@ -13,9 +13,9 @@ use Rattle.pagable_world.specs.Whole.{Whole, Written, of_item}
 use Rattle.pagable_world.specs.Met.{Meets}
 use Rattle.pagable_world.specs.WorkerSteps.{ClaimFinds, PublishDoes, ReleaseDoes, IsHeight, WorkerStepped}
 use Rattle.pagable_world.specs.Order.{Waits, LoadRuns, PinsFirst, Walk, AllSteps, InOrder, OnceEach}
-use Rattle.pagable_world.specs.Bounds.{WorkersAreBounded, Unfolds, LoadsAreBounded}
+use Rattle.pagable_world.specs.Bounds.{WorkersAreBounded, Unfolds, ReadsTooDeep, LoadsAreBounded}
 use Rattle.pagable_plain_world.specs.Samples.{none_of, all_of, first}
-use Rattle.pagable_plain_world.specs.SampleSeen.{sample, sample_types, bare, first_table, first_worker, first_identity, nothing_written, working, answered, claiming, claimed, one_reference, one_written, item_worker, slot_open, slot_known, reading_steps, tired}
+use Rattle.pagable_plain_world.specs.SampleSeen.{sample, sample_types, ring_types, bare, referring, first_table, first_worker, first_identity, nothing_written, working, answered, claiming, claimed, one_reference, one_written, item_worker, slot_open, slot_known, reading_steps, tired}
 
 -- A worker stores its item in the end and answers its key; it claims no reference that lies too deep, publishes no key but that
 -- of what it wrote, and gives nothing up before.
@@ -51,11 +51,13 @@ pub record OrderExamples : Type 0 where
   pub once : OnceEach {W = Written} (took.Claim first_identity (Ok claims.Claimed) ∷ [])
   pub not_twice : ¬ OnceEach {W = Written} (took.Claim first_identity (Ok claims.Claimed) ∷ took.Claim first_identity (Ok claims.Claimed) ∷ [])
 
--- Steps are counted against what there is to do.
+-- Steps are counted against what there is to do; a ring of keys reads too deep, and what has no key doesn't.
 pub record BoundExamples : Type 0 where
   pub workers : (stored : ℕ → Option Blob) → WorkersAreBounded (working stored (of_item nothing_written))
   pub not_idle : (stored : ℕ → Option Blob) → ¬ WorkersAreBounded (tired stored)
   pub unfolds : (key : ℕ) → Unfolds sample_types (all_of bare) 1 key 0 0
   pub not_missing : (t key many longest : ℕ) → ¬ Unfolds sample_types none_of t key many longest
+  pub too_deep : ReadsTooDeep ring_types (all_of (referring 1)) 1 1
+  pub not_too_deep : (key : ℕ) → ¬ ReadsTooDeep sample_types (all_of bare) 1 key
   pub loads : (key : ℕ) → LoadsAreBounded sample (reading_steps key 1)
   pub not_longer : (key : ℕ) → ¬ LoadsAreBounded sample (reading_steps key 2)

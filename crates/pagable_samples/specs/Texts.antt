@@ -4,7 +4,7 @@ use Rattle.std.specs.Arc.{arc_value}
 use Rattle.std.specs.String.{string_bytes}
 use Rattle.pagable_model.specs.Meaning.{Meaning}
 use Rattle.pagable_model.specs.Meaning as meanings
-use Rattle.pagable_model.specs.References.{references_in, SameHandles}
+use Rattle.pagable_model.specs.References.{references_in, SameReferences}
 use Rattle.pagable_model.specs.Shape.{Shape, text}
 use Rattle.pagable_model.specs.declared.numbers.ArcRef.{ArcRef}
 use Rattle.pagable_samples.specs.declared.text.TextNode.{TextNode}
@@ -18,6 +18,6 @@ abbrev pub text_of : TextNode → Meaning ArcRef
 text_of n = meanings.text (string_bytes (arc_value n.0))
 
 -- a text refers to nothing
-pub texts_refer : (n : TextNode) (m : Meaning ArcRef) → m ≡ text_of n → SameHandles [] (references_in m)
+pub texts_refer : (n : TextNode) (m : Meaning ArcRef) → m ≡ text_of n → SameReferences [] (references_in m)
 unfolding references_in
-texts_refer n m is q = rw is refl
+texts_refer n m is test = rw is refl

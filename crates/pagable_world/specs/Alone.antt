@@ -8,7 +8,7 @@ use Rattle.pagable_model.specs.declared.numbers.Identity.{Identity}
 use Rattle.pagable_model.specs.declared.numbers.Kind.{Kind}
 use Rattle.pagable_model.specs.declared.numbers.LoadNumber.{LoadNumber}
 use Rattle.pagable_model.specs.declared.numbers.NodeNumber.{NodeNumber}
-use Rattle.pagable_model.specs.Trees.{Tree, height}
+use Rattle.pagable_model.specs.Trees.{Tree, type_of, height}
 use Rattle.pagable_model.specs.Deep.{longest_path}
 use Rattle.pagable_model.specs.Merkle.{KeyOf, StoredTree, HasOwnKeys}
 use Rattle.pagable_model.specs.Canonical.{IsCanonicalTree, IsReadableTree}
@@ -29,10 +29,13 @@ use Rattle.pagable_world.specs.declared.events.EventReply.TheVariants as answers
 use Rattle.pagable_world.specs.Words.{Among}
 use Rattle.pagable_world.specs.Whole.{Whole, Task, of_item, of_entry, OpenLoad, WorkerRow, HasRowOf, HasWorker, HasOpenLoad}
 use Rattle.pagable_world.specs.Seen.{Seen, IsLawful}
+use Rattle.pagable_world.specs.Handles.{IsPagedOut}
 use Rattle.pagable_world.specs.Loads.{from_cache, AskCall, AdoptCall, IsOfCell}
 use Rattle.pagable_world.specs.Pages.{Pages}
 use Rattle.pagable_world.specs.Stands.{TreeWorld}
+use Rattle.pagable_world.specs.Met.{Meets}
 use Rattle.pagable_world.specs.WorkerSteps.{IsPublished}
+use Rattle.pagable_world.specs.Bounds.{ReadsTooDeep}
 use Rattle.pagable_world.specs.Events.{Run}
 use Rattle.pagable_world.specs.Premises.{ReadsItsTypes}
 use Rattle.pagable_world.specs.Runs.{Moment, Fact, Along, ArePremised}
@@ -71,12 +74,18 @@ abbrev pub IsFormlessTask : {N B W : Type 0} → Seen N B W → TreeWorld → Ta
 IsFormlessTask m u (of_item written) = (r : ArcRef) × Among written.references r × ((key : ℕ) → ¬ KeyOf m.hash m.types (u.tree r.node.0) key)
 IsFormlessTask m u (of_entry h i) = (key : ℕ) → ¬ KeyOf m.hash m.types (u.tree i.node.0) key
 
--- too deep is answered only where that is so, and where it is so no key is answered
+-- a cell that the worker meets is away, and the reading of its key is too deep: that takes references too which a repeated key
+-- of a map drops, so that its path may be longer than any of the cell's tree
+abbrev pub IsTooDeepReading : {N B W : Type 0} → Seen N B W → Whole → WorkerRow → Type 0
+IsTooDeepReading m w worker = (i : Identity) × (key : ℕ) × Meets w worker i × IsPagedOut w i.node key × ReadsTooDeep m.types w.stored (type_of i.kind.0) key
+
+-- Too deep is answered only where one of these is so. Where one of the first two is so no key is answered; a reading may be
+-- cut short by the cache.
 abbrev pub DeepIsRefused : {N B W : Type 0} → Seen N B W → Fact N B W
 DeepIsRefused m s u (events.WorkerStep v) (answers.WorkerMoved (Ok reply)) s' u' =
     (worker : WorkerRow)
     → HasWorker u.plain v worker
-    → (reply.answer ≡ Some (finals.Failed errors.TooDeep) → IsTooDeepTask u worker.task ⊎ IsFormlessTask m u worker.task)
+    → (reply.answer ≡ Some (finals.Failed errors.TooDeep) → IsTooDeepTask u worker.task ⊎ IsFormlessTask m u worker.task ⊎ IsTooDeepReading m u.plain worker)
     × ((key : ℕ) → reply.answer ≡ Some (finals.Key key) → (¬ IsTooDeepTask u worker.task) × (¬ IsFormlessTask m u worker.task))
 DeepIsRefused m s u event reply s' u' = Unit {0}
 

@@ -1,15 +1,19 @@
 -- What holds of all that has happened to a pager since it was new, however loads and workers take turns. Each of these is to be
 -- carried by the contract of the machine's run, through the headline.
-use Rattle.std.specs.Prelude.{ℕ, ◌≡◌, ◌≢◌, ◌<◌, ◌≤◌, ◌==◌, ◌&&◌, if◌then◌else◌, List, [], ◌∷◌, ◌+◌, Some, Ok}
+use Rattle.std.specs.Prelude.{ℕ, ◌≡◌, ◌≢◌, ◌<◌, ◌≤◌, ◌==◌, ◌&&◌, if◌then◌else◌, List, [], ◌∷◌, ◌+◌, true, Some, Ok, Err}
+use Rattle.pagable_model.specs.declared.error.Error.{Error}
 use Rattle.pagable_model.specs.declared.data_key.OptionalDataKey.TheVariants as optional
 use Rattle.pagable_model.specs.declared.numbers.ArcRef.{ArcRef}
 use Rattle.pagable_model.specs.declared.numbers.HandleNumber.{HandleNumber}
 use Rattle.pagable_model.specs.declared.numbers.Identity.{Identity}
+use Rattle.pagable_model.specs.declared.numbers.NodeNumber.{NodeNumber}
 use Rattle.pagable_model.specs.Blob.{Blob}
 use Rattle.pagable_model.specs.Trees.{Tree, ReadsTree}
 use Rattle.pagable_model.specs.Merkle.{KeyOf, KeyOfItem, TreeForm, IsCanonicalItem}
 use Rattle.pagable_model.specs.Canonical.{IsCanonicalTree}
 use Rattle.pagable_model.specs.Shape.{Shape}
+use Rattle.pagable_model.specs.Refusals.{is_writing_fault}
+use Rattle.pagable_model.specs.Writing.{nesting, NoFormOfSome}
 use Rattle.pagable_world.specs.declared.rows.Owner.TheVariants as owners
 use Rattle.pagable_world.specs.declared.rows.HandleRow.{HandleRow}
 use Rattle.pagable_world.specs.declared.answers.Pinning.TheVariants as pinnings
@@ -57,6 +61,16 @@ PinGives m s u (events.LoadStep l) (answers.LoadMoved (Ok reply)) s' u' = (k : H
 PinGives m s u (events.Call (calls.LoadEnd l x)) (answers.CallReply (replies.LoadEnded (Ok k))) s' u' = GivesTree m s' u' k
 PinGives m s u (events.WorkerStep v) (answers.WorkerMoved (Ok reply)) s' u' = (i : Identity) (k : HandleNumber) → reply.took ≡ took.Pin i (Ok (pinsteps.Held k)) → GivesTree m s' u' k
 PinGives m s u event reply s' u' = Unit {0}
+
+-- the node's value means something that has no form
+abbrev pub HasFormlessValue : {N B W : Type 0} → Seen N B W → Pages N → NodeNumber → Type 0
+HasFormlessValue {N} m s n = (x : N) × HasValue s n.0 x × ((shape : Shape) → m.types.nodes (m.node_type x) ≡ Some shape → NoFormOfSome (m.means x) (nesting 0 m.types.parts) shape)
+
+-- a write is refused by a name that says that a value has no form only where that is so
+abbrev pub RefusesFormless : {N B W : Type 0} → Seen N B W → Fact N B W
+RefusesFormless m s u (events.WorkerStep v) (answers.WorkerMoved (Ok reply)) s' u' =
+    (i : Identity) (e : Error) → reply.took ≡ took.Write i (Err e) → is_writing_fault e ≡ true → HasFormlessValue m s i.node
+RefusesFormless m s u event reply s' u' = Unit {0}
 
 -- A value that a load of a key answers stands for the tree that the key reads as, and the caller has its references.
 pub record ReadIsRight {N B W : Type 0} (m : Seen N B W) (s : Pages N) (key : ℕ) (x : N) : Type 0 where
@@ -179,6 +193,7 @@ AllAreBounded m s u event reply s' u' = WorkersAreBounded u'.plain × LoadsAreBo
 -- all that holds of what has happened, besides that each state is whole and stands for its world
 pub record IsInterleaved {N B W : Type 0} (m : Seen N B W) (s : Pages N) (u : TreeWorld) (moments : List (Moment N B W)) (worlds : List TreeWorld) : Type 0 where
   pub pins_give : Along (PinGives m) s u moments worlds
+  pub refuses : Along (RefusesFormless m) s u moments worlds
   pub reads_give : Along (ReadGives m) s u moments worlds
   pub counts : Along CountIsPins s u moments worlds
   pub waits : Along WaitsRightly s u moments worlds

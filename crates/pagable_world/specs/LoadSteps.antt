@@ -24,7 +24,7 @@ use Rattle.pagable_world.specs.World.{greatest}
 use Rattle.pagable_world.specs.Words.{changed}
 use Rattle.pagable_world.specs.Whole.{Whole, Root, of_cell, of_type, of_key, Frame, OpenLoad, is_open_load, HasRowOf}
 use Rattle.pagable_world.specs.Seen.{Seen}
-use Rattle.pagable_model.specs.References.{references_in, SameHandles}
+use Rattle.pagable_model.specs.References.{references_in, SameReferences}
 use Rattle.pagable_world.specs.Causes.{Refuses, IsFull, IsNotOpen, IsForeignLoad, OwnsLoad}
 use Rattle.pagable_world.specs.Loads.{from_cache, from_store, AskCall, AdoptCall, EndCall, HandOverCall, LoadCloses, LoadIs, IsKeyRoot}
 
@@ -57,12 +57,12 @@ Wants types frame kind key = (slice_get frame.blob.keys (length frame.got) ≡ S
 abbrev pub IsFault : Types → Frame → Error → Type 0
 IsFault types frame e = (more : List Answer) → length frame.got + length more ≡ length frame.blob.keys → read_frame types frame more ≡ Err e
 
--- a reader's own causes, which are no faults of the blob
-abbrev pub IsOwnCause : Whole → Error → Whole → Type 0
-IsOwnCause w errors.RegexRefused w' = Unit {0}
-IsOwnCause w (errors.Custom text) w' = Unit {0}
-IsOwnCause w errors.OutOfMemory w' = IsFull w w'
-IsOwnCause w _ w' = ⊥
+-- a cause of the type's own reader, which is no fault of the blob; and want of memory
+abbrev pub IsOwnCause : {N B W : Type 0} → Seen N B W → ℕ → Whole → Error → Whole → Type 0
+IsOwnCause m t w errors.RegexRefused w' = m.read_causes t errors.RegexRefused
+IsOwnCause m t w (errors.Custom text) w' = m.read_causes t (errors.Custom text)
+IsOwnCause m t w errors.OutOfMemory w' = IsFull w w'
+IsOwnCause m t w _ w' = ⊥
 
 -- the frames of the load from now on
 abbrev pub with_frames : Whole → LoadNumber → List Frame → Whole
@@ -133,7 +133,7 @@ pub record LoadAdopts {N B W : Type 0} (m : Seen N B W) (load : OpenLoad) (refer
   pub frames : load.frames ≡ top ∷ below ∷ rest
   pub own : Meaning ArcRef
   pub read : IsRead m.types top own
-  pub refers : SameHandles references (references_in own)
+  pub refers : SameReferences references (references_in own)
 
 -- its value became a node
 pub record MakesNode {N B W : Type 0} (m : Seen N B W) (w : Whole) (me : Owner) (load : OpenLoad) (w' : Whole) : Type 0 where
@@ -156,7 +156,7 @@ pub record RootIsRead {N B W : Type 0} (m : Seen N B W) (load : OpenLoad) (refer
   pub frames : load.frames ≡ root ∷ []
   pub own : Meaning ArcRef
   pub read : IsRead m.types root own
-  pub refers : SameHandles references (references_in own)
+  pub refers : SameReferences references (references_in own)
 
 -- The load ends with a pin of its cell.
 abbrev pub LoadPins : {N B W : Type 0} → Seen N B W → Whole → Owner → OpenLoad → HandleNumber → Whole → Type 0
@@ -166,7 +166,7 @@ LoadPins m w me load k w' = (references : List ArcRef) × (t : ℕ) × RootIsRea
 -- once the blob was fetched; by an adoption; or by its end
 abbrev pub LoadMeets : {N B W : Type 0} → Seen N B W → Whole → Owner → OpenLoad → Error → Whole → Type 0
 LoadMeets m w me load e w' =
-    ((top : Frame) × (rest : List Frame) × (load.frames ≡ top ∷ rest) × (w' ≡ record w { refusals = w'.refusals }) × (IsFault m.types top e ⊎ IsOwnCause w e w'))
+    ((top : Frame) × (rest : List Frame) × (load.frames ≡ top ∷ rest) × (w' ≡ record w { refusals = w'.refusals }) × (IsFault m.types top e ⊎ IsOwnCause m top.node_type w e w'))
     ⊎ ((load.frames ≡ []) × AskCall w me load.number wants.Root (Err e) w')
     ⊎ ((kind : Kind) × (key : ℕ) × LoadWants m load kind key × AskCall w me load.number (wants.Nested kind key) (Err e) w')
     ⊎ ((kind : Kind) × (key : ℕ) × (blob : Blob) × LoadWants m load kind key × (longest_path < length load.frames) × AskCall w me load.number (wants.Nested kind key) (Ok (from_store blob)) w' × (e ≡ errors.TooDeep))

@@ -1,6 +1,6 @@
 -- Whole operations over an access that tells its state: each is a run that has alone, up to its end, this pin, this reading or
 -- this page-out, and its answer is what the run's last step answered.
-use Rattle.std.specs.Prelude.{ℕ, ◌≡◌, ◌+◌, ◌⊎◌, ◌↔◌, Some, None, length, Result, Ok, Err, slice_get}
+use Rattle.std.specs.Prelude.{ℕ, ◌≡◌, ◌≢◌, ◌+◌, ◌⊎◌, ◌↔◌, Some, None, length, Result, Ok, Err, slice_get}
 use Rattle.pagable_model.specs.declared.error.Error.{Error}
 use Rattle.pagable_model.specs.declared.error.Error.TheVariants as errors
 use Rattle.pagable_model.specs.declared.data_key.OptionalDataKey.{OptionalDataKey}
@@ -23,7 +23,7 @@ use Rattle.pagable_world.specs.declared.events.LoadReply.{LoadReply}
 use Rattle.pagable_world.specs.declared.events.WorkerAnswer.{WorkerAnswer}
 use Rattle.pagable_world.specs.declared.events.WorkerAnswer.TheVariants as finals
 use Rattle.pagable_world.specs.declared.events.WorkerReply.{WorkerReply}
-use Rattle.pagable_world.specs.Whole.{Whole, Written, of_item, of_type, HasRowOf, KeyIs}
+use Rattle.pagable_world.specs.Whole.{Whole, SlotRow, Written, no_result, failed, of_item, of_type, HasRowOf, HasSlot, KeyIs}
 use Rattle.pagable_world.specs.Seen.{Seen}
 use Rattle.pagable_world.specs.Pages.{Pages, HasValue}
 use Rattle.pagable_world.specs.Handles.{PinCall, UnpinCall, ReleaseCall, TakeCall}
@@ -63,9 +63,16 @@ abbrev pub PinTakenBack : {N B W : Type 0} → Seen N B W → Whole → HandleNu
 PinTakenBack m w h w' =
     (k : HandleNumber) × (mid low : Whole) × PinRun m w h (Ok k) mid × UnpinnedBack w mid h low × ((r : Result (Unit {0}) Error) × ReleaseCall low owners.Caller k r w')
 
--- slots have the same results, on these two tables
+-- the identity's claim on the table failed
+abbrev pub HasFailed : Whole → TableNumber → Identity → Type 0
+HasFailed w t i = (slot : SlotRow) × HasSlot w t i slot × (slot.outcome ≡ failed)
+
+-- Slots have the same results, keys and failures, on these two tables, and on neither is a claim left without one.
 pub record SameResults (w : Whole) (t : TableNumber) (w' : Whole) (t' : TableNumber) : Type 0 where
   pub known : (i : Identity) (key height : ℕ) → IsPublished w t i key height ↔ IsPublished w' t' i key height
+  pub failures : (i : Identity) → HasFailed w t i ↔ HasFailed w' t' i
+  pub ended : (i : Identity) (slot : SlotRow) → HasSlot w t i slot → slot.outcome ≢ no_result
+  pub ended_too : (i : Identity) (slot : SlotRow) → HasSlot w' t' i slot → slot.outcome ≢ no_result
 
 -- what an operation is said to leave: rows, cells, list, cache and store. Whoever lends a pager has no rows of workers, and
 -- no counts of steps.

@@ -7,14 +7,16 @@ use Rattle.pagable_world.specs.declared.rows.Owner.TheVariants as owners
 use Rattle.pagable_world.specs.declared.rows.HandleRow.{HandleRow}
 use Rattle.pagable_world.specs.declared.calls.Call.TheVariants as calls
 use Rattle.pagable_world.specs.declared.calls.Reply.TheVariants as replies
+use Rattle.pagable_world.specs.declared.events.LoadAnswer.{LoadAnswer}
+use Rattle.pagable_world.specs.declared.events.LoadAnswer.TheVariants as ends
 use Rattle.pagable_world.specs.declared.events.Event.{Event}
 use Rattle.pagable_world.specs.declared.events.Event.TheVariants as events
 use Rattle.pagable_world.specs.declared.events.EventReply.{EventReply}
 use Rattle.pagable_world.specs.declared.events.EventReply.TheVariants as answers
-use Rattle.pagable_world.specs.Whole.{OpenLoad, HasOpenLoad}
+use Rattle.pagable_world.specs.Whole.{OpenLoad, HasOpenLoad, HasType}
 use Rattle.pagable_world.specs.Seen.{Seen, IsSettled}
 use Rattle.pagable_world.specs.Causes.{Owns, LooseMode, AnyMode}
-use Rattle.pagable_world.specs.Pages.{Pages}
+use Rattle.pagable_world.specs.Pages.{Pages, HasValue}
 use Rattle.pagable_world.specs.Stands.{NodeStands, ValueStands}
 
 -- Each type of the environment is read back from its forms. Where types have tags, this is the registry of distinct tags:
@@ -31,18 +33,34 @@ handed_in (events.Call (calls.LoadAdopt l kind key x)) = Some x
 handed_in (events.Call (calls.LoadEnd l x)) = Some x
 handed_in _ = None
 
--- what is handed in holds nothing that is written after the value was made
+-- the value that a load of a key answers
+abbrev pub read_by : {N : Type 0} → Option (LoadAnswer N) → Option N
+read_by (Some (ends.Read x)) = Some x
+read_by _ = None
+
+abbrev pub read_out : {N B W : Type 0} → EventReply N B W → Option N
+read_out (answers.LoadMoved (Ok reply)) = read_by reply.ended
+read_out _ = None
+
+-- what is handed in holds nothing that is written after the value was made, nor what is read
 abbrev pub HandsInSettled : {N B W : Type 0} → Seen N B W → Event N B W → Type 0
 HandsInSettled {N} m event = (x : N) → handed_in event ≡ Some x → IsSettled m x
+
+abbrev pub ReadsSettled : {N B W : Type 0} → Seen N B W → EventReply N B W → Type 0
+ReadsSettled {N} m reply = (x : N) → read_out reply ≡ Some x → IsSettled m x
+
+-- nor any value in memory, those that loads have read among them
+abbrev pub HoldsSettled : {N B W : Type 0} → Seen N B W → Pages N → Type 0
+HoldsSettled {N} m s = (n : ℕ) (x : N) → HasValue s n x → IsSettled m x
 
 -- the storage isn't closed
 abbrev pub KeepsOpen : {N B W : Type 0} → Event N B W → Type 0
 KeepsOpen (events.Call calls.Close) = ⊥
 KeepsOpen _ = Unit {0}
 
--- the key reads as whatever the node of an own handle stands for
+-- the key reads as whatever the node of an own handle stands for, of the node's own type
 abbrev pub ReadsAsHandle : {N B W : Type 0} → Seen N B W → Pages N → HandleRow → ℕ → Type 0
-ReadsAsHandle m s row key = (t : Tree) → NodeStands m s row.node t → ReadsTree s.world.stored m.types key t
+ReadsAsHandle m s row key = (t : Tree) → HasType s.world row.node t.type → NodeStands m s row.node t → ReadsTree s.world.stored m.types key t
 
 -- the key reads as whatever the value stands for
 abbrev pub ReadsAsValue : {N B W : Type 0} → Seen N B W → Pages N → N → ℕ → Type 0
@@ -65,5 +83,7 @@ AsksWell m s event reply = Unit {0}
 -- all that is asked of an event at the state that it finds
 pub record IsPremised {N B W : Type 0} (m : Seen N B W) (s : Pages N) (event : Event N B W) (reply : EventReply N B W) : Type 0 where
   pub settled : HandsInSettled m event
+  pub reads_settled : ReadsSettled m reply
+  pub holds_settled : HoldsSettled m s
   pub stays_open : KeepsOpen event
   pub well : AsksWell m s event reply

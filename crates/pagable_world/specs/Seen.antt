@@ -2,10 +2,10 @@
 use Rattle.std.specs.Prelude.{ℕ, ◌≡◌, List, Result, Ok, Err}
 use Rattle.pagable_model.specs.declared.error.Error.{Error}
 use Rattle.pagable_model.specs.declared.numbers.ArcRef.{ArcRef}
-use Rattle.pagable_model.specs.Meaning.{Meaning}
+use Rattle.pagable_model.specs.Meaning.{Meaning, number, integer, text, pattern, none, pair, variant, reference, followed}
 use Rattle.pagable_model.specs.Blob.{Blob, key_of}
 use Rattle.pagable_model.specs.Trees.{Types}
-use Rattle.pagable_model.specs.References.{references_in, SameHandles}
+use Rattle.pagable_model.specs.References.{references_in, SameReferences}
 use Rattle.pagable_world.specs.Whole.{Written}
 
 -- What the environment and the storage say of values of the type N, blobs of the type B and what is written, of the type W:
@@ -17,6 +17,9 @@ pub record Seen (N B W : Type 0) : Type 1 where
   pub means : N → Meaning ArcRef → Type 0
   pub blob_of : B → Blob
   pub written_of : W → Written
+  -- why a reader or a writer of values of the type may refuse one, by a cause of its own
+  pub read_causes : ℕ → Error → Type 0
+  pub write_causes : ℕ → Error → Type 0
   -- how values are spelled, and the hash
   pub types : Types
   pub hash : List ℕ → List ℕ
@@ -30,10 +33,23 @@ abbrev pub seen_blob : {B : Type 0} → (B → Blob) → Result B Error → Resu
 seen_blob f (Ok b) = Ok (f b)
 seen_blob f (Err e) = Err e
 
--- the laws of values that are asked of the caller: a value means something, and refers to what it means to
+-- No reference in the meaning is followed already. A value leads to others by its handles alone.
+unfoldable pub HasNoFollowed : Meaning ArcRef → Type 0
+HasNoFollowed (number n) = Unit {0}
+HasNoFollowed (integer z) = Unit {0}
+HasNoFollowed (text t) = Unit {0}
+HasNoFollowed (pattern t) = Unit {0}
+HasNoFollowed none = Unit {0}
+HasNoFollowed (pair a b) = HasNoFollowed a × HasNoFollowed b
+HasNoFollowed (variant n a) = HasNoFollowed a
+HasNoFollowed (reference r) = Unit {0}
+HasNoFollowed (followed kind a) = ⊥
+
+-- the laws of values that are asked of the caller: a value means something, refers to what it means to, and to all of it by handles
 pub record IsLawful {N B W : Type 0} (m : Seen N B W) : Type 0 where
   pub some : (x : N) → (a : Meaning ArcRef) × m.means x a
-  pub refers : (x : N) (a : Meaning ArcRef) → m.means x a → SameHandles (m.references x) (references_in a)
+  pub refers : (x : N) (a : Meaning ArcRef) → m.means x a → SameReferences (m.references x) (references_in a)
+  pub unfollowed : (x : N) (a : Meaning ArcRef) → m.means x a → HasNoFollowed a
 
 -- a value of which the clauses on trees speak: it means one thing, whatever is written to it later
 abbrev pub IsSettled : {N B W : Type 0} → Seen N B W → N → Type 0

@@ -160,15 +160,16 @@ PinDoes m w worker r false (Ok pinsteps.LoadWent) w' =
     (load : OpenLoad) × (mid : Whole) × IsLoading w worker (identity_of r) load × LoadGoesOn m w (owners.Worker worker.number) load mid × (w' ≡ with_steps mid load.number (one_more load.steps))
 PinDoes m w worker r false (Err e) w' = (load : OpenLoad) × IsLoading w worker (identity_of r) load × LoadFails m w (owners.Worker worker.number) load e w'
 
--- what a writer may refuse a value for
-abbrev pub IsOfWriting : Whole → Error → Whole → Type 0
-IsOfWriting w errors.TooLong w' = Unit {0}
-IsOfWriting w errors.TooDeep w' = Unit {0}
-IsOfWriting w errors.JsonNumber w' = Unit {0}
-IsOfWriting w errors.Unregistered w' = Unit {0}
-IsOfWriting w errors.OutOfMemory w' = IsFull w w'
-IsOfWriting w (errors.Custom text) w' = Unit {0}
-IsOfWriting w _ w' = ⊥
+-- What a writer of the type may refuse a value for: it has no form, which `RefusesFormless` says of the value; by a cause of the
+-- type's own writer; or for want of memory.
+abbrev pub IsOfWriting : {N B W : Type 0} → Seen N B W → ℕ → Whole → Error → Whole → Type 0
+IsOfWriting m t w errors.TooLong w' = Unit {0}
+IsOfWriting m t w errors.TooDeep w' = Unit {0}
+IsOfWriting m t w errors.JsonNumber w' = Unit {0}
+IsOfWriting m t w errors.Unregistered w' = m.write_causes t errors.Unregistered
+IsOfWriting m t w errors.OutOfMemory w' = IsFull w w'
+IsOfWriting m t w (errors.Custom text) w' = m.write_causes t (errors.Custom text)
+IsOfWriting m t w _ w' = ⊥
 
 -- the references that were written are exactly the handles of the node's value
 pub record AreOfValue (w : Whole) (n : NodeNumber) (references : List ArcRef) : Type 0 where
@@ -183,7 +184,7 @@ WriteDoes m w worker i (Ok out) w' =
     × AreOfValue w i.node (m.written_of out).references
     × (w' ≡ with_slot w worker.table i (λ slot. record slot { written = Some (m.written_of out) }))
 WriteDoes m w worker i (Err e) w' =
-    ((slot : SlotRow) × IsClaimedBy w worker.table i worker.number slot × (slot.written ≡ None)) × HoldsPin w worker.number i.node × IsOfWriting w e w' × Stays w w'
+    ((slot : SlotRow) × IsClaimedBy w worker.table i worker.number slot × (slot.written ≡ None)) × HoldsPin w worker.number i.node × IsOfWriting m (type_of i.kind.0) w e w' × Stays w w'
 
 -- one key for each reference: the one that is known of its identity
 abbrev pub AreKeysOf : Whole → TableNumber → List ArcRef → List ℕ → Type 0

@@ -4,7 +4,7 @@ use Rattle.std.specs.Arc.{arc_value}
 use Rattle.std.specs.String.{string_bytes}
 use Rattle.pagable_model.specs.Meaning.{Meaning}
 use Rattle.pagable_model.specs.Meaning as meanings
-use Rattle.pagable_model.specs.References.{references_in, SameHandles}
+use Rattle.pagable_model.specs.References.{references_in, SameReferences}
 use Rattle.pagable_model.specs.Shape.{Shape, text}
 use Rattle.pagable_model.specs.Standing.{SomeMeaning}
 use Rattle.pagable_model.specs.declared.numbers.ArcRef.{ArcRef}
@@ -39,5 +39,5 @@ refers (nodes.Name t) = refl
 refers (nodes.Note t) = refl
 
 -- a text refers to nothing
-pub refers_to_nothing : (n : RunNode) (m : Meaning ArcRef) → m ≡ text_of n → SameHandles [] (references_in m)
-refers_to_nothing n m is = rw (is, refers n) (λ q. refl)
+pub refers_to_nothing : (n : RunNode) (m : Meaning ArcRef) → m ≡ text_of n → SameReferences [] (references_in m)
+refers_to_nothing n m is = rw (is, refers n) (λ test. refl)
