@@ -1,7 +1,7 @@
 -- What writing a part adds, and what has no form.
 use Rattle.std.proofs.Common.{◌≡◌, ℕ, Bool, false, subst, ◌<◌, ◌≤◌, List, [], ◌∷◌, ◌++◌, length, arith, refl, sym, ap, ◌∙◌, append_assoc, Result, Ok, Err, inl, inr}
 use Rattle.std.proofs.lemmas.List.{append-nil}
-use Rattle.std.specs.Prelude.{ℤ, IfErr, IsTrue}
+use Rattle.std.specs.Prelude.{ℤ, IfErr}
 use Rattle.std.specs.Int.{Width}
 use Rattle.std.specs.Str.{IsUtf8}
 use Rattle.std.specs.Char.{IsScalar}
@@ -10,14 +10,14 @@ use Rattle.pagable_model.specs.declared.numbers.ArcRef.{ArcRef}
 use Rattle.pagable_model.specs.Refusals.{is_writing_fault}
 use Rattle.pagable_model.specs.Numbers.{bound, IsSigned, unsigned_form, signed_form}
 use Rattle.pagable_model.specs.Basic.{longest, bool_form, char_form, text_form}
-use Rattle.pagable_model.specs.Gives.{Extends, memory}
+use Rattle.pagable_model.specs.Gives.{Extends, memory, long_or}
 use Rattle.pagable_model.specs.Lengths.{long_or_memory}
 use Rattle.pagable_model.specs.Meaning.{Meaning, number, integer}
 use Rattle.pagable_model.specs.Meaning as meanings
 use Rattle.pagable_model.specs.Shape.{Shape, unsigned, signed}
 use Rattle.pagable_model.specs.Shape as shapes
 use Rattle.pagable_model.specs.Form.{nothing-form, unsigned-form, signed-form, flag-form, letter-form, text-form, reference-form}
-use Rattle.pagable_model.specs.Writing.{Out, Nesting, FormAt, Writes, WritesSome, Grows, added, kind_of_arc, NoForm, Refused, IsRefusal}
+use Rattle.pagable_model.specs.Writing.{Out, Nesting, FormAt, Writes, WritesSome, Grows, added, kind_of_arc, NoForm, Refused}
 use Rattle.pagable_model.specs.Standing.{Is}
 
 pub out_is : (b c : List ℕ) (r s : List ArcRef) → b ≡ c → r ≡ s → (let x : Out = record { bytes = b; refs = r } in x) ≡ (let y : Out = record { bytes = c; refs = s } in y)
@@ -81,10 +81,6 @@ pub refused_memory : {X : Type 0} (r : Result X Error) (M : Meaning ArcRef → T
 refused_memory (Ok x) M n s h = tt
 refused_memory (Err e) M n s h = memory_refuses e M n s h
 
-pub only_memory : {X : Type 0} (r : Result X Error) → IfErr r memory → IfErr r (IsRefusal memory)
-only_memory (Ok x) h = tt
-only_memory (Err e) h = inr h
-
 -- ---- texts
 
 -- the text that a value means
@@ -108,12 +104,12 @@ pub refused_text : {X Y : Type 0} (r : Result Y Error) (meaning : X → Meaning 
 refused_text (Ok y) meaning x n t is h = tt
 refused_text (Err e) meaning x n t is h = refuses_text meaning x n t e is h
 
-pub only_long : {Y : Type 0} (r : Result Y Error) (len : ℕ) → IfErr r (long_or_memory len) → IfErr r (IsRefusal memory)
+pub only_long : {Y : Type 0} (r : Result Y Error) (len : ℕ) → IfErr r (long_or_memory len) → IfErr r (long_or memory)
 only_long (Ok y) len h = tt
-only_long (Err e) len (inl h) = inl (let P : Error → Type 0 = λ x. IsTrue (is_writing_fault x) in subst P (sym h.1) refl)
+only_long (Err e) len (inl h) = inl h.1
 only_long (Err e) len (inr h) = inr h.1
 
-pub ruleset parts = (grows_bytes, grows_refl, grows_trans, grows_some, writes_is, writes_unsigned, writes_signed, writes_flag, writes_letter, writes_text, refused_memory, only_memory, refused_text, only_long)
+pub ruleset parts = (grows_bytes, grows_refl, grows_trans, grows_some, writes_is, writes_unsigned, writes_signed, writes_flag, writes_letter, writes_text, refused_memory, refused_text, only_long)
 
 -- a reference alone
 pub writes_reference : {X : Type 0} (meaning : X → Meaning ArcRef) (x : X) (n : Nesting) (kind : ℕ) (r : ArcRef) (old new : Out) → new ≡ added old [] (r ∷ []) → meaning x ≡ meanings.reference r → kind_of_arc r ≡ kind → WritesSome (Is meaning x) n (shapes.reference kind) old new

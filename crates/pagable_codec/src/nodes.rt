@@ -1,10 +1,10 @@
 //! The values of nodes: one case for each value type of an environment.
 
 ghost use Rattle.std.specs.Prelude.{◌≡◌, ◌<◌, ◌^◌, ◌++◌, ℕ, List, Option, Some, OnOk, IfOk, IfErr, true};
-ghost use Rattle.pagable_model.specs.Refusals.{is_own_reading, is_own_writing};
+ghost use Rattle.pagable_model.specs.Refusals.{is_own_reading, may_refuse_writing};
 ghost use Rattle.pagable_model.specs.Shape.{Shape};
 ghost use Rattle.pagable_model.specs.Meaning.{Meaning};
-ghost use Rattle.pagable_model.specs.Writing.{nesting, WritesSome, Refused, IsRefusal, Grows};
+ghost use Rattle.pagable_model.specs.Writing.{nesting, WritesSome, Refused, Grows};
 ghost use Rattle.pagable_model.specs.Reading.{read_typed};
 ghost use Rattle.pagable_model.specs.References.{references_in, SameReferences};
 ghost use Rattle.pagable_model.specs.Standing.{handles_at, MovesOn, GivesSome, SomeMeaning};
@@ -35,7 +35,7 @@ pub trait NodeSet<E: Env>: Sized {
     // The references in the value, in the order in which they are written.
     ghost refs_of: { Self → List Reference };
 
-    // The refusals of a value type's writing and reading beside the faults of a value, of the input and of references.
+    // All refusals of a value type's writing, and those of its reading beside the faults of the input and of references.
     ghost write_causes: { ℕ → Refusal → Type 0 };
 
     ghost read_causes: { ℕ → Refusal → Type 0 };
@@ -56,7 +56,7 @@ pub trait NodeSet<E: Env>: Sized {
             (own_shape (S.environment serializer.old) self.now) (S.out serializer.old) (S.out serializer.new)) }
         ensures listed { OnOk result ((S.out serializer.new).refs ≡ (S.out serializer.old).refs ++ refs_of self.now) }
         ensures refused { IfErr result (Refused (means self.now) (nesting (S.levels serializer.old) (E.parts (S.environment serializer.old))) (own_shape (S.environment serializer.old) self.now)) }
-        ensures only { IfErr result (IsRefusal (write_causes (type_of self.now))) }
+        ensures only { IfErr result (write_causes (type_of self.now)) }
         ensures err { Grows (S.out serializer.old) (S.out serializer.new) }
         ensures same_env { S.environment serializer.new ≡ S.environment serializer.old }
         ensures same_levels { S.levels serializer.new ≡ S.levels serializer.old };
@@ -74,7 +74,7 @@ pub trait NodeSet<E: Env>: Sized {
         ensures same_env { D.environment deserializer.new ≡ D.environment deserializer.old }
         ensures same_levels { D.levels deserializer.new ≡ D.levels deserializer.old };
 
-    ghost write_causes_are_own: { (t : ℕ) (e : Refusal) → write_causes t e → is_own_writing e ≡ true };
+    ghost write_causes_may_refuse: { (t : ℕ) (e : Refusal) → write_causes t e → may_refuse_writing e ≡ true };
 
     ghost read_causes_are_own: { (t : ℕ) (e : Refusal) → read_causes t e → is_own_reading e ≡ true };
 

@@ -6,14 +6,14 @@ use Rattle.pagable_model.specs.declared.error.Error.{Error}
 use Rattle.pagable_model.specs.declared.error.Error.TheVariants as errors
 use Rattle.pagable_model.specs.declared.numbers.ArcRef.{ArcRef}
 use Rattle.pagable_model.specs.Basic.{bool_at, bool_form}
-use Rattle.pagable_model.specs.Gives.{never, memory}
+use Rattle.pagable_model.specs.Gives.{never, memory, deep_or}
 use Rattle.pagable_model.specs.Meaning.{Meaning, number, pair, success, failure}
 use Rattle.pagable_model.specs.Shape.{unsigned, nested}
 use Rattle.pagable_model.specs.Form.{ok-form, err-form, both-form}
 use Rattle.pagable_model.specs.Reading.{Rest, deepest, read, read_with, bytes_of}
 use Rattle.pagable_model.specs.Standing.{Answer, Gave, Is, handles_at}
-use Rattle.pagable_model.specs.Writing.{Out, Nesting, FormAt, nesting, WritesSome, added, NoForm, Refused, IsRefusal}
-use Rattle.pagable_codec.proofs.Writing.{grows_refl, grows_trans, grows_some, grows_same, then, only_memory, refused_memory}
+use Rattle.pagable_model.specs.Writing.{Out, Nesting, FormAt, nesting, WritesSome, added, NoForm, Refused}
+use Rattle.pagable_codec.proofs.Writing.{grows_refl, grows_trans, grows_some, grows_same, then, refused_memory}
 use Rattle.pagable_codec.proofs.Adding.{grows_added_bytes}
 use Rattle.pagable_codec.proofs.Reading.{moves_trans, moves_refl}
 use Rattle.pagable_examples.proofs.Levels.{writes-down, refused-down, refused-deep, only-deep, reads-deep, reads-down}
@@ -31,8 +31,12 @@ refused_down r x = refused-down nodes 0 r (Is of_expression x)
 pub refused_deep : (e : Error) (x : Expression) (levels : ℕ) → deepest ≤ levels → Refused (Is of_expression x) (nesting levels nodes) (nested 0) e
 refused_deep e x levels = refused-deep nodes 0 e (Is of_expression x) (of_expression x) levels refl
 
-pub only_deep : (e : Error) → e ≡ errors.TooDeep → IsRefusal memory e
+pub only_deep : (e : Error) → e ≡ errors.TooDeep → deep_or memory e
 only_deep = only-deep memory
+
+pub only_shallow : {X : Type 0} (r : Result X Error) → IfErr r memory → IfErr r (deep_or memory)
+only_shallow (Ok x) h = tt
+only_shallow (Err e) h = inr h
 
 pub ruleset writing = (writes_down, refused_down, refused_deep, only_deep, grows_refl, grows_trans, grows_some, grows_same)
 
@@ -82,7 +86,7 @@ pub refused_right : {X : Type 0} (r : Result X Error) (x y whole : Expression) (
 refused_right (Ok z) x y whole n same h = tt
 refused_right (Err e) x y whole n same h = λ fault. let no = h fault in record { m = failure (pair (of_expression x) no.m); is = rw (no.is, same) refl; no_form = no-right n (of_expression x) no.m no.no_form }
 
-pub ruleset writing_nodes = (writes_number, refused_number, writes_sum, refused_right, refused_memory, only_memory, grows_refl, grows_trans, grows_some, grows_added_bytes)
+pub ruleset writing_nodes = (writes_number, refused_number, writes_sum, refused_right, refused_memory, only_shallow, grows_refl, grows_trans, grows_some, grows_added_bytes)
 
 -- ---- reading a node
 

@@ -1,16 +1,16 @@
 -- A part one level further down, in any environment: what writing and reading it on the deeper level says of it.
-use Rattle.std.proofs.Common.{◌≡◌, ℕ, suc, ◌+◌, ◌-◌, ◌<◌, ◌≤◌, arith, refl, sym, subst, Result, Ok, Err, inl}
-use Rattle.std.specs.Prelude.{IfErr, IsTrue}
+use Rattle.std.proofs.Common.{◌≡◌, ℕ, suc, ◌+◌, ◌-◌, ◌<◌, ◌≤◌, arith, refl, Result, Ok, Err, inl}
+use Rattle.std.specs.Prelude.{IfErr}
 use Rattle.pagable_model.specs.declared.error.Error.{Error}
 use Rattle.pagable_model.specs.declared.error.Error.TheVariants as errors
 use Rattle.pagable_model.specs.declared.numbers.ArcRef.{ArcRef}
-use Rattle.pagable_model.specs.Refusals.{is_writing_fault}
+use Rattle.pagable_model.specs.Gives.{deep_or}
 use Rattle.pagable_model.specs.Meaning.{Meaning}
 use Rattle.pagable_model.specs.Shape.{Shape, nested}
 use Rattle.pagable_model.specs.Form.{nested-form}
 use Rattle.pagable_model.specs.Reading.{Rest, deepest, read, read_with, below}
 use Rattle.pagable_model.specs.Standing.{Answer, handles_at}
-use Rattle.pagable_model.specs.Writing.{Out, nesting, WritesSome, NoForm, Refused, IsRefusal}
+use Rattle.pagable_model.specs.Writing.{Out, nesting, WritesSome, NoForm, Refused}
 
 module _ (parts : ℕ → Shape) (part : ℕ) where
   pub writes-down : (M : Meaning ArcRef → Type 0) (levels : ℕ) (old new : Out) → levels < deepest → WritesSome M (nesting (levels + 1) parts) (parts part) old new → WritesSome M (nesting levels parts) (nested part) old new
@@ -42,5 +42,5 @@ module _ (parts : ℕ → Shape) (part : ℕ) where
   reads-down levels rest lt = let one : deepest - levels ≡ suc (deepest - (levels + 1)) = omega arith in rw one refl
 
 -- no level is left
-pub only-deep : (own : Error → Type 0) (e : Error) → e ≡ errors.TooDeep → IsRefusal own e
-only-deep own e h = inl (let P : Error → Type 0 = λ x. IsTrue (is_writing_fault x) in subst P (sym h) refl)
+pub only-deep : (part : Error → Type 0) (e : Error) → e ≡ errors.TooDeep → deep_or part e
+only-deep part e h = inl h

@@ -1,8 +1,12 @@
 -- What the nodes of a menu hold, mean and refer to.
 use Rattle.std.proofs.Common.{arith, subst}
-use Rattle.std.specs.Prelude.{◌≡◌, ◌≢◌, ◌<◌, ◌^◌, refl, ℕ, zero, suc, Option, Some, None, List, []}
+use Rattle.std.specs.Prelude.{◌≡◌, ◌≢◌, ◌<◌, ◌^◌, refl, true, ℕ, zero, suc, Option, Some, None, List, []}
 use Rattle.std.specs.Arc.{arc_value}
+use Rattle.pagable_model.specs.declared.error.Error.{Error}
 use Rattle.pagable_model.specs.declared.numbers.ArcRef.{ArcRef}
+use Rattle.pagable_model.specs.Refusals.{may_refuse_writing}
+use Rattle.pagable_model.specs.Gives.{memory, long_or}
+use Rattle.pagable_model.specs.Causes.{memory_may_refuse_writing, text_may_refuse_writing}
 use Rattle.pagable_model.specs.Meaning.{Meaning, number}
 use Rattle.pagable_model.specs.References.{references_in, SameReferences}
 use Rattle.pagable_model.specs.Shape.{Shape, both, text, unsigned, optional}
@@ -39,6 +43,15 @@ own_shape (nodes.Portion p) = portion_shape
 abbrev pub means : MenuNode → Meaning ArcRef → Type 0
 means (nodes.Dish d) = dish_means (arc_value d)
 means (nodes.Portion p) = portion_means (arc_value p)
+
+-- all refusals of the writing of a type's values
+abbrev pub write_causes : ℕ → Error → Type 0
+write_causes zero = long_or memory
+write_causes (suc t) = memory
+
+pub write_causes_may_refuse : (t : ℕ) (e : Error) → write_causes t e → may_refuse_writing e ≡ true
+write_causes_may_refuse zero e h = text_may_refuse_writing e h
+write_causes_may_refuse (suc t) e h = memory_may_refuse_writing e h
 
 pub has_meaning : (n : MenuNode) → SomeMeaning (means n)
 has_meaning (nodes.Dish d) = dish_has_meaning (arc_value d)

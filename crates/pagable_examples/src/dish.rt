@@ -1,7 +1,7 @@
 //! A struct of named fields: they are written one after the other, and nothing else.
 
-ghost use Rattle.pagable_model.specs.Causes.{memory_is_own_reading, memory_is_own_writing};
-ghost use Rattle.pagable_model.specs.Gives.{memory};
+ghost use Rattle.pagable_model.specs.Causes.{memory_is_own_reading, text_may_refuse_writing};
+ghost use Rattle.pagable_model.specs.Gives.{memory, long_or};
 ghost use Rattle.pagable_model.specs.Lifted.{MeansPair};
 ghost use Rattle.pagable_model.specs.Shape.{both, text, unsigned};
 ghost use Rattle.pagable_examples.specs.Dishes.{dish_means, dish_has_meaning};
@@ -30,9 +30,9 @@ impl<E: Env> Carried<E> for Dish {
 }
 
 impl<E: Env> PagableSerialize<E> for Dish {
-    ghost write_causes = { memory };
+    ghost write_causes = { long_or memory };
 
-    ghost write_causes_are_own = { memory_is_own_writing };
+    ghost write_causes_may_refuse = { text_may_refuse_writing };
 
     fn pagable_serialize<S: PagableSerializer<E>>(&self, serializer: &mut S) -> Result<(), Error> {
         self.name.pagable_serialize(serializer)?;

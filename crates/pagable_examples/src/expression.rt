@@ -1,11 +1,11 @@
 //! A type that holds values of its own type, each one level further down: sums inside sums.
 
 ghost use Rattle.std.specs.Prelude.{◌≡◌, OnOk, IfErr};
-ghost use Rattle.pagable_model.specs.Gives.{memory};
+ghost use Rattle.pagable_model.specs.Gives.{memory, deep_or};
 ghost use Rattle.pagable_model.specs.Reading.{read};
 ghost use Rattle.pagable_model.specs.Shape.{nested};
 ghost use Rattle.pagable_model.specs.Standing.{handles_at, GivesSome, Is, MovesOn};
-ghost use Rattle.pagable_model.specs.Writing.{nesting, WritesSome, Refused, IsRefusal, Grows};
+ghost use Rattle.pagable_model.specs.Writing.{nesting, WritesSome, Refused, Grows};
 ghost use Rattle.pagable_examples.specs.Expressions.{node, nodes, of_expression};
 
 use pagable::{
@@ -54,7 +54,7 @@ fn write_below<S: PagableSerializer<Sheet>>(
 ) -> Result<(), Error>
     ensures ok { OnOk result (WritesSome (Is of_expression value.now) (nesting (S.levels serializer.old) nodes) (nested 0) (S.out serializer.old) (S.out serializer.new)) }
     ensures refused { IfErr result (Refused (Is of_expression value.now) (nesting (S.levels serializer.old) nodes) (nested 0)) }
-    ensures only { IfErr result (IsRefusal memory) }
+    ensures only { IfErr result (deep_or memory) }
     ensures err { Grows (S.out serializer.old) (S.out serializer.new) }
     ensures same_env { S.environment serializer.new ≡ S.environment serializer.old }
     ensures same_levels { S.levels serializer.new ≡ S.levels serializer.old }
@@ -75,7 +75,7 @@ fn write_node<S: PagableSerializer<Sheet>>(
 ) -> Result<(), Error>
     ensures ok { OnOk result (WritesSome (Is of_expression value.now) (nesting (S.levels serializer.old) nodes) node (S.out serializer.old) (S.out serializer.new)) }
     ensures refused { IfErr result (Refused (Is of_expression value.now) (nesting (S.levels serializer.old) nodes) node) }
-    ensures only { IfErr result (IsRefusal memory) }
+    ensures only { IfErr result (deep_or memory) }
     ensures err { Grows (S.out serializer.old) (S.out serializer.new) }
     ensures same_env { S.environment serializer.new ≡ S.environment serializer.old }
     ensures same_levels { S.levels serializer.new ≡ S.levels serializer.old }
@@ -151,12 +151,12 @@ impl Carried<Sheet> for Expression {
 }
 
 impl PagableSerialize<Sheet> for Expression {
-    ghost use Rattle.pagable_model.specs.Gives.{memory};
-    ghost use Rattle.pagable_model.specs.Causes.{memory_is_own_writing};
+    ghost use Rattle.pagable_model.specs.Gives.{memory, deep_or};
+    ghost use Rattle.pagable_model.specs.Causes.{memory_may_refuse_writing, deep_or_may_refuse_writing};
 
-    ghost write_causes = { memory };
+    ghost write_causes = { deep_or memory };
 
-    ghost write_causes_are_own = { memory_is_own_writing };
+    ghost write_causes_may_refuse = { deep_or_may_refuse_writing memory memory_may_refuse_writing };
 
     fn pagable_serialize<S: PagableSerializer<Sheet>>(
         &self,

@@ -1,7 +1,7 @@
 //! A struct that is carried as the tuple of its fields: the shortest way for up to five of them.
 
-ghost use Rattle.pagable_model.specs.Causes.{either_is_own_reading, either_is_own_writing, memory_is_own_reading, memory_is_own_writing, memory_or_is_own_reading, memory_or_is_own_writing, never_is_own_reading};
-ghost use Rattle.pagable_model.specs.Gives.{either, memory, memory_or, never};
+ghost use Rattle.pagable_model.specs.Causes.{either_is_own_reading, either_may_refuse_writing, memory_is_own_reading, memory_may_refuse_writing, memory_or_is_own_reading, memory_or_may_refuse_writing, long_or_may_refuse_writing, text_may_refuse_writing, never_is_own_reading};
+ghost use Rattle.pagable_model.specs.Gives.{either, long_or, memory, memory_or, never};
 
 use pagable::{
     Carried, Env, Error, PagableDeserialize, PagableDeserializer, PagableSerialize,
@@ -33,7 +33,7 @@ impl<E: Env> Carried<E> for Guest {
 impl<E: Env> PagableSerialize<E> for Guest {
     ghost write_causes = { ⟦<Fields as PagableSerialize<E>>⟧.write_causes };
 
-    ghost write_causes_are_own = { either_is_own_writing memory (either memory (either memory (either (memory_or memory) (memory_or memory)))) memory_is_own_writing (either_is_own_writing memory (either memory (either (memory_or memory) (memory_or memory))) memory_is_own_writing (either_is_own_writing memory (either (memory_or memory) (memory_or memory)) memory_is_own_writing (either_is_own_writing (memory_or memory) (memory_or memory) (memory_or_is_own_writing memory memory_is_own_writing) (memory_or_is_own_writing memory memory_is_own_writing)))) };
+    ghost write_causes_may_refuse = { either_may_refuse_writing (long_or memory) (either memory (either memory (either (memory_or memory) (long_or (memory_or (long_or memory)))))) text_may_refuse_writing (either_may_refuse_writing memory (either memory (either (memory_or memory) (long_or (memory_or (long_or memory))))) memory_may_refuse_writing (either_may_refuse_writing memory (either (memory_or memory) (long_or (memory_or (long_or memory)))) memory_may_refuse_writing (either_may_refuse_writing (memory_or memory) (long_or (memory_or (long_or memory))) (memory_or_may_refuse_writing memory memory_may_refuse_writing) (long_or_may_refuse_writing (memory_or (long_or memory)) (memory_or_may_refuse_writing (long_or memory) text_may_refuse_writing))))) };
 
     #[tactic(auto, using(pagable_traits::proofs::Joined::pair_along, pagable_traits::proofs::Joined::writes_along, pagable_traits::proofs::Joined::refused_along))]
     fn pagable_serialize<S: PagableSerializer<E>>(&self, serializer: &mut S) -> Result<(), Error> {

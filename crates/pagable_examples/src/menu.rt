@@ -45,9 +45,9 @@ pub enum MenuNode {
 
 impl<H: KeyHash> NodeSet<Menu<H>> for MenuNode {
     ghost use Rattle.std.specs.Prelude.{[]};
-    ghost use Rattle.pagable_model.specs.Causes.{memory_is_own_reading, memory_is_own_writing};
+    ghost use Rattle.pagable_model.specs.Causes.{memory_is_own_reading};
     ghost use Rattle.pagable_model.specs.Gives.{memory};
-    ghost use Rattle.pagable_examples.specs.Menus.{type_of, shape_of, own_shape, means, has_meaning, refers_to_nothing, has_shape};
+    ghost use Rattle.pagable_examples.specs.Menus.{type_of, shape_of, own_shape, means, write_causes, write_causes_may_refuse, has_meaning, refers_to_nothing, has_shape};
 
     ghost type_of = { type_of };
 
@@ -59,11 +59,11 @@ impl<H: KeyHash> NodeSet<Menu<H>> for MenuNode {
 
     ghost refs_of = { λ n. [] };
 
-    ghost write_causes = { λ t. memory };
+    ghost write_causes = { write_causes };
 
     ghost read_causes = { λ t. memory };
 
-    ghost write_causes_are_own = { λ t. memory_is_own_writing };
+    ghost write_causes_may_refuse = { write_causes_may_refuse };
 
     ghost read_causes_are_own = { λ t. memory_is_own_reading };
 

@@ -1,6 +1,6 @@
 //! An enum of cases: a flag tells them apart, as it does for an `Option`.
 
-ghost use Rattle.pagable_model.specs.Causes.{memory_is_own_writing, never_is_own_reading};
+ghost use Rattle.pagable_model.specs.Causes.{memory_may_refuse_writing, never_is_own_reading};
 ghost use Rattle.pagable_model.specs.Gives.{memory, never};
 ghost use Rattle.pagable_model.specs.Shape.{optional, unsigned};
 ghost use Rattle.pagable_examples.specs.Portions.{portion_means, portion_has_meaning};
@@ -32,7 +32,7 @@ impl<E: Env> Carried<E> for Portion {
 impl<E: Env> PagableSerialize<E> for Portion {
     ghost write_causes = { memory };
 
-    ghost write_causes_are_own = { memory_is_own_writing };
+    ghost write_causes_may_refuse = { memory_may_refuse_writing };
 
     fn pagable_serialize<S: PagableSerializer<E>>(&self, serializer: &mut S) -> Result<(), Error> {
         match self {

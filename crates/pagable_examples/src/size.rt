@@ -1,7 +1,7 @@
 //! An enum of two cases that is carried as an `Option`: the shortest way where one of them has no part.
 
 ghost use Rattle.std.specs.Prelude.{◌≡◌};
-ghost use Rattle.pagable_model.specs.Causes.{memory_is_own_writing, memory_or_is_own_writing, never_is_own_reading};
+ghost use Rattle.pagable_model.specs.Causes.{memory_may_refuse_writing, memory_or_may_refuse_writing, never_is_own_reading};
 ghost use Rattle.pagable_model.specs.Gives.{memory};
 ghost use Rattle.pagable_examples.specs.Sizes.{tenths_of};
 
@@ -42,7 +42,7 @@ impl<E: Env> Carried<E> for Size {
 impl<E: Env> PagableSerialize<E> for Size {
     ghost write_causes = { ⟦<Option<u8> as PagableSerialize<E>>⟧.write_causes };
 
-    ghost write_causes_are_own = { memory_or_is_own_writing memory memory_is_own_writing };
+    ghost write_causes_may_refuse = { memory_or_may_refuse_writing memory memory_may_refuse_writing };
 
     fn pagable_serialize<S: PagableSerializer<E>>(&self, serializer: &mut S) -> Result<(), Error> {
         self.tenths().pagable_serialize(serializer)

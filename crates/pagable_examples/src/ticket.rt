@@ -2,7 +2,7 @@
 
 ghost use Rattle.std.specs.Prelude.{refl};
 ghost use Rattle.std.specs.Int.{w16};
-ghost use Rattle.pagable_model.specs.Causes.{memory_is_own_writing, never_is_own_reading};
+ghost use Rattle.pagable_model.specs.Causes.{memory_may_refuse_writing, never_is_own_reading};
 ghost use Rattle.pagable_model.specs.Gives.{memory, never};
 ghost use Rattle.pagable_model.specs.Meaning.{number};
 ghost use Rattle.pagable_model.specs.Shape.{unsigned};
@@ -31,7 +31,7 @@ impl<E: Env> EagerlyCarried<E> for Ticket {
 impl<E: Env> PagableEagerSerialize<E> for Ticket {
     ghost eager_write_causes = { memory };
 
-    ghost eager_write_causes_are_own = { memory_is_own_writing };
+    ghost eager_write_causes_may_refuse = { memory_may_refuse_writing };
 
     #[tactic(auto, using(pagable_codec::proofs::Writing::parts))]
     fn eager_pagable_serialize<S: PagableSerializer<E>>(

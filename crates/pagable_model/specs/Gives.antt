@@ -9,7 +9,7 @@ abbrev pub Gives : {X Y : Type 0} → (Error → Type 0) → (X → Y) → Resul
 Gives own view (Ok x) read = read ≡ Ok (view x)
 Gives own view (Err e) read = (read ≡ Err e) ⊎ own e
 
--- The causes that a reader or a writer may have of its own: none
+-- The causes that a reader may have of its own, and all those by which a writer refuses: none
 abbrev pub never : Error → Type 0
 never e = ⊥
 
@@ -24,6 +24,20 @@ memory_or part e = (e ≡ errors.OutOfMemory) ⊎ part e
 -- a cause of one of two parts
 abbrev pub either : (Error → Type 0) → (Error → Type 0) → Error → Type 0
 either first second e = first e ⊎ second e
+
+-- TooLong of what has a length, TooDeep of what enters a level, JsonNumber of a JSON number, or a cause of the rest
+abbrev pub long_or : (Error → Type 0) → Error → Type 0
+long_or part e = (e ≡ errors.TooLong) ⊎ part e
+
+abbrev pub deep_or : (Error → Type 0) → Error → Type 0
+deep_or part e = (e ≡ errors.TooDeep) ⊎ part e
+
+abbrev pub number_or : (Error → Type 0) → Error → Type 0
+number_or part e = (e ≡ errors.JsonNumber) ⊎ part e
+
+-- a JSON value may be refused by each of these, or by want of memory
+abbrev pub json_causes : Error → Type 0
+json_causes e = long_or (deep_or (number_or memory)) e
 
 -- new is old with more at its end
 abbrev pub Extends : {X : Type 0} → List X → List X → Type 0

@@ -75,10 +75,13 @@ is_writing_fault errors.TooDeep = true
 is_writing_fault errors.JsonNumber = true
 is_writing_fault _ = false
 
--- Those that a writer may have of its own beside them: a value that isn't registered, want of memory, and what it tells in words.
+-- Those that a writer may answer at all: these three, a value that isn't registered, want of memory, and what it tells in words.
 -- What a pager, a storage or a reader refuses is none of them.
-abbrev pub is_own_writing : Error → Bool
-is_own_writing errors.Unregistered = true
-is_own_writing errors.OutOfMemory = true
-is_own_writing (errors.Custom text) = true
-is_own_writing _ = false
+abbrev pub may_refuse_writing : Error → Bool
+may_refuse_writing errors.TooLong = true
+may_refuse_writing errors.TooDeep = true
+may_refuse_writing errors.JsonNumber = true
+may_refuse_writing errors.Unregistered = true
+may_refuse_writing errors.OutOfMemory = true
+may_refuse_writing (errors.Custom text) = true
+may_refuse_writing _ = false

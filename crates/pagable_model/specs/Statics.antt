@@ -4,7 +4,7 @@ use Rattle.std.proofs.Common.{subst, sym}
 use Rattle.std.specs.List.{slice_get}
 use Rattle.pagable_model.specs.declared.error.Error.{Error}
 use Rattle.pagable_model.specs.declared.error.Error.TheVariants as errors
-use Rattle.pagable_model.specs.Refusals.{is_own_writing}
+use Rattle.pagable_model.specs.Refusals.{may_refuse_writing}
 use Rattle.pagable_model.specs.Meaning.{Meaning}
 use Rattle.pagable_model.specs.Reading.{registered}
 
@@ -30,5 +30,5 @@ StandsAt plain registry value i = registered (meanings_of plain registry) i ≡ 
 abbrev pub unregistered : Error → Type 0
 unregistered e = e ≡ errors.Unregistered
 
-pub unregistered_is_own_writing : (e : Error) → unregistered e → is_own_writing e ≡ true
-unregistered_is_own_writing e h = let P : Error → Type 0 = λ x. is_own_writing x ≡ true in subst P (sym h) refl
+pub unregistered_may_refuse_writing : (e : Error) → unregistered e → may_refuse_writing e ≡ true
+unregistered_may_refuse_writing e h = let P : Error → Type 0 = λ x. may_refuse_writing x ≡ true in subst P (sym h) refl

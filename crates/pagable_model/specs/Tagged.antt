@@ -1,5 +1,5 @@
 -- Values that are written as a tag and a body: what they mean, and which registration of a tag counts.
-use Rattle.std.specs.Prelude.{◌≡◌, ℕ, ◌<◌, List, [], ◌∷◌, map, Bool, true, false, Some, ◌⊎◌}
+use Rattle.std.specs.Prelude.{◌≡◌, ℕ, ◌<◌, List, map, true, false, Some, ◌⊎◌}
 use Rattle.std.specs.List.{slice_get}
 use Rattle.std.specs.Str.{bytes_eq}
 use Rattle.pagable_model.specs.declared.numbers.ArcRef.{ArcRef}

@@ -1,5 +1,5 @@
 -- What was written so far, and what writing a value adds.
-use Rattle.std.specs.Prelude.{◌≡◌, ℕ, ◌+◌, ◌-◌, List, ◌++◌, length, take, drop, IsTrue, ◌⊎◌}
+use Rattle.std.specs.Prelude.{◌≡◌, ℕ, ◌+◌, ◌-◌, List, ◌++◌, length, take, drop, IsTrue}
 use Rattle.pagable_model.specs.declared.error.Error.{Error}
 use Rattle.pagable_model.specs.declared.numbers.ArcRef.{ArcRef}
 use Rattle.pagable_model.specs.declared.numbers.PagableCursor.{PagableCursor}
@@ -98,7 +98,3 @@ Refused M n s e = IsTrue (is_writing_fault e) → NoFormOfSome M n s
 
 abbrev pub RefusedAll : (List (Meaning ArcRef) → Type 0) → Nesting → Shape → Error → Type 0
 RefusedAll M n s e = IsTrue (is_writing_fault e) → NoFormsOfSome M n s
-
--- a refusal says that a value has no form, or has a cause of the type's own
-abbrev pub IsRefusal : (Error → Type 0) → Error → Type 0
-IsRefusal own e = IsTrue (is_writing_fault e) ⊎ own e

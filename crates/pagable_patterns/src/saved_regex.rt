@@ -6,14 +6,14 @@ ghost use Rattle.std.specs.Str.{bytes_eq};
 ghost use Rattle.std.proofs.Common.{rules};
 ghost use Rattle.std.specs.Cmp.Rules.{comparing, hashing};
 ghost use Rattle.std.specs.Hash as fed;
-ghost use Rattle.pagable_model.specs.Gives.{memory};
-ghost use Rattle.pagable_model.specs.Causes.{memory_is_own_writing};
+ghost use Rattle.pagable_model.specs.Gives.{memory, long_or};
+ghost use Rattle.pagable_model.specs.Causes.{text_may_refuse_writing};
 ghost use Rattle.pagable_model.specs.Meaning.{pattern};
 ghost use Rattle.pagable_model.specs.Patterns.{pattern_is_same, pattern_refers_to_nothing, pattern_has_one_form};
 ghost use Rattle.pagable_model.specs.Reading.{read};
 ghost use Rattle.pagable_model.specs.Shape as shapes;
 ghost use Rattle.pagable_model.specs.Standing.{handles_at, Is, MovesOn, GivesSome};
-ghost use Rattle.pagable_model.specs.Writing.{nesting, WritesSome, Refused, IsRefusal, Grows};
+ghost use Rattle.pagable_model.specs.Writing.{nesting, WritesSome, Refused, Grows};
 ghost use Rattle.pagable_patterns.specs.Building.{IsBuiltFrom, IsRefusedPattern, refusal_of, pattern_causes, pattern_causes_are_own, ReadsNoPattern};
 ghost use Rattle.pagable_model.specs.declared.error.Error.TheVariants.{RegexRefused};
 
@@ -163,7 +163,7 @@ impl<E: Env> PagableKey<E> for SavedRegex {
 fn write_text<E: Env, S: PagableSerializer<E>>(text: &str, serializer: &mut S) -> Result<(), Error>
     ensures ok { OnOk result (WritesSome (Is pattern text.now) (nesting (S.levels serializer.old) (E.parts (S.environment serializer.old))) shapes.pattern (S.out serializer.old) (S.out serializer.new)) }
     ensures refused { IfErr result (Refused (Is pattern text.now) (nesting (S.levels serializer.old) (E.parts (S.environment serializer.old))) shapes.pattern) }
-    ensures only { IfErr result (IsRefusal memory) }
+    ensures only { IfErr result (long_or memory) }
     ensures err { Grows (S.out serializer.old) (S.out serializer.new) }
     ensures same_env { S.environment serializer.new ≡ S.environment serializer.old }
     ensures same_levels { S.levels serializer.new ≡ S.levels serializer.old }
@@ -172,9 +172,9 @@ fn write_text<E: Env, S: PagableSerializer<E>>(text: &str, serializer: &mut S) -
 }
 
 impl<E: Env> PagableSerialize<E> for SavedRegex {
-    ghost write_causes = { memory };
+    ghost write_causes = { long_or memory };
 
-    ghost write_causes_are_own = { memory_is_own_writing };
+    ghost write_causes_may_refuse = { text_may_refuse_writing };
 
     /// Appends the text.
     fn pagable_serialize<S: PagableSerializer<E>>(&self, serializer: &mut S) -> Result<(), Error> {

@@ -13,10 +13,10 @@ ghost use Rattle.pagable_model.specs.Meaning.{Meaning, lifted};
 ghost use Rattle.pagable_model.specs.Reading.{read, registered};
 ghost use Rattle.pagable_model.specs.Shape.{static_value};
 ghost use Rattle.pagable_model.specs.Standing.{handles_at, GivesSome, Is, MovesOn};
-ghost use Rattle.pagable_model.specs.Writing.{nesting, WritesSome, Refused, IsRefusal, Grows};
+ghost use Rattle.pagable_model.specs.Writing.{nesting, WritesSome, Refused, Grows};
 ghost use Rattle.pagable_model.specs.Lengths.{long_or_memory};
-ghost use Rattle.pagable_model.specs.Causes.{never_is_own_reading, memory_or_is_own_writing};
-ghost use Rattle.pagable_model.specs.Statics.{HasEqual, NoEqualBelow, StandsAt, meanings_of, unregistered, unregistered_is_own_writing};
+ghost use Rattle.pagable_model.specs.Causes.{never_is_own_reading, memory_or_may_refuse_writing};
+ghost use Rattle.pagable_model.specs.Statics.{HasEqual, NoEqualBelow, StandsAt, meanings_of, unregistered, unregistered_may_refuse_writing};
 
 use pagable_codec::deserializer::PagableDeserializer;
 use pagable_codec::env::Env;
@@ -330,7 +330,7 @@ impl<E: Env, T: HasStaticValueRegistry<E>> OneMeaning<E> for StaticValue<T> {
 impl<E: Env, T: HasStaticValueRegistry<E>> PagableSerialize<E> for StaticValue<T> {
     ghost write_causes = { memory_or unregistered };
 
-    ghost write_causes_are_own = { memory_or_is_own_writing unregistered unregistered_is_own_writing };
+    ghost write_causes_may_refuse = { memory_or_may_refuse_writing unregistered unregistered_may_refuse_writing };
 
     /// Appends the index. Unregistered exactly where the environment's registry has no equal value under it, and else
     /// refused by want of memory alone.
@@ -338,7 +338,7 @@ impl<E: Env, T: HasStaticValueRegistry<E>> PagableSerialize<E> for StaticValue<T
     fn pagable_serialize<S: PagableSerializer<E>>(&self, serializer: &mut S) -> Result<(), Error>
         ensures ok { OnOk result (WritesSome (Is (λ v. lifted (T.plain v.0.value)) self.now) (nesting (S.levels serializer.old) (E.parts (S.environment serializer.old))) (static_value (meanings_of T.plain (T.known (S.environment serializer.old)))) (S.out serializer.old) (S.out serializer.new)) }
         ensures refused { IfErr result (Refused (Is (λ v. lifted (T.plain v.0.value)) self.now) (nesting (S.levels serializer.old) (E.parts (S.environment serializer.old))) (static_value (meanings_of T.plain (T.known (S.environment serializer.old))))) }
-        ensures only { IfErr result (IsRefusal (memory_or unregistered)) }
+        ensures only { IfErr result (memory_or unregistered) }
         ensures err { Grows (S.out serializer.old) (S.out serializer.new) }
         ensures same_env { S.environment serializer.new ≡ S.environment serializer.old }
         ensures same_levels { S.levels serializer.new ≡ S.levels serializer.old }

@@ -7,13 +7,13 @@ ghost use Rattle.std.specs.String.{string_bytes};
 ghost use Rattle.pagable_model.specs.Basic.{text_form, text_at, longest};
 ghost use Rattle.pagable_model.specs.Canonical.{IsReadable};
 ghost use Rattle.pagable_model.specs.Carried.{tagged_by};
-ghost use Rattle.pagable_model.specs.Gives.{Gives, memory, memory_or};
+ghost use Rattle.pagable_model.specs.Gives.{Gives, memory, memory_or, long_or};
 ghost use Rattle.pagable_model.specs.Meaning.{Meaning};
 ghost use Rattle.pagable_model.specs.Reading.{read, bytes_of};
-ghost use Rattle.pagable_model.specs.Refusals.{is_own_reading, is_own_writing};
+ghost use Rattle.pagable_model.specs.Refusals.{is_own_reading, may_refuse_writing};
 ghost use Rattle.pagable_model.specs.Shape.{Shape, tagged};
 ghost use Rattle.pagable_model.specs.Standing.{handles_at, MovesOn, GivesSome, SomeMeaning};
-ghost use Rattle.pagable_model.specs.Writing.{nesting, WritesSome, Refused, IsRefusal, Grows, added};
+ghost use Rattle.pagable_model.specs.Writing.{nesting, WritesSome, Refused, Grows, added};
 ghost use Rattle.pagable_model.specs.declared.error.Error.{Error as Refusal};
 ghost use Rattle.pagable_model.specs.declared.numbers.ArcRef.{ArcRef as Reference};
 ghost use Rattle.pagable_model.specs.Lengths.{long_or_memory};
@@ -38,7 +38,7 @@ pub trait PagableTagged<E: Env>: Sized {
     // What the body of a value may mean.
     ghost body_means: { Self → Meaning Reference → Type 0 };
 
-    // The refusals of a body's writing beside those that say that it has no form.
+    // All refusals of a body's writing, those among them that say that it has no form.
     ghost body_causes: { Refusal → Type 0 };
 
     /// The tag of the value.
@@ -52,14 +52,14 @@ pub trait PagableTagged<E: Env>: Sized {
     ) -> Result<(), Error>
         ensures ok { OnOk result (WritesSome (body_means self.now) (nesting (S.levels serializer.old) (E.parts (S.environment serializer.old))) (bodies (S.environment serializer.old) (tag self.now)) (S.out serializer.old) (S.out serializer.new)) }
         ensures refused { IfErr result (Refused (body_means self.now) (nesting (S.levels serializer.old) (E.parts (S.environment serializer.old))) (bodies (S.environment serializer.old) (tag self.now))) }
-        ensures only { IfErr result (IsRefusal body_causes) }
+        ensures only { IfErr result body_causes }
         ensures err { Grows (S.out serializer.old) (S.out serializer.new) }
         ensures same_env { S.environment serializer.new ≡ S.environment serializer.old }
         ensures same_levels { S.levels serializer.new ≡ S.levels serializer.old };
 
     ghost body_has_meaning: { (x : Self) → SomeMeaning (body_means x) };
 
-    ghost body_causes_are_own: { (e : Refusal) → body_causes e → is_own_writing e ≡ true };
+    ghost body_causes_may_refuse: { (e : Refusal) → body_causes e → may_refuse_writing e ≡ true };
 
     /// Writes the tag and then the body, whichever tags are registered. TooLong for a tag above 4,294,967,295 bytes.
     final fn serialize_tagged<S: PagableSerializer<E>>(
@@ -68,7 +68,7 @@ pub trait PagableTagged<E: Env>: Sized {
     ) -> Result<(), Error>
         ensures ok { (known : List ℕ → Bool) (read : List ℕ → Shape) → OnOk result (WritesSome (MeansTagged (tag self.now) (body_means self.now)) (nesting (S.levels serializer.old) (E.parts (S.environment serializer.old))) (tagged (bodies (S.environment serializer.old)) known read) (S.out serializer.old) (S.out serializer.new)) }
         ensures refused { (known : List ℕ → Bool) (read : List ℕ → Shape) → IfErr result (Refused (MeansTagged (tag self.now) (body_means self.now)) (nesting (S.levels serializer.old) (E.parts (S.environment serializer.old))) (tagged (bodies (S.environment serializer.old)) known read)) }
-        ensures only { IfErr result (IsRefusal (memory_or body_causes)) }
+        ensures only { IfErr result (long_or (memory_or body_causes)) }
         ensures err { Grows (S.out serializer.old) (S.out serializer.new) }
         ensures same_env { S.environment serializer.new ≡ S.environment serializer.old }
         ensures same_levels { S.levels serializer.new ≡ S.levels serializer.old }
@@ -98,7 +98,7 @@ fn write_tagged<E: Env, T: PagableTagged<E>, S: PagableSerializer<E>>(
 ) -> Result<(), Error>
     ensures ok { (known : List ℕ → Bool) (read : List ℕ → Shape) → OnOk result (WritesSome (MeansTagged (T.tag value.now) (T.body_means value.now)) (nesting (S.levels serializer.old) (E.parts (S.environment serializer.old))) (tagged (T.bodies (S.environment serializer.old)) known read) (S.out serializer.old) (S.out serializer.new)) }
     ensures refused { (known : List ℕ → Bool) (read : List ℕ → Shape) → IfErr result (Refused (MeansTagged (T.tag value.now) (T.body_means value.now)) (nesting (S.levels serializer.old) (E.parts (S.environment serializer.old))) (tagged (T.bodies (S.environment serializer.old)) known read)) }
-    ensures only { IfErr result (IsRefusal (memory_or T.body_causes)) }
+    ensures only { IfErr result (long_or (memory_or T.body_causes)) }
     ensures err { Grows (S.out serializer.old) (S.out serializer.new) }
     ensures same_env { S.environment serializer.new ≡ S.environment serializer.old }
     ensures same_levels { S.levels serializer.new ≡ S.levels serializer.old }

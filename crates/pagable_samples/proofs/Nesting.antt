@@ -1,19 +1,19 @@
 -- Lists inside lists, one level down each.
 use Rattle.std.proofs.Common.{◌≡◌, ℕ, suc, ◌+◌, ◌-◌, ◌<◌, ◌≤◌, true, false, List, [], ◌∷◌, ◌++◌, arith, refl, sym, subst, Result, Ok, Err, inl, inr}
-use Rattle.std.specs.Prelude.{IfErr, ◌⊎◌, IsTrue}
+use Rattle.std.specs.Prelude.{IfErr, ◌⊎◌}
 use Rattle.pagable_model.specs.declared.error.Error.{Error}
 use Rattle.pagable_model.specs.declared.error.Error.TheVariants as errors
 use Rattle.pagable_model.specs.declared.numbers.ArcRef.{ArcRef}
 use Rattle.pagable_model.specs.Refusals.{is_writing_fault}
 use Rattle.pagable_model.specs.Basic.{bool_at, bool_form}
-use Rattle.pagable_model.specs.Gives.{never, memory}
+use Rattle.pagable_model.specs.Gives.{never, memory, deep_or}
 use Rattle.pagable_model.specs.Meaning.{Meaning, pair, absent, present}
 use Rattle.pagable_model.specs.Shape.{Shape, nested}
 use Rattle.pagable_model.specs.Form.{none-form, some-form, both-form, nested-form}
 use Rattle.pagable_model.specs.Reading.{Rest, deepest, read, read_with, below, bytes_of}
 use Rattle.pagable_model.specs.Standing.{Answer, handles_at, Is}
-use Rattle.pagable_model.specs.Writing.{Out, Nesting, nesting, Writes, WritesSome, Grows, added, NoForm, Refused, IsRefusal}
-use Rattle.pagable_codec.proofs.Writing.{grows_refl, grows_trans, grows_writes, grows_same, then, writes_is, only_memory}
+use Rattle.pagable_model.specs.Writing.{Out, Nesting, nesting, Writes, WritesSome, Grows, added, NoForm, Refused}
+use Rattle.pagable_codec.proofs.Writing.{grows_refl, grows_trans, grows_writes, grows_same, then, writes_is}
 use Rattle.pagable_codec.proofs.Adding.{grows_added_bytes}
 use Rattle.pagable_codec.proofs.Reading.{moves_trans, moves_refl}
 use Rattle.pagable_samples.specs.Cells.{cell, cells, NoFormWhere}
@@ -40,8 +40,12 @@ refused_down (Err e) levels m lt h = λ fault. no-down levels m lt (h fault)
 pub refused_deep : (e : Error) (levels : ℕ) (m : Meaning ArcRef) → deepest ≤ levels → NoFormWhere (nesting levels cells) (nested 0) m e
 refused_deep e levels m le = λ fault. no-deep levels m le
 
-pub only_deep : (e : Error) → e ≡ errors.TooDeep → IsRefusal memory e
-only_deep e h = inl (let P : Error → Type 0 = λ x. IsTrue (is_writing_fault x) in subst P (sym h) refl)
+pub only_deep : (e : Error) → e ≡ errors.TooDeep → deep_or memory e
+only_deep e h = inl h
+
+pub only_flag : {X : Type 0} (r : Result X Error) → IfErr r memory → IfErr r (deep_or memory)
+only_flag (Ok x) h = tt
+only_flag (Err e) h = inr h
 
 pub ruleset writing = (writes_down, refused_down, refused_deep, only_deep, grows_refl, grows_trans, grows_writes, grows_same)
 
@@ -74,7 +78,7 @@ pub refused_memory_alone : {X : Type 0} (r : Result X Error) (n : Nesting) (s : 
 refused_memory_alone (Ok x) n s m h = tt
 refused_memory_alone (Err e) n s m h = λ fault. let none : is_writing_fault e ≡ false = (let P : Error → Type 0 = λ x. is_writing_fault x ≡ false in subst P (sym h) refl) in absurd cc
 
-pub ruleset writing_cells = (writes_end, writes_more, no_first, no_rest, refused_memory_alone, only_memory, grows_refl, grows_trans, grows_writes, grows_added_bytes)
+pub ruleset writing_cells = (writes_end, writes_more, no_first, no_rest, refused_memory_alone, only_flag, grows_refl, grows_trans, grows_writes, grows_added_bytes)
 
 pub refused_value : {X Y : Type 0} (r : Result X Error) (meaning : Y → Meaning ArcRef) (x : Y) (n : Nesting) (s : Shape) → IfErr r (NoFormWhere n s (meaning x)) → IfErr r (Refused (Is meaning x) n s)
 refused_value (Ok y) meaning x n s h = tt

@@ -1,11 +1,11 @@
 //! Lists inside lists, each one level below the one that holds it: a sample of a type that counts its levels.
 
 ghost use Rattle.std.specs.Prelude.{◌≡◌, OnOk, IfErr};
-ghost use Rattle.pagable_model.specs.Gives.{Gives, memory};
+ghost use Rattle.pagable_model.specs.Gives.{Gives, memory, deep_or};
 ghost use Rattle.pagable_model.specs.Reading.{read};
 ghost use Rattle.pagable_model.specs.Shape.{nested};
 ghost use Rattle.pagable_model.specs.Standing.{handles_at, MovesOn};
-ghost use Rattle.pagable_model.specs.Writing.{nesting, Writes, NoForm, IsRefusal, Grows};
+ghost use Rattle.pagable_model.specs.Writing.{nesting, Writes, NoForm, Grows};
 ghost use Rattle.pagable_samples.specs.Cells.{cells, cell, of_nested, NoFormWhere};
 
 use pagable::{
@@ -55,7 +55,7 @@ fn write_nested<S: PagableSerializer<NestedEnv>>(
 ) -> Result<(), Error>
     ensures ok { OnOk result (Writes (nesting (S.levels serializer.old) cells) (nested 0) (of_nested value.now) (S.out serializer.old) (S.out serializer.new)) }
     ensures refused { IfErr result (NoFormWhere (nesting (S.levels serializer.old) cells) (nested 0) (of_nested value.now)) }
-    ensures only { IfErr result (IsRefusal memory) }
+    ensures only { IfErr result (deep_or memory) }
     ensures err { Grows (S.out serializer.old) (S.out serializer.new) }
     ensures same_env { S.environment serializer.new ≡ S.environment serializer.old }
     ensures same_levels { S.levels serializer.new ≡ S.levels serializer.old }
@@ -76,7 +76,7 @@ fn write_cell<S: PagableSerializer<NestedEnv>>(
 ) -> Result<(), Error>
     ensures ok { OnOk result (Writes (nesting (S.levels serializer.old) cells) cell (of_nested value.now) (S.out serializer.old) (S.out serializer.new)) }
     ensures refused { IfErr result (NoFormWhere (nesting (S.levels serializer.old) cells) cell (of_nested value.now)) }
-    ensures only { IfErr result (IsRefusal memory) }
+    ensures only { IfErr result (deep_or memory) }
     ensures err { Grows (S.out serializer.old) (S.out serializer.new) }
     ensures same_env { S.environment serializer.new ≡ S.environment serializer.old }
     ensures same_levels { S.levels serializer.new ≡ S.levels serializer.old }
@@ -159,12 +159,12 @@ impl OneMeaning<NestedEnv> for Nested {
 }
 
 impl PagableSerialize<NestedEnv> for Nested {
-    ghost use Rattle.pagable_model.specs.Gives.{memory};
-    ghost use Rattle.pagable_model.specs.Causes.{memory_is_own_writing};
+    ghost use Rattle.pagable_model.specs.Gives.{memory, deep_or};
+    ghost use Rattle.pagable_model.specs.Causes.{memory_may_refuse_writing, deep_or_may_refuse_writing};
 
-    ghost write_causes = { memory };
+    ghost write_causes = { deep_or memory };
 
-    ghost write_causes_are_own = { memory_is_own_writing };
+    ghost write_causes_may_refuse = { deep_or_may_refuse_writing memory memory_may_refuse_writing };
 
     #[tactic(auto, using(crate::proofs::Nesting::writing_values))]
     fn pagable_serialize<S: PagableSerializer<NestedEnv>>(

@@ -53,9 +53,9 @@ impl TextNode {
 
 impl<H: KeyHash> NodeSet<TextEnv<H>> for TextNode {
     ghost use Rattle.std.specs.Prelude.{◌≡◌, [], refl};
-    ghost use Rattle.pagable_model.specs.Gives.{memory};
+    ghost use Rattle.pagable_model.specs.Gives.{memory, long_or};
     ghost use Rattle.pagable_model.specs.Shape.{text as text_shape};
-    ghost use Rattle.pagable_model.specs.Causes.{memory_is_own_reading, memory_is_own_writing};
+    ghost use Rattle.pagable_model.specs.Causes.{memory_is_own_reading, text_may_refuse_writing};
     ghost use Rattle.pagable_samples.specs.Texts.{shape_of, text_of, texts_refer};
 
     ghost type_of = { λ n. 0 };
@@ -68,11 +68,11 @@ impl<H: KeyHash> NodeSet<TextEnv<H>> for TextNode {
 
     ghost refs_of = { λ n. [] };
 
-    ghost write_causes = { λ t. memory };
+    ghost write_causes = { λ t. long_or memory };
 
     ghost read_causes = { λ t. memory };
 
-    ghost write_causes_are_own = { λ t. memory_is_own_writing };
+    ghost write_causes_may_refuse = { λ t. text_may_refuse_writing };
 
     ghost read_causes_are_own = { λ t. memory_is_own_reading };
 

@@ -5,7 +5,7 @@ ghost use Rattle.pagable_model.specs.Gives.{memory, never};
 ghost use Rattle.pagable_model.specs.Meaning.{reference as reference_meaning};
 ghost use Rattle.pagable_model.specs.Shape.{reference, nothing};
 ghost use Rattle.pagable_model.specs.Standing.{Is};
-ghost use Rattle.pagable_model.specs.Causes.{memory_is_own_writing, never_is_own_reading};
+ghost use Rattle.pagable_model.specs.Causes.{memory_may_refuse_writing, never_is_own_reading};
 
 use crate::equal::equal;
 use pagable::{
@@ -54,7 +54,7 @@ impl Carried<TestEnv> for Held {
 impl PagableSerialize<TestEnv> for Held {
     ghost write_causes = { memory };
 
-    ghost write_causes_are_own = { memory_is_own_writing };
+    ghost write_causes_may_refuse = { memory_may_refuse_writing };
 
     #[tactic(auto, using(pagable_codec::proofs::Writing::parts, pagable_codec::proofs::Writing::references))]
     fn pagable_serialize<S: PagableSerializer<TestEnv>>(

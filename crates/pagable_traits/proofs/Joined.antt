@@ -14,7 +14,7 @@ use Rattle.std.specs.Str.{IsUtf8}
 use Rattle.pagable_model.specs.Form.{text-form, err-form, ok-form, array-form}
 use Rattle.pagable_model.specs.Reading.{Rest, Context, items, bytes_of, read, read_with}
 use Rattle.pagable_model.specs.Standing.{Answer, Gave, handles_at, Is}
-use Rattle.pagable_model.specs.Writing.{Out, Nesting, FormAt, FormsAt, WritesSome, WritesSomeAll, added, NoForm, NoForms, Refused, RefusedAll, IsRefusal, Grows}
+use Rattle.pagable_model.specs.Writing.{Out, Nesting, FormAt, FormsAt, WritesSome, WritesSomeAll, added, NoForm, NoForms, Refused, RefusedAll, Grows}
 use Rattle.pagable_codec.proofs.Writing.{then, writes_is, writes_bytes}
 use Rattle.pagable_traits.proofs.Items.{mean-length, sequence-same}
 
@@ -64,21 +64,13 @@ pub refused_failure : {Y T X : Type 0} (r : Result Y Error) (M : T → Meaning A
 refused_failure (Ok y) M N x n s t h = tt
 refused_failure (Err e) M N x n s t h = λ fault. let no = h fault in record { m = failure no.m; is = means-err x no.m no.is; no_form = no-failure n s t no.m no.no_form }
 
-only-first-part : (first second : Error → Type 0) (e : Error) → IsRefusal first e → IsRefusal (memory_or (either first second)) e
-only-first-part first second e (inl fault) = inl fault
-only-first-part first second e (inr cause) = inr (inr (inl cause))
-
-only-second-part : (first second : Error → Type 0) (e : Error) → IsRefusal second e → IsRefusal (memory_or (either first second)) e
-only-second-part first second e (inl fault) = inl fault
-only-second-part first second e (inr cause) = inr (inr (inr cause))
-
-pub only_success : {Y : Type 0} (r : Result Y Error) (first second : Error → Type 0) → IfErr r (IsRefusal first) → IfErr r (IsRefusal (memory_or (either first second)))
+pub only_success : {Y : Type 0} (r : Result Y Error) (first second : Error → Type 0) → IfErr r first → IfErr r (memory_or (either first second))
 only_success (Ok y) first second h = tt
-only_success (Err e) first second h = only-first-part first second e h
+only_success (Err e) first second h = inr (inl h)
 
-pub only_failure : {Y : Type 0} (r : Result Y Error) (first second : Error → Type 0) → IfErr r (IsRefusal second) → IfErr r (IsRefusal (memory_or (either first second)))
+pub only_failure : {Y : Type 0} (r : Result Y Error) (first second : Error → Type 0) → IfErr r second → IfErr r (memory_or (either first second))
 only_failure (Ok y) first second h = tt
-only_failure (Err e) first second h = only-second-part first second e h
+only_failure (Err e) first second h = inr (inr h)
 
 -- ---- reading one
 

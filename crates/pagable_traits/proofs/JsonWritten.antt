@@ -1,7 +1,7 @@
 -- What writing a JSON value adds, and which have no form.
 use Rattle.std.proofs.Common.{◌≡◌, ℕ, suc, ◌-◌, ◌+◌, ◌<◌, ◌≤◌, ◌^◌, true, false, subst, List, [], ◌∷◌, ◌++◌, length, map, arith, rules, refl, sym, ap, ◌∙◌, append_assoc, Result, Ok, Err, Some, None, inl, inr, String, Global, BTreeMap, Vec}
 use Rattle.std.proofs.lemmas.Bool.{lt-ltb}
-use Rattle.std.specs.Prelude.{OnOk, IfErr, IsTrue, ℤ, pos, nat_lt, Bool, Option, if◌then◌else◌}
+use Rattle.std.specs.Prelude.{OnOk, IfErr, ℤ, pos, nat_lt, Bool, Option, if◌then◌else◌}
 use Rattle.std.specs.Int.{w64}
 use Rattle.std.specs.String.{string_bytes, string_cmp, string_cmp_total}
 use Rattle.std.specs.Map.{keys_of}
@@ -19,11 +19,10 @@ use Rattle.serde_json.proofs.Views.{view-Array, view-Object}
 use Rattle.pagable_model.specs.declared.error.Error.{Error}
 use Rattle.pagable_model.specs.declared.error.Error.TheVariants as errors
 use Rattle.pagable_model.specs.declared.numbers.ArcRef.{ArcRef}
-use Rattle.pagable_model.specs.Refusals.{is_writing_fault}
 use Rattle.pagable_model.specs.Basic.{longest, bool_form, length_form, text_form}
 use Rattle.pagable_model.specs.Carried.{of_entries}
 use Rattle.pagable_model.specs.Numbers.{unsigned_form, varint, IsSigned, signed_form}
-use Rattle.pagable_model.specs.Gives.{memory}
+use Rattle.pagable_model.specs.Gives.{memory, long_or, number_or, json_causes}
 use Rattle.pagable_model.specs.Keys.{text_order}
 use Rattle.pagable_model.specs.Lengths.{long_or_memory}
 use Rattle.pagable_model.specs.Lifted.{MeanAll, MeansList, MeansPair, list_single, pair_single, pair_has_meaning}
@@ -35,9 +34,10 @@ use Rattle.pagable_model.specs.Shape as shapes
 use Rattle.pagable_model.specs.Form.{list-form, sorted-map-form, json-null-form, json-flag-form, json-number-form, json-text-form, json-array-form, json-object-form}
 use Rattle.pagable_model.specs.Standing.{Is, SomeMeaning}
 use Rattle.pagable_model.specs.Keyed.{text_is_ordered}
-use Rattle.pagable_model.specs.Writing.{Out, Nesting, nesting, FormAt, WritesSome, added, NoForm, WritesSomeAll, Refused, RefusedAll, IsRefusal}
+use Rattle.pagable_model.specs.Writing.{Out, Nesting, nesting, FormAt, WritesSome, added, NoForm, WritesSomeAll, Refused, RefusedAll}
 use Rattle.pagable_codec.proofs.Writing.{then, writes_bytes, memory_refuses}
 use Rattle.pagable_traits.proofs.Maps.{IsOrderOf, key-order, sorted-map-splits, writes_sorted_map, refuse-count, refuses-items}
+use Rattle.pagable_traits.proofs.Parts.{only_along}
 use Rattle.pagable_traits.proofs.Items.{writes_list, refused_items, refuses-count}
 use Rattle.pagable_traits.specs.JsonData.{json_items, json_members, of_data, of_value, of_key, long_or_no_memory}
 
@@ -105,13 +105,10 @@ refused_text (Ok y) t n h = tt
 refused_text (Err e) t n (inl h) = λ fault. record { m = of_data (string t); is = refl; no_form = no-text n t h.0 }
 refused_text (Err e) t n (inr h) = memory_refuses e (Is of_data (string t)) n json h
 
-pub only-part-of : (len : ℕ) (e : Error) → long_or_no_memory len e → IsRefusal memory e
-only-part-of len e (inl h) = inl (let P : Error → Type 0 = λ x. IsTrue (is_writing_fault x) in subst P (sym h.1) refl)
-only-part-of len e (inr h) = inr h
-
-pub only_part_of : {Y : Type 0} (r : Result Y Error) (len : ℕ) → IfErr r (long_or_no_memory len) → IfErr r (IsRefusal memory)
+pub only_part_of : {Y : Type 0} (r : Result Y Error) (len : ℕ) → IfErr r (long_or_no_memory len) → IfErr r (long_or memory)
 only_part_of (Ok y) len h = tt
-only_part_of (Err e) len h = only-part-of len e h
+only_part_of (Err e) len (inl h) = inl h.1
+only_part_of (Err e) len (inr h) = inr h
 
 -- ---- numbers
 
@@ -146,8 +143,11 @@ no-number n (kit.float x) e b k f = go f refl
 pub refuses_number : (n : Nesting) (x : Num) (e : Error) → (as_i64 x ≡ (let o : Option ℤ = None in o)) → Refused (Is of_data (number x)) n json e
 refuses_number n x e none = λ fault. record { m = of_data (number x); is = refl; no_form = no-number n x none }
 
-pub only_number : IsRefusal memory errors.JsonNumber
+pub only_number : number_or memory errors.JsonNumber
 only_number = inl refl
+
+pub only_whole : {Y : Type 0} (r : Result Y Error) → IfErr r memory → IfErr r (number_or memory)
+only_whole r = only_along r memory (number_or memory) (λ e h. inr h)
 
 pub number_form : (n : Nesting) (x : Num) (z : ℤ) → as_i64 x ≡ Some z → IsSigned w64 z → FormAt n json (of_data (number x)) (2 ∷ 0 ∷ signed_form w64 z) []
 number_form n x z e within = rw (whole_number x z e) (json-number-form _ z within)
@@ -248,8 +248,27 @@ module _ (levels : ℕ) (parts : ℕ → Shape) where
   pub refuses_deep_object : (es : List (String Global × Value)) (e : Error) → deepest ≤ levels → Refused (Is of_data (object (members_view es))) (nesting levels parts) json e
   refuses_deep_object es e le = λ fault. record { m = variant 5 (sequence (map (λ f. pair (of_key f.0) (of_value f.1)) es)); is = sym (members-mean es); no_form = deep-object levels parts _ le }
 
-pub only-deep : (e : Error) → e ≡ errors.TooDeep → IsRefusal memory e
-only-deep e h = inl (let P : Error → Type 0 = λ x. IsTrue (is_writing_fault x) in subst P (sym h) refl)
+-- ---- causes
+
+pub json-long : (len : ℕ) (e : Error) → long_or_no_memory len e → json_causes e
+json-long len e (inl h) = inl h.1
+json-long len e (inr h) = inr (inr (inr h))
+
+pub json-text : (e : Error) → long_or memory e → json_causes e
+json-text e (inl h) = inl h
+json-text e (inr h) = inr (inr (inr h))
+
+pub json-deep : (e : Error) → e ≡ errors.TooDeep → json_causes e
+json-deep e h = inr (inl h)
+
+pub json_memory : {Y : Type 0} (r : Result Y Error) → IfErr r memory → IfErr r json_causes
+json_memory r = only_along r memory json_causes (λ e h. inr (inr (inr h)))
+
+pub json_number : {Y : Type 0} (r : Result Y Error) → IfErr r (number_or memory) → IfErr r json_causes
+json_number r = only_along r (number_or memory) json_causes (λ e h. inr (inr h))
+
+pub json_text : {Y : Type 0} (r : Result Y Error) → IfErr r (long_or memory) → IfErr r json_causes
+json_text r = only_along r (long_or memory) json_causes json-text
 
 -- ---- a value is what its data is
 

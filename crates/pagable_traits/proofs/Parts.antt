@@ -1,17 +1,16 @@
 -- Values that hold others: what writing their parts one after another adds, and what reading them so gives.
-use Rattle.std.proofs.Common.{◌≡◌, ℕ, true, false, subst, [], ◌∷◌, ◌++◌, refl, sym, ◌∙◌, Result, Ok, Err, Some, None, inl, inr}
-use Rattle.std.specs.Prelude.{OnOk, IfErr, IsTrue}
+use Rattle.std.proofs.Common.{◌≡◌, ℕ, true, false, [], ◌∷◌, ◌++◌, refl, ◌∙◌, Result, Ok, Err, Some, None, inl, inr}
+use Rattle.std.specs.Prelude.{OnOk, IfErr}
 use Rattle.pagable_model.specs.declared.error.Error.{Error}
 use Rattle.pagable_model.specs.declared.numbers.ArcRef.{ArcRef}
-use Rattle.pagable_model.specs.Refusals.{is_writing_fault}
 use Rattle.pagable_model.specs.Steps.{◌>>=◌}
 use Rattle.pagable_model.specs.Basic.{bool_form}
-use Rattle.pagable_model.specs.Gives.{memory, memory_or, either}
+use Rattle.pagable_model.specs.Gives.{memory, memory_or, either, long_or}
 use Rattle.pagable_model.specs.Lengths.{long_or_memory}
 use Rattle.pagable_model.specs.Meaning.{Meaning, pair, absent, present}
 use Rattle.pagable_model.specs.Shape.{Shape, optional, both}
 use Rattle.pagable_model.specs.Form.{none-form, some-form, both-form}
-use Rattle.pagable_model.specs.Writing.{Out, Nesting, WritesSome, added, NoForm, Refused, IsRefusal}
+use Rattle.pagable_model.specs.Writing.{Out, Nesting, WritesSome, added, NoForm, Refused}
 use Rattle.pagable_model.specs.Standing.{Gave, SomeMeaning}
 use Rattle.pagable_model.specs.Lifted.{MeansOption, means-none, means-some, MeansPair}
 use Rattle.pagable_codec.proofs.Writing.{then}
@@ -25,43 +24,40 @@ where_ok (Err e) P Q f h = tt
 
 -- ---- causes
 
-pub only_memory_or : {X : Type 0} (r : Result X Error) (own : Error → Type 0) → IfErr r memory → IfErr r (IsRefusal (memory_or own))
-only_memory_or (Ok x) own h = tt
-only_memory_or (Err e) own h = inr (inl h)
+pub only_along : {X : Type 0} (r : Result X Error) (P Q : Error → Type 0) → ((e : Error) → P e → Q e) → IfErr r P → IfErr r Q
+only_along (Ok x) P Q f h = tt
+only_along (Err e) P Q f h = f e h
 
-pub only-part : (own : Error → Type 0) (e : Error) → IsRefusal own e → IsRefusal (memory_or own) e
-only-part own e (inl fault) = inl fault
-only-part own e (inr cause) = inr (inr cause)
+pub only_memory_or : {X : Type 0} (r : Result X Error) (part : Error → Type 0) → IfErr r memory → IfErr r (memory_or part)
+only_memory_or r part = only_along r memory (memory_or part) (λ e h. inl h)
 
-pub only_part : {X : Type 0} (r : Result X Error) (own : Error → Type 0) → IfErr r (IsRefusal own) → IfErr r (IsRefusal (memory_or own))
-only_part (Ok x) own h = tt
-only_part (Err e) own h = only-part own e h
+pub only_part : {X : Type 0} (r : Result X Error) (part : Error → Type 0) → IfErr r part → IfErr r (memory_or part)
+only_part r part = only_along r part (memory_or part) (λ e h. inr h)
 
-pub only-first : (first second : Error → Type 0) (e : Error) → IsRefusal first e → IsRefusal (either first second) e
-only-first first second e (inl fault) = inl fault
-only-first first second e (inr cause) = inr (inl cause)
+pub only_first : {X : Type 0} (r : Result X Error) (first second : Error → Type 0) → IfErr r first → IfErr r (either first second)
+only_first r first second = only_along r first (either first second) (λ e h. inl h)
 
-pub only_first : {X : Type 0} (r : Result X Error) (first second : Error → Type 0) → IfErr r (IsRefusal first) → IfErr r (IsRefusal (either first second))
-only_first (Ok x) first second h = tt
-only_first (Err e) first second h = only-first first second e h
+pub only_second : {X : Type 0} (r : Result X Error) (first second : Error → Type 0) → IfErr r second → IfErr r (either first second)
+only_second r first second = only_along r second (either first second) (λ e h. inr h)
 
-pub only-second : (first second : Error → Type 0) (e : Error) → IsRefusal second e → IsRefusal (either first second) e
-only-second first second e (inl fault) = inl fault
-only-second first second e (inr cause) = inr (inr cause)
+pub only_long_or : {X : Type 0} (r : Result X Error) (part : Error → Type 0) → IfErr r part → IfErr r (long_or part)
+only_long_or r part = only_along r part (long_or part) (λ e h. inr h)
 
-pub only_second : {X : Type 0} (r : Result X Error) (first second : Error → Type 0) → IfErr r (IsRefusal second) → IfErr r (IsRefusal (either first second))
-only_second (Ok x) first second h = tt
-only_second (Err e) first second h = only-second first second e h
+-- of what has a length and parts
+pub only-part : (part : Error → Type 0) (e : Error) → part e → long_or (memory_or part) e
+only-part part e h = inr (inr h)
 
-pub only-count : (len : ℕ) (own : Error → Type 0) (e : Error) → long_or_memory len e → IsRefusal (memory_or own) e
-only-count len own e (inl h) = inl (let P : Error → Type 0 = λ x. IsTrue (is_writing_fault x) in subst P (sym h.1) refl)
-only-count len own e (inr h) = inr (inl h.1)
+pub only_parts : {X : Type 0} (r : Result X Error) (part : Error → Type 0) → IfErr r part → IfErr r (long_or (memory_or part))
+only_parts r part = only_along r part (long_or (memory_or part)) (only-part part)
 
-pub only_count : {X : Type 0} (r : Result X Error) (len : ℕ) (own : Error → Type 0) → IfErr r (long_or_memory len) → IfErr r (IsRefusal (memory_or own))
-only_count (Ok x) len own h = tt
-only_count (Err e) len own h = only-count len own e h
+pub only-count : (len : ℕ) (part : Error → Type 0) (e : Error) → long_or_memory len e → long_or (memory_or part) e
+only-count len part e (inl h) = inl h.1
+only-count len part e (inr h) = inr (inl h.1)
 
-pub ruleset causes = (only_memory_or, only_part, only_first, only_second, only_count)
+pub only_count : {X : Type 0} (r : Result X Error) (len : ℕ) (part : Error → Type 0) → IfErr r (long_or_memory len) → IfErr r (long_or (memory_or part))
+only_count r len part = only_along r (long_or_memory len) (long_or (memory_or part)) (only-count len part)
+
+pub ruleset causes = (only_memory_or, only_part, only_first, only_second, only_parts, only_count)
 
 -- ---- a value that may be absent
 

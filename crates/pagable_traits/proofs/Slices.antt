@@ -5,13 +5,15 @@ use Rattle.pagable_model.specs.declared.error.Error.{Error}
 use Rattle.pagable_model.specs.declared.error.Error.TheVariants as errors
 use Rattle.pagable_model.specs.declared.numbers.ArcRef.{ArcRef}
 use Rattle.pagable_model.specs.Basic.{longest}
+use Rattle.pagable_model.specs.Gives.{long_or}
 use Rattle.pagable_model.specs.Meaning.{Meaning, sequence}
 use Rattle.pagable_model.specs.Shape.{Shape, run}
 use Rattle.pagable_model.specs.Form.{run-form}
-use Rattle.pagable_model.specs.Writing.{Out, Nesting, FormAt, FormsAt, WritesSome, WritesSomeAll, NoForm, NoForms, NoFormOfSome, Refused, RefusedAll, IsRefusal}
+use Rattle.pagable_model.specs.Writing.{Out, Nesting, FormAt, FormsAt, WritesSome, WritesSomeAll, NoForm, NoForms, NoFormOfSome, Refused, RefusedAll}
 use Rattle.pagable_model.specs.Standing.{SomeMeaning}
 use Rattle.pagable_model.specs.Lifted.{MeanAll, MeansList, items_have_meanings}
 use Rattle.pagable_traits.proofs.Items.{mean-length, sequence-same}
+use Rattle.pagable_traits.proofs.Parts.{only_long_or}
 
 pub writes_run : {T : Type 0} (M : T → Meaning ArcRef → Type 0) (xs : List T) (n : Nesting) (s : Shape) (old new : Out) → length xs ≤ longest → WritesSomeAll (MeanAll M xs) n s old new → WritesSome (MeansList M xs) n (run s) old new
 writes_run M xs n s old new le v =
@@ -43,8 +45,7 @@ no_long_run M has xs n s lt =
     let long : longest < length all.0 = rw (mean-length all.1) lt in
     record { m = sequence all.0; is = record { ms = all.0; each = all.1; is = refl }; no_form = λ b k f. omega (arith, (run-parts n all.0 f refl).0) }
 
--- that a value is too long is no cause of its own
-pub long_refuses : (own : Error → Type 0) → IsRefusal own errors.TooLong
-long_refuses own = inl refl
+pub long_refuses : (part : Error → Type 0) → long_or part errors.TooLong
+long_refuses part = inl refl
 
-pub ruleset runs = (writes_run, refused_run, no_long_run, long_refuses)
+pub ruleset runs = (writes_run, refused_run, no_long_run, long_refuses, only_long_or)

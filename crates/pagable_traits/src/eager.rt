@@ -3,11 +3,11 @@
 
 ghost use Rattle.std.specs.Prelude.{◌≡◌, true, OnOk, IfErr};
 ghost use Rattle.pagable_model.specs.Reading.{read};
-ghost use Rattle.pagable_model.specs.Refusals.{is_own_reading, is_own_writing};
+ghost use Rattle.pagable_model.specs.Refusals.{is_own_reading, may_refuse_writing};
 ghost use Rattle.pagable_model.specs.Shape.{Shape};
 ghost use Rattle.pagable_model.specs.Meaning.{Meaning};
 ghost use Rattle.pagable_model.specs.Standing.{handles_at, MovesOn, GivesSome, SomeMeaning};
-ghost use Rattle.pagable_model.specs.Writing.{nesting, WritesSome, Refused, IsRefusal, Grows};
+ghost use Rattle.pagable_model.specs.Writing.{nesting, WritesSome, Refused, Grows};
 ghost use Rattle.pagable_model.specs.declared.error.Error.{Error as Refusal};
 ghost use Rattle.pagable_model.specs.declared.numbers.ArcRef.{ArcRef as Reference};
 
@@ -29,7 +29,7 @@ pub trait EagerlyCarried<E: Env> {
 
 /// A type whose values can be written eagerly.
 pub trait PagableEagerSerialize<E: Env>: EagerlyCarried<E> {
-    // The refusals of a writing beside those that say that a value has no form.
+    // All refusals of a writing, those among them that say that a value has no form.
     ghost eager_write_causes: { Refusal → Type 0 };
 
     /// Appends a form of the value, which has no reference. Refusals are those of `PagableSerialize`; what stood before
@@ -41,12 +41,12 @@ pub trait PagableEagerSerialize<E: Env>: EagerlyCarried<E> {
         ensures ok { OnOk result (WritesSome (Self.eager_means self.now) (nesting (S.levels serializer.old) (E.parts (S.environment serializer.old))) (Self.eager_shape (S.environment serializer.old)) (S.out serializer.old) (S.out serializer.new)) }
         ensures no_references { (S.out serializer.new).refs ≡ (S.out serializer.old).refs }
         ensures refused { IfErr result (Refused (Self.eager_means self.now) (nesting (S.levels serializer.old) (E.parts (S.environment serializer.old))) (Self.eager_shape (S.environment serializer.old))) }
-        ensures only { IfErr result (IsRefusal eager_write_causes) }
+        ensures only { IfErr result eager_write_causes }
         ensures err { Grows (S.out serializer.old) (S.out serializer.new) }
         ensures same_env { S.environment serializer.new ≡ S.environment serializer.old }
         ensures same_levels { S.levels serializer.new ≡ S.levels serializer.old };
 
-    ghost eager_write_causes_are_own: { (e : Refusal) → eager_write_causes e → is_own_writing e ≡ true };
+    ghost eager_write_causes_may_refuse: { (e : Refusal) → eager_write_causes e → may_refuse_writing e ≡ true };
 }
 
 /// A type whose values can be read eagerly.

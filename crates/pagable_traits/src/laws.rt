@@ -6,7 +6,7 @@ ghost use Rattle.std.specs.Int.{w8, w16, w32, w64, w128};
 ghost use Rattle.std.specs.String.{string_bytes};
 ghost use Rattle.std.specs.Prelude.{String as Text, Option as Maybe, Box as Boxed, Vec as Items};
 ghost use Rattle.std.specs.Global.{Global as Heap};
-ghost use Rattle.pagable_model.specs.Gives.{never, memory, memory_or, either};
+ghost use Rattle.pagable_model.specs.Gives.{never, memory, memory_or, either, long_or, json_causes};
 ghost use Rattle.pagable_model.specs.Keys.{number_order, integer_order, flag_order, nothing_order, text_order, optional_order, outcome_order, pair_order, list_order};
 ghost use Rattle.pagable_model.specs.Shape.{nothing, unsigned, signed, flag, text, letter, optional, list, run, both, sorted_map, placed_map, hash_map, sorted_set, placed_set};
 ghost use Rattle.pagable_model.specs.Meaning.{Meaning, number, integer, none};
@@ -173,11 +173,12 @@ pub fn nothing_is_carried<E: Env>()
     ensures reads { (e : Refusal) → ⟦<() as PagableDeserialize<'static, E>>⟧.read_causes e ↔ never e }
 {}
 
-/// A `String` is spelled as a text, means its bytes, and is refused by want of memory alone.
+/// A `String` is spelled as a text, and means its bytes. Writing is refused as too long or by want of memory, reading by
+/// want of memory.
 pub fn string_is_carried<E: Env>()
     ensures shape { (e : E) → ⟦<String as Carried<E>>⟧.shape e ≡ text }
     ensures means { (s : Text Heap) (m : Meaning Reference) → ⟦<String as Carried<E>>⟧.means s m ↔ (m ≡ meanings.text (string_bytes s)) }
-    ensures writes { (e : Refusal) → ⟦<String as PagableSerialize<E>>⟧.write_causes e ↔ memory e }
+    ensures writes { (e : Refusal) → ⟦<String as PagableSerialize<E>>⟧.write_causes e ↔ long_or memory e }
     ensures reads { (e : Refusal) → ⟦<String as PagableDeserialize<'static, E>>⟧.read_causes e ↔ memory e }
 {}
 
@@ -216,11 +217,11 @@ pub fn pair_is_carried<
 {}
 
 /// A `Vec` is spelled as a length and its items, means what they mean, and is refused by want of memory or as an item
-/// is.
+/// is; writing also as too long.
 pub fn list_is_carried<E: Env, T: PagableSerialize<E> + PagableDeserialize<'static, E> + Drop>()
     ensures shape { (e : E) → ⟦<Vec<T> as Carried<E>>⟧.shape e ≡ list (T.Carried.shape e) }
     ensures means { (v : Items T Heap) (m : Meaning Reference) → ⟦<Vec<T> as Carried<E>>⟧.means v m ↔ MeansList T.Carried.means v.items m }
-    ensures writes { (e : Refusal) → ⟦<Vec<T> as PagableSerialize<E>>⟧.write_causes e ↔ memory_or T.write_causes e }
+    ensures writes { (e : Refusal) → ⟦<Vec<T> as PagableSerialize<E>>⟧.write_causes e ↔ long_or (memory_or T.write_causes) e }
     ensures reads { (e : Refusal) → ⟦<Vec<T> as PagableDeserialize<'static, E>>⟧.read_causes e ↔ memory_or T.read_causes e }
 {}
 
@@ -231,7 +232,7 @@ pub fn boxed_slice_is_carried<
 >()
     ensures shape { (e : E) → ⟦<BoxedSlice<T> as Carried<E>>⟧.shape e ≡ list (T.Carried.shape e) }
     ensures means { (x : _) (m : Meaning Reference) → ⟦<BoxedSlice<T> as Carried<E>>⟧.means x m ↔ MeansList T.Carried.means (boxed_slice_items x) m }
-    ensures writes { (e : Refusal) → ⟦<BoxedSlice<T> as PagableSerialize<E>>⟧.write_causes e ↔ memory_or T.write_causes e }
+    ensures writes { (e : Refusal) → ⟦<BoxedSlice<T> as PagableSerialize<E>>⟧.write_causes e ↔ long_or (memory_or T.write_causes) e }
     ensures reads { (e : Refusal) → ⟦<BoxedSlice<T> as PagableDeserialize<'static, E>>⟧.read_causes e ↔ memory_or T.read_causes e }
 {}
 
@@ -243,20 +244,20 @@ pub fn small_list_is_carried<
 >()
     ensures shape { (e : E) → ⟦<SmallVec<T, N> as Carried<E>>⟧.shape e ≡ list (T.Carried.shape e) }
     ensures means { (x : _) (m : Meaning Reference) → ⟦<SmallVec<T, N> as Carried<E>>⟧.means x m ↔ MeansList T.Carried.means x.items m }
-    ensures writes { (e : Refusal) → ⟦<SmallVec<T, N> as PagableSerialize<E>>⟧.write_causes e ↔ memory_or T.write_causes e }
+    ensures writes { (e : Refusal) → ⟦<SmallVec<T, N> as PagableSerialize<E>>⟧.write_causes e ↔ long_or (memory_or T.write_causes) e }
     ensures reads { (e : Refusal) → ⟦<SmallVec<T, N> as PagableDeserialize<'static, E>>⟧.read_causes e ↔ memory_or T.read_causes e }
 {}
 
-/// A slice behind a reference is spelled as its items, without their count, means what they mean, and is refused as an
-/// item is. It isn't read.
+/// A slice behind a reference is spelled as its items, without their count, means what they mean, and is refused as too
+/// long or as an item is. It isn't read.
 pub fn slice_is_carried<'a, E: Env, T: PagableSerialize<E> + 'a>()
     ensures shape { (e : E) → ⟦<&'a [T] as Carried<E>>⟧.shape e ≡ run (T.Carried.shape e) }
     ensures means { (x : _) (m : Meaning Reference) → ⟦<&'a [T] as Carried<E>>⟧.means x m ↔ MeansList T.Carried.means x.now m }
-    ensures writes { (e : Refusal) → ⟦<&'a [T] as PagableSerialize<E>>⟧.write_causes e ↔ T.write_causes e }
+    ensures writes { (e : Refusal) → ⟦<&'a [T] as PagableSerialize<E>>⟧.write_causes e ↔ long_or T.write_causes e }
 {}
 
 /// A `BTreeMap` is spelled as a length and its entries in the order of its keys' meanings, means its entries in their
-/// order, and is refused by want of memory or as a key or a value is.
+/// order, and is refused by want of memory or as a key or a value is; writing also as too long.
 pub fn sorted_map_is_carried<
     E: Env,
     K: PagableOrdKey<E> + PagableSerialize<E> + PagableDeserialize<'static, E> + Drop,
@@ -264,12 +265,12 @@ pub fn sorted_map_is_carried<
 >()
     ensures shape { (e : E) → ⟦<BTreeMap<K, V> as Carried<E>>⟧.shape e ≡ sorted_map K.PagableOrdKey.order (K.Carried.shape e) (V.Carried.shape e) }
     ensures means { (x : _) (m : Meaning Reference) → ⟦<BTreeMap<K, V> as Carried<E>>⟧.means x m ↔ MeansList (MeansPair K.Carried.means V.Carried.means) x.entries m }
-    ensures writes { (e : Refusal) → ⟦<BTreeMap<K, V> as PagableSerialize<E>>⟧.write_causes e ↔ memory_or (either K.write_causes V.write_causes) e }
+    ensures writes { (e : Refusal) → ⟦<BTreeMap<K, V> as PagableSerialize<E>>⟧.write_causes e ↔ long_or (memory_or (either K.write_causes V.write_causes)) e }
     ensures reads { (e : Refusal) → ⟦<BTreeMap<K, V> as PagableDeserialize<'static, E>>⟧.read_causes e ↔ memory_or (either K.read_causes V.read_causes) e }
 {}
 
 /// An `IndexMap` is spelled as a length and its entries in the order of their arrival, means its entries in that order,
-/// and is refused by want of memory or as a key or a value is.
+/// and is refused by want of memory or as a key or a value is; writing also as too long.
 pub fn placed_map_is_carried<
     E: Env,
     K: PagableKey<E> + Hash + PagableSerialize<E> + PagableDeserialize<'static, E> + Drop,
@@ -277,12 +278,13 @@ pub fn placed_map_is_carried<
 >()
     ensures shape { (e : E) → ⟦<IndexMap<K, V> as Carried<E>>⟧.shape e ≡ placed_map (K.Carried.shape e) (V.Carried.shape e) }
     ensures means { (x : _) (m : Meaning Reference) → ⟦<IndexMap<K, V> as Carried<E>>⟧.means x m ↔ MeansList (MeansPair K.Carried.means V.Carried.means) x.entries m }
-    ensures writes { (e : Refusal) → ⟦<IndexMap<K, V> as PagableSerialize<E>>⟧.write_causes e ↔ memory_or (either K.write_causes V.write_causes) e }
+    ensures writes { (e : Refusal) → ⟦<IndexMap<K, V> as PagableSerialize<E>>⟧.write_causes e ↔ long_or (memory_or (either K.write_causes V.write_causes)) e }
     ensures reads { (e : Refusal) → ⟦<IndexMap<K, V> as PagableDeserialize<'static, E>>⟧.read_causes e ↔ memory_or (either K.read_causes V.read_causes) e }
 {}
 
 /// A `HashMap` is spelled as a length and its entries in any order, means its entries whatever their order, and is
-/// refused by want of memory or as a key or a value is. A map with the same entries in another order means the same.
+/// refused by want of memory or as a key or a value is; writing also as too long. A map with the same entries in another
+/// order means the same.
 pub fn hash_map_is_carried<
     E: Env,
     K: PagableKey<E> + Hash + PagableSerialize<E> + PagableDeserialize<'static, E> + Drop,
@@ -291,31 +293,31 @@ pub fn hash_map_is_carried<
     ensures shape { (e : E) → ⟦<HashMap<K, V> as Carried<E>>⟧.shape e ≡ hash_map (K.Carried.shape e) (V.Carried.shape e) }
     ensures means { (x : _) (m : Meaning Reference) → ⟦<HashMap<K, V> as Carried<E>>⟧.means x m ↔ MeansHashMap K.Carried.means V.Carried.means x.entries m }
     ensures any_order { (x y : _) (m : Meaning Reference) → IsUnique K.eq x → IsPermutation x.entries y.entries → ⟦<HashMap<K, V> as Carried<E>>⟧.means x m → ⟦<HashMap<K, V> as Carried<E>>⟧.means y m }
-    ensures writes { (e : Refusal) → ⟦<HashMap<K, V> as PagableSerialize<E>>⟧.write_causes e ↔ memory_or (either K.write_causes V.write_causes) e }
+    ensures writes { (e : Refusal) → ⟦<HashMap<K, V> as PagableSerialize<E>>⟧.write_causes e ↔ long_or (memory_or (either K.write_causes V.write_causes)) e }
     ensures reads { (e : Refusal) → ⟦<HashMap<K, V> as PagableDeserialize<'static, E>>⟧.read_causes e ↔ memory_or (either K.read_causes V.read_causes) e }
 {}
 
 /// A `BTreeSet` is spelled as a length and its items in the order of their meanings, means its items in their order,
-/// and is refused by want of memory or as an item is.
+/// and is refused by want of memory or as an item is; writing also as too long.
 pub fn sorted_set_is_carried<
     E: Env,
     T: PagableOrdKey<E> + PagableSerialize<E> + PagableDeserialize<'static, E> + Drop,
 >()
     ensures shape { (e : E) → ⟦<BTreeSet<T> as Carried<E>>⟧.shape e ≡ sorted_set T.PagableOrdKey.order (T.Carried.shape e) }
     ensures means { (x : _) (m : Meaning Reference) → ⟦<BTreeSet<T> as Carried<E>>⟧.means x m ↔ MeansList T.Carried.means x.keys m }
-    ensures writes { (e : Refusal) → ⟦<BTreeSet<T> as PagableSerialize<E>>⟧.write_causes e ↔ memory_or T.write_causes e }
+    ensures writes { (e : Refusal) → ⟦<BTreeSet<T> as PagableSerialize<E>>⟧.write_causes e ↔ long_or (memory_or T.write_causes) e }
     ensures reads { (e : Refusal) → ⟦<BTreeSet<T> as PagableDeserialize<'static, E>>⟧.read_causes e ↔ memory_or T.read_causes e }
 {}
 
 /// An `IndexSet` is spelled as a length and its items in the order of their arrival, means its items in that order, and
-/// is refused by want of memory or as an item is.
+/// is refused by want of memory or as an item is; writing also as too long.
 pub fn placed_set_is_carried<
     E: Env,
     T: PagableKey<E> + Hash + PagableSerialize<E> + PagableDeserialize<'static, E> + Drop,
 >()
     ensures shape { (e : E) → ⟦<IndexSet<T> as Carried<E>>⟧.shape e ≡ placed_set (T.Carried.shape e) }
     ensures means { (x : _) (m : Meaning Reference) → ⟦<IndexSet<T> as Carried<E>>⟧.means x m ↔ MeansList T.Carried.means x.keys m }
-    ensures writes { (e : Refusal) → ⟦<IndexSet<T> as PagableSerialize<E>>⟧.write_causes e ↔ memory_or T.write_causes e }
+    ensures writes { (e : Refusal) → ⟦<IndexSet<T> as PagableSerialize<E>>⟧.write_causes e ↔ long_or (memory_or T.write_causes) e }
     ensures reads { (e : Refusal) → ⟦<IndexSet<T> as PagableDeserialize<'static, E>>⟧.read_causes e ↔ memory_or T.read_causes e }
 {}
 
@@ -401,7 +403,7 @@ pub fn array_is_carried<
 pub fn boxed_text_is_carried<E: Env>()
     ensures shape { (e : E) → ⟦<BoxedStr as Carried<E>>⟧.shape e ≡ text }
     ensures means { (x : _) (m : Meaning Reference) → ⟦<BoxedStr as Carried<E>>⟧.means x m ↔ (m ≡ meanings.text (boxed_str_bytes x)) }
-    ensures writes { (e : Refusal) → ⟦<BoxedStr as PagableSerialize<E>>⟧.write_causes e ↔ memory e }
+    ensures writes { (e : Refusal) → ⟦<BoxedStr as PagableSerialize<E>>⟧.write_causes e ↔ long_or memory e }
     ensures reads { (e : Refusal) → ⟦<BoxedStr as PagableDeserialize<'static, E>>⟧.read_causes e ↔ memory e }
 {}
 
@@ -409,7 +411,7 @@ pub fn boxed_text_is_carried<E: Env>()
 pub fn path_is_carried<E: Env>()
     ensures shape { (e : E) → ⟦<PathText as Carried<E>>⟧.shape e ≡ text }
     ensures means { (x : _) (m : Meaning Reference) → ⟦<PathText as Carried<E>>⟧.means x m ↔ (m ≡ meanings.text (string_bytes x.text)) }
-    ensures writes { (e : Refusal) → ⟦<PathText as PagableSerialize<E>>⟧.write_causes e ↔ memory e }
+    ensures writes { (e : Refusal) → ⟦<PathText as PagableSerialize<E>>⟧.write_causes e ↔ long_or memory e }
     ensures reads { (e : Refusal) → ⟦<PathText as PagableDeserialize<'static, E>>⟧.read_causes e ↔ memory e }
 {}
 
@@ -436,7 +438,7 @@ pub fn thin_is_carried<
 >()
     ensures shape { (e : E) → ⟦<Thin<H, T> as Carried<E>>⟧.shape e ≡ both (H.Carried.shape e) (list (T.Carried.shape e)) }
     ensures means { (x : _) (m : Meaning Reference) → ⟦<Thin<H, T> as Carried<E>>⟧.means x m ↔ MeansPair H.Carried.means (MeansList T.Carried.means) (x.header, x.items.items) m }
-    ensures writes { (e : Refusal) → ⟦<Thin<H, T> as PagableSerialize<E>>⟧.write_causes e ↔ either H.write_causes (memory_or T.write_causes) e }
+    ensures writes { (e : Refusal) → ⟦<Thin<H, T> as PagableSerialize<E>>⟧.write_causes e ↔ either H.write_causes (long_or (memory_or T.write_causes)) e }
     ensures reads { (e : Refusal) → ⟦<Thin<H, T> as PagableDeserialize<'static, E>>⟧.read_causes e ↔ either H.read_causes (memory_or T.read_causes) e }
 {}
 
@@ -525,11 +527,11 @@ pub fn once_is_carried<E: Env, T: PagableSerialize<E> + PagableDeserialize<'stat
     ensures reads { (e : Refusal) → ⟦<OnceLock<T> as PagableDeserialize<'static, E>>⟧.read_causes e ↔ T.read_causes e }
 {}
 
-/// A JSON value is spelled as one, and means what the JSON value means that its data is. Writing and reading want memory
-/// at most.
+/// A JSON value is spelled as one, and means what the JSON value means that its data is. Writing is refused as too long, as
+/// too deep, for a number or by want of memory, reading by want of memory.
 pub fn json_is_carried<E: Env>()
     ensures shape { (e : E) → ⟦<Value as Carried<E>>⟧.shape e ≡ json }
     ensures means { (v : _) (m : Meaning Reference) → ⟦<Value as Carried<E>>⟧.means v m ↔ (m ≡ of_json (json_of (view v))) }
-    ensures writes { (e : Refusal) → ⟦<Value as PagableSerialize<E>>⟧.write_causes e ↔ memory e }
+    ensures writes { (e : Refusal) → ⟦<Value as PagableSerialize<E>>⟧.write_causes e ↔ json_causes e }
     ensures reads { (e : Refusal) → ⟦<Value as PagableDeserialize<'static, E>>⟧.read_causes e ↔ memory e }
 {}

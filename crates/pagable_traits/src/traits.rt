@@ -1,10 +1,10 @@
 //! The types that can be written and read.
 
 ghost use Rattle.std.specs.Prelude.{◌≡◌, true, OnOk, IfErr};
-ghost use Rattle.pagable_model.specs.Refusals.{is_own_reading, is_own_writing};
+ghost use Rattle.pagable_model.specs.Refusals.{is_own_reading, may_refuse_writing};
 ghost use Rattle.pagable_model.specs.Shape.{Shape};
 ghost use Rattle.pagable_model.specs.Meaning.{Meaning};
-ghost use Rattle.pagable_model.specs.Writing.{nesting, WritesSome, Refused, IsRefusal, Grows};
+ghost use Rattle.pagable_model.specs.Writing.{nesting, WritesSome, Refused, Grows};
 ghost use Rattle.pagable_model.specs.Reading.{read};
 ghost use Rattle.pagable_model.specs.Standing.{handles_at, MovesOn, GivesSome, SomeMeaning};
 ghost use Rattle.pagable_model.specs.declared.numbers.ArcRef.{ArcRef as Reference};
@@ -28,21 +28,21 @@ pub trait Carried<E: Env> {
 
 /// A type whose values can be written.
 pub trait PagableSerialize<E: Env>: Carried<E> {
-    // The refusals of a writing beside those that say that a value has no form.
+    // All refusals of a writing, those among them that say that a value has no form.
     ghost write_causes: { Refusal → Type 0 };
 
-    /// Appends a form of the value, and its references in their order. It is refused with TooLong, TooDeep or
-    /// JsonNumber only where the value has no form, and else by a cause of the type's own; what stood before still
-    /// stands, and as many levels are entered as before.
+    /// Appends a form of the value, and its references in their order. It is refused by a cause of the type's alone, and
+    /// with TooLong, TooDeep or JsonNumber only where the value has no form; then what stood before still stands, and as
+    /// many levels are entered as before.
     fn pagable_serialize<S: PagableSerializer<E>>(&self, serializer: &mut S) -> Result<(), Error>
         ensures ok { OnOk result (WritesSome (Self.means self.now) (nesting (S.levels serializer.old) (E.parts (S.environment serializer.old))) (Self.shape (S.environment serializer.old)) (S.out serializer.old) (S.out serializer.new)) }
         ensures refused { IfErr result (Refused (Self.means self.now) (nesting (S.levels serializer.old) (E.parts (S.environment serializer.old))) (Self.shape (S.environment serializer.old))) }
-        ensures only { IfErr result (IsRefusal write_causes) }
+        ensures only { IfErr result write_causes }
         ensures err { Grows (S.out serializer.old) (S.out serializer.new) }
         ensures same_env { S.environment serializer.new ≡ S.environment serializer.old }
         ensures same_levels { S.levels serializer.new ≡ S.levels serializer.old };
 
-    ghost write_causes_are_own: { (e : Refusal) → write_causes e → is_own_writing e ≡ true };
+    ghost write_causes_may_refuse: { (e : Refusal) → write_causes e → may_refuse_writing e ≡ true };
 }
 
 /// A type whose values can be read.

@@ -17,7 +17,7 @@ pub record Seen (N B W : Type 0) : Type 1 where
   pub means : N → Meaning ArcRef → Type 0
   pub blob_of : B → Blob
   pub written_of : W → Written
-  -- why a reader or a writer of values of the type may refuse one, by a cause of its own
+  -- why a reader of values of the type may refuse one, beside the faults of the blob; and all refusals of a writer of them
   pub read_causes : ℕ → Error → Type 0
   pub write_causes : ℕ → Error → Type 0
   -- how values are spelled, and the hash

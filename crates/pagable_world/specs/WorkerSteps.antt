@@ -160,12 +160,12 @@ PinDoes m w worker r false (Ok pinsteps.LoadWent) w' =
     (load : OpenLoad) × (mid : Whole) × IsLoading w worker (identity_of r) load × LoadGoesOn m w (owners.Worker worker.number) load mid × (w' ≡ with_steps mid load.number (one_more load.steps))
 PinDoes m w worker r false (Err e) w' = (load : OpenLoad) × IsLoading w worker (identity_of r) load × LoadFails m w (owners.Worker worker.number) load e w'
 
--- What a writer of the type may refuse a value for: it has no form, which `RefusesFormless` says of the value; by a cause of the
--- type's own writer; or for want of memory.
+-- What a writer of the type may refuse a value for: by a cause of the type's writer, and where that says that the value has no
+-- form, it has none (`RefusesFormless`); or for want of memory.
 abbrev pub IsOfWriting : {N B W : Type 0} → Seen N B W → ℕ → Whole → Error → Whole → Type 0
-IsOfWriting m t w errors.TooLong w' = Unit {0}
-IsOfWriting m t w errors.TooDeep w' = Unit {0}
-IsOfWriting m t w errors.JsonNumber w' = Unit {0}
+IsOfWriting m t w errors.TooLong w' = m.write_causes t errors.TooLong
+IsOfWriting m t w errors.TooDeep w' = m.write_causes t errors.TooDeep
+IsOfWriting m t w errors.JsonNumber w' = m.write_causes t errors.JsonNumber
 IsOfWriting m t w errors.Unregistered w' = m.write_causes t errors.Unregistered
 IsOfWriting m t w errors.OutOfMemory w' = IsFull w w'
 IsOfWriting m t w (errors.Custom text) w' = m.write_causes t (errors.Custom text)

@@ -60,9 +60,9 @@ impl RunNode {
 
 impl NodeSet<RunEnv> for RunNode {
     ghost use Rattle.std.specs.Prelude.{◌≡◌, []};
-    ghost use Rattle.pagable_model.specs.Gives.{memory};
+    ghost use Rattle.pagable_model.specs.Gives.{memory, long_or};
     ghost use Rattle.pagable_model.specs.Shape.{text as text_shape};
-    ghost use Rattle.pagable_model.specs.Causes.{memory_is_own_reading, memory_is_own_writing};
+    ghost use Rattle.pagable_model.specs.Causes.{memory_is_own_reading, text_may_refuse_writing};
     ghost use Rattle.pager_runs.specs.Nodes.{has_meaning, has_shape, refers_to_nothing, shape_of, text_of, type_of};
 
     ghost type_of = { type_of };
@@ -75,11 +75,11 @@ impl NodeSet<RunEnv> for RunNode {
 
     ghost refs_of = { λ n. [] };
 
-    ghost write_causes = { λ t. memory };
+    ghost write_causes = { λ t. long_or memory };
 
     ghost read_causes = { λ t. memory };
 
-    ghost write_causes_are_own = { λ t. memory_is_own_writing };
+    ghost write_causes_may_refuse = { λ t. text_may_refuse_writing };
 
     ghost read_causes_are_own = { λ t. memory_is_own_reading };
 

@@ -2,10 +2,10 @@
 
 ghost use Rattle.std.specs.Prelude.{◌≡◌, refl};
 ghost use Rattle.pagable_model.specs.Carried.{tagged_by};
-ghost use Rattle.pagable_model.specs.Causes.{memory_or_is_own_reading, memory_or_is_own_writing, never_is_own_reading};
-ghost use Rattle.pagable_model.specs.Gives.{memory_or, never};
+ghost use Rattle.pagable_model.specs.Causes.{memory_or_is_own_reading, memory_or_may_refuse_writing, long_or_may_refuse_writing, never_is_own_reading};
+ghost use Rattle.pagable_model.specs.Gives.{memory_or, long_or, never};
 ghost use Rattle.pagable_model.specs.Standing.{Is};
-ghost use Rattle.pagable_model.specs.Statics.{unregistered, unregistered_is_own_writing};
+ghost use Rattle.pagable_model.specs.Statics.{unregistered, unregistered_may_refuse_writing};
 ghost use Rattle.pagable_model.specs.Tagged.{grammars};
 ghost use Rattle.registry_samples.specs.Animals.{animal_means, animal_has_meaning, tag_of, written, body_of, tag_read, grammar_of};
 
@@ -59,7 +59,7 @@ impl PagableTagged<Zoo> for Animal {
 
     ghost body_has_meaning = { λ x. (body_of x, refl) };
 
-    ghost body_causes_are_own = { memory_or_is_own_writing unregistered unregistered_is_own_writing };
+    ghost body_causes_may_refuse = { memory_or_may_refuse_writing unregistered unregistered_may_refuse_writing };
 
     fn pagable_type_tag(&self) -> &'static str {
         match self {
@@ -125,9 +125,9 @@ impl Carried<Zoo> for Animal {
 }
 
 impl PagableSerialize<Zoo> for Animal {
-    ghost write_causes = { memory_or (memory_or unregistered) };
+    ghost write_causes = { long_or (memory_or (memory_or unregistered)) };
 
-    ghost write_causes_are_own = { memory_or_is_own_writing (memory_or unregistered) (memory_or_is_own_writing unregistered unregistered_is_own_writing) };
+    ghost write_causes_may_refuse = { long_or_may_refuse_writing (memory_or (memory_or unregistered)) (memory_or_may_refuse_writing (memory_or unregistered) (memory_or_may_refuse_writing unregistered unregistered_may_refuse_writing)) };
 
     fn pagable_serialize<S: PagableSerializer<Zoo>>(
         &self,

@@ -2,10 +2,10 @@
 
 ghost use Rattle.std.specs.Int.{w16};
 ghost use Rattle.pagable_model.specs.Carried.{tagged_by};
-ghost use Rattle.pagable_model.specs.Causes.{either_is_own_reading, either_is_own_writing, memory_is_own_writing, memory_or_is_own_reading, memory_or_is_own_writing, never_is_own_reading};
-ghost use Rattle.pagable_model.specs.Gives.{either, memory, memory_or, never};
+ghost use Rattle.pagable_model.specs.Causes.{either_is_own_reading, either_may_refuse_writing, memory_may_refuse_writing, memory_or_is_own_reading, memory_or_may_refuse_writing, long_or_may_refuse_writing, never_is_own_reading};
+ghost use Rattle.pagable_model.specs.Gives.{either, long_or, memory, memory_or, never};
 ghost use Rattle.pagable_model.specs.Shape.{both, static_value, unsigned};
-ghost use Rattle.pagable_model.specs.Statics.{meanings_of, unregistered, unregistered_is_own_writing};
+ghost use Rattle.pagable_model.specs.Statics.{meanings_of, unregistered, unregistered_may_refuse_writing};
 ghost use Rattle.pagable_model.specs.Tagged.{grammars};
 ghost use Rattle.registry_samples.specs.Animals.{written, grammar_of};
 ghost use Rattle.registry_samples.specs.Sightings.{sighting_means, sighting_has_meaning};
@@ -36,9 +36,9 @@ impl Carried<Zoo> for Sighting {
 }
 
 impl PagableSerialize<Zoo> for Sighting {
-    ghost write_causes = { either (memory_or (memory_or unregistered)) (either (memory_or unregistered) memory) };
+    ghost write_causes = { either (long_or (memory_or (memory_or unregistered))) (either (memory_or unregistered) memory) };
 
-    ghost write_causes_are_own = { either_is_own_writing (memory_or (memory_or unregistered)) (either (memory_or unregistered) memory) (memory_or_is_own_writing (memory_or unregistered) (memory_or_is_own_writing unregistered unregistered_is_own_writing)) (either_is_own_writing (memory_or unregistered) memory (memory_or_is_own_writing unregistered unregistered_is_own_writing) memory_is_own_writing) };
+    ghost write_causes_may_refuse = { either_may_refuse_writing (long_or (memory_or (memory_or unregistered))) (either (memory_or unregistered) memory) (long_or_may_refuse_writing (memory_or (memory_or unregistered)) (memory_or_may_refuse_writing (memory_or unregistered) (memory_or_may_refuse_writing unregistered unregistered_may_refuse_writing))) (either_may_refuse_writing (memory_or unregistered) memory (memory_or_may_refuse_writing unregistered unregistered_may_refuse_writing) memory_may_refuse_writing) };
 
     #[tactic(auto, using(pagable_codec::proofs::Writing::parts, pagable_traits::proofs::Parts::pairs, pagable_traits::proofs::Parts::causes))]
     fn pagable_serialize<S: PagableSerializer<Zoo>>(

@@ -34,7 +34,7 @@ impl<E: Env, T: OneMeaning<E>, const N: usize> OneMeaning<E> for [T; N] {
 impl<E: Env, T: PagableSerialize<E>, const N: usize> PagableSerialize<E> for [T; N] {
     ghost write_causes = { T.write_causes };
 
-    ghost write_causes_are_own = { T.write_causes_are_own };
+    ghost write_causes_may_refuse = { T.write_causes_may_refuse };
 
     fn pagable_serialize<S: PagableSerializer<E>>(&self, serializer: &mut S) -> Result<(), Error> {
         write_items(self.as_slice(), serializer)

@@ -5,7 +5,7 @@ ghost use Rattle.pagable_model.specs.Gives.{never, memory};
 ghost use Rattle.pagable_model.specs.Meaning.{number, none, flag as flag_meaning};
 ghost use Rattle.pagable_model.specs.Shape.{flag, letter, nothing};
 ghost use Rattle.pagable_model.specs.Standing.{Is};
-ghost use Rattle.pagable_model.specs.Causes.{never_is_own_reading, never_is_own_writing, memory_is_own_writing};
+ghost use Rattle.pagable_model.specs.Causes.{never_is_own_reading, never_may_refuse_writing, memory_may_refuse_writing};
 
 use crate::traits::{Carried, OneMeaning, PagableDeserialize, PagableSerialize};
 use pagable_codec::deserializer::PagableDeserializer;
@@ -34,7 +34,7 @@ impl<E: Env> OneMeaning<E> for bool {
 impl<E: Env> PagableSerialize<E> for bool {
     ghost write_causes = { memory };
 
-    ghost write_causes_are_own = { memory_is_own_writing };
+    ghost write_causes_may_refuse = { memory_may_refuse_writing };
 
     #[tactic(auto, using(pagable_codec::proofs::Writing::parts))]
     fn pagable_serialize<S: PagableSerializer<E>>(&self, serializer: &mut S) -> Result<(), Error> {
@@ -74,7 +74,7 @@ impl<E: Env> OneMeaning<E> for char {
 impl<E: Env> PagableSerialize<E> for char {
     ghost write_causes = { memory };
 
-    ghost write_causes_are_own = { memory_is_own_writing };
+    ghost write_causes_may_refuse = { memory_may_refuse_writing };
 
     #[tactic(auto, using(pagable_codec::proofs::Writing::parts))]
     fn pagable_serialize<S: PagableSerializer<E>>(&self, serializer: &mut S) -> Result<(), Error> {
@@ -114,7 +114,7 @@ impl<E: Env> OneMeaning<E> for () {
 impl<E: Env> PagableSerialize<E> for () {
     ghost write_causes = { never };
 
-    ghost write_causes_are_own = { never_is_own_writing };
+    ghost write_causes_may_refuse = { never_may_refuse_writing };
 
     #[tactic(auto, using(pagable_codec::proofs::Writing::parts))]
     fn pagable_serialize<S: PagableSerializer<E>>(&self, _serializer: &mut S) -> Result<(), Error> {

@@ -2,12 +2,12 @@
 
 ghost use Rattle.std.specs.Prelude.{◌≡◌, OnOk, IfErr, refl};
 ghost use Rattle.std.specs.Box.{boxed_str_bytes};
-ghost use Rattle.pagable_model.specs.Gives.{memory};
+ghost use Rattle.pagable_model.specs.Gives.{memory, long_or};
 ghost use Rattle.pagable_model.specs.Shape.{text as text_shape};
 ghost use Rattle.pagable_model.specs.Meaning.{text as text_meaning};
 ghost use Rattle.pagable_model.specs.Standing.{Is};
-ghost use Rattle.pagable_model.specs.Writing.{nesting, WritesSome, Refused, IsRefusal, Grows};
-ghost use Rattle.pagable_model.specs.Causes.{memory_is_own_reading, memory_is_own_writing};
+ghost use Rattle.pagable_model.specs.Writing.{nesting, WritesSome, Refused, Grows};
+ghost use Rattle.pagable_model.specs.Causes.{memory_is_own_reading, text_may_refuse_writing};
 
 use crate::traits::{Carried, OneMeaning, PagableDeserialize, PagableSerialize};
 use pagable_codec::deserializer::PagableDeserializer;
@@ -25,7 +25,7 @@ pub fn serialize_str<E: Env, S: PagableSerializer<E>>(
 ) -> Result<(), Error>
     ensures ok { OnOk result (WritesSome (Is text_meaning text.now) (nesting (S.levels serializer.old) (E.parts (S.environment serializer.old))) text_shape (S.out serializer.old) (S.out serializer.new)) }
     ensures refused { IfErr result (Refused (Is text_meaning text.now) (nesting (S.levels serializer.old) (E.parts (S.environment serializer.old))) text_shape) }
-    ensures only { IfErr result (IsRefusal memory) }
+    ensures only { IfErr result (long_or memory) }
     ensures err { Grows (S.out serializer.old) (S.out serializer.new) }
     ensures same_env { S.environment serializer.new ≡ S.environment serializer.old }
     ensures same_levels { S.levels serializer.new ≡ S.levels serializer.old }
@@ -50,9 +50,9 @@ impl<E: Env> OneMeaning<E> for BoxedStr {
 }
 
 impl<E: Env> PagableSerialize<E> for BoxedStr {
-    ghost write_causes = { memory };
+    ghost write_causes = { long_or memory };
 
-    ghost write_causes_are_own = { memory_is_own_writing };
+    ghost write_causes_may_refuse = { text_may_refuse_writing };
 
     fn pagable_serialize<S: PagableSerializer<E>>(&self, serializer: &mut S) -> Result<(), Error> {
         serialize_str(self.as_str(), serializer)

@@ -4,7 +4,7 @@
 ghost use Rattle.pagable_model.specs.Carried.{atomic_i64, once_lock};
 ghost use Rattle.pagable_model.specs.Cells.{MeansAtomic, MeansOnce, atomic_has_meaning, once_has_meaning};
 ghost use Rattle.pagable_model.specs.Gives.{never, memory, memory_or};
-ghost use Rattle.pagable_model.specs.Causes.{never_is_own_reading, memory_is_own_writing, memory_or_is_own_writing};
+ghost use Rattle.pagable_model.specs.Causes.{never_is_own_reading, memory_may_refuse_writing, memory_or_may_refuse_writing};
 
 use crate::traits::{Carried, PagableDeserialize, PagableSerialize};
 use pagable_codec::deserializer::PagableDeserializer;
@@ -26,7 +26,7 @@ impl<E: Env> Carried<E> for AtomicI64 {
 impl<E: Env> PagableSerialize<E> for AtomicI64 {
     ghost write_causes = { memory };
 
-    ghost write_causes_are_own = { memory_is_own_writing };
+    ghost write_causes_may_refuse = { memory_may_refuse_writing };
 
     /// Appends the number that it holds when it is looked at, as an `i64`.
     fn pagable_serialize<S: PagableSerializer<E>>(&self, serializer: &mut S) -> Result<(), Error> {
@@ -62,7 +62,7 @@ impl<E: Env, T: Carried<E>> Carried<E> for OnceLock<T> {
 impl<E: Env, T: PagableSerialize<E>> PagableSerialize<E> for OnceLock<T> {
     ghost write_causes = { memory_or T.write_causes };
 
-    ghost write_causes_are_own = { memory_or_is_own_writing T.write_causes T.write_causes_are_own };
+    ghost write_causes_may_refuse = { memory_or_may_refuse_writing T.write_causes T.write_causes_may_refuse };
 
     /// Appends the value that it holds when it is looked at, or that it holds none, as an `Option`. It doesn't wait for a
     /// thread that is writing: until that is done the lock holds none.

@@ -4,7 +4,7 @@ ghost use Rattle.pagable_model.specs.Carried.{of_option};
 ghost use Rattle.pagable_model.specs.Gives.{memory_or, either};
 ghost use Rattle.pagable_model.specs.Meaning.{pair};
 ghost use Rattle.pagable_model.specs.Shape.{optional, both};
-ghost use Rattle.pagable_model.specs.Causes.{memory_or_is_own_reading, memory_or_is_own_writing, either_is_own_reading, either_is_own_writing};
+ghost use Rattle.pagable_model.specs.Causes.{memory_or_is_own_reading, memory_or_may_refuse_writing, either_is_own_reading, either_may_refuse_writing};
 ghost use Rattle.pagable_model.specs.Lifted.{MeansOption, option_has_meaning, option_is_meaning, option_single, MeansPair, pair_has_meaning, pair_is_meaning, pair_single};
 
 use crate::impls::maps::write_entry;
@@ -35,7 +35,7 @@ impl<E: Env, T: OneMeaning<E>> OneMeaning<E> for Option<T> {
 impl<E: Env, T: PagableSerialize<E>> PagableSerialize<E> for Option<T> {
     ghost write_causes = { memory_or T.write_causes };
 
-    ghost write_causes_are_own = { memory_or_is_own_writing T.write_causes T.write_causes_are_own };
+    ghost write_causes_may_refuse = { memory_or_may_refuse_writing T.write_causes T.write_causes_may_refuse };
 
     fn pagable_serialize<S: PagableSerializer<E>>(&self, serializer: &mut S) -> Result<(), Error> {
         match self {
@@ -84,7 +84,7 @@ impl<E: Env, T: OneMeaning<E>> OneMeaning<E> for Box<T> {
 impl<E: Env, T: PagableSerialize<E>> PagableSerialize<E> for Box<T> {
     ghost write_causes = { T.write_causes };
 
-    ghost write_causes_are_own = { T.write_causes_are_own };
+    ghost write_causes_may_refuse = { T.write_causes_may_refuse };
 
     fn pagable_serialize<S: PagableSerializer<E>>(&self, serializer: &mut S) -> Result<(), Error> {
         (**self).pagable_serialize(serializer)
@@ -124,7 +124,7 @@ impl<E: Env, A: OneMeaning<E>, B: OneMeaning<E>> OneMeaning<E> for (A, B) {
 impl<E: Env, A: PagableSerialize<E>, B: PagableSerialize<E>> PagableSerialize<E> for (A, B) {
     ghost write_causes = { either A.write_causes B.write_causes };
 
-    ghost write_causes_are_own = { either_is_own_writing A.write_causes B.write_causes A.write_causes_are_own B.write_causes_are_own };
+    ghost write_causes_may_refuse = { either_may_refuse_writing A.write_causes B.write_causes A.write_causes_may_refuse B.write_causes_may_refuse };
 
     fn pagable_serialize<S: PagableSerializer<E>>(&self, serializer: &mut S) -> Result<(), Error> {
         write_entry(&self.0, &self.1, serializer)

@@ -1,10 +1,10 @@
 //! JSON values.
 
 ghost use Rattle.std.specs.Prelude.{refl};
-ghost use Rattle.pagable_model.specs.Gives.{memory};
+ghost use Rattle.pagable_model.specs.Gives.{memory, json_causes};
 ghost use Rattle.pagable_model.specs.Shape.{json};
 ghost use Rattle.pagable_model.specs.Standing.{Is};
-ghost use Rattle.pagable_model.specs.Causes.{memory_is_own_reading, memory_is_own_writing};
+ghost use Rattle.pagable_model.specs.Causes.{memory_is_own_reading, json_may_refuse_writing};
 ghost use Rattle.pagable_traits.specs.JsonData.{of_value};
 
 use crate::impls::json_reading::read_value;
@@ -34,9 +34,9 @@ impl<E: Env> OneMeaning<E> for Value {
 }
 
 impl<E: Env> PagableSerialize<E> for Value {
-    ghost write_causes = { memory };
+    ghost write_causes = { json_causes };
 
-    ghost write_causes_are_own = { memory_is_own_writing };
+    ghost write_causes_may_refuse = { json_may_refuse_writing };
 
     fn pagable_serialize<S: PagableSerializer<E>>(&self, serializer: &mut S) -> Result<(), Error> {
         write_value(self, serializer)

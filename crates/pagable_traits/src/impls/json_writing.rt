@@ -4,12 +4,12 @@
 ghost use Rattle.std.specs.Prelude.{◌≡◌, ◌≤◌, ◌<◌, ◌++◌, ◌∷◌, [], ℤ, length, OnOk, IfErr};
 ghost use Rattle.std.specs.Int.{w64};
 ghost use Rattle.pagable_model.specs.Basic.{longest, bool_form, length_form, text_form};
-ghost use Rattle.pagable_model.specs.Gives.{memory, Extends};
+ghost use Rattle.pagable_model.specs.Gives.{memory, long_or, number_or, json_causes, Extends};
 ghost use Rattle.pagable_model.specs.Lifted.{MeanAll, MeansPair};
 ghost use Rattle.pagable_model.specs.Numbers.{signed_form};
 ghost use Rattle.pagable_model.specs.Shape.{both, json, text};
 ghost use Rattle.pagable_model.specs.Standing.{Is};
-ghost use Rattle.pagable_model.specs.Writing.{nesting, added, WritesSome, WritesSomeAll, Refused, RefusedAll, IsRefusal, Grows};
+ghost use Rattle.pagable_model.specs.Writing.{nesting, added, WritesSome, WritesSomeAll, Refused, RefusedAll, Grows};
 ghost use Rattle.serde_json.specs.Data.{null, boolean, number, string, array, object};
 ghost use Rattle.serde_json.specs.View.{number_view, items_view, members_view};
 ghost use Rattle.pagable_traits.specs.JsonData.{of_data, of_value, of_key, long_or_no_memory};
@@ -88,7 +88,7 @@ fn put_front_of_object(count: usize, writer: &mut PagableVecFlavor) -> Result<()
 fn write_null<E: Env, S: PagableSerializer<E>>(serializer: &mut S) -> Result<(), Error>
     ensures ok { OnOk result (WritesSome (Is of_data null) (nesting (S.levels serializer.old) (E.parts (S.environment serializer.old))) json (S.out serializer.old) (S.out serializer.new)) }
     ensures refused { IfErr result (Refused (Is of_data null) (nesting (S.levels serializer.old) (E.parts (S.environment serializer.old))) json) }
-    ensures only { IfErr result (IsRefusal memory) }
+    ensures only { IfErr result memory }
     ensures err { Grows (S.out serializer.old) (S.out serializer.new) }
     ensures same_env { S.environment serializer.new ≡ S.environment serializer.old }
     ensures same_levels { S.levels serializer.new ≡ S.levels serializer.old }
@@ -100,7 +100,7 @@ fn write_null<E: Env, S: PagableSerializer<E>>(serializer: &mut S) -> Result<(),
 fn write_flag<E: Env, S: PagableSerializer<E>>(flag: bool, serializer: &mut S) -> Result<(), Error>
     ensures ok { OnOk result (WritesSome (Is of_data (boolean flag)) (nesting (S.levels serializer.old) (E.parts (S.environment serializer.old))) json (S.out serializer.old) (S.out serializer.new)) }
     ensures refused { IfErr result (Refused (Is of_data (boolean flag)) (nesting (S.levels serializer.old) (E.parts (S.environment serializer.old))) json) }
-    ensures only { IfErr result (IsRefusal memory) }
+    ensures only { IfErr result memory }
     ensures err { Grows (S.out serializer.old) (S.out serializer.new) }
     ensures same_env { S.environment serializer.new ≡ S.environment serializer.old }
     ensures same_levels { S.levels serializer.new ≡ S.levels serializer.old }
@@ -115,7 +115,7 @@ fn write_number<E: Env, S: PagableSerializer<E>>(
 ) -> Result<(), Error>
     ensures ok { OnOk result (WritesSome (Is of_data (number (number_view value.now))) (nesting (S.levels serializer.old) (E.parts (S.environment serializer.old))) json (S.out serializer.old) (S.out serializer.new)) }
     ensures refused { IfErr result (Refused (Is of_data (number (number_view value.now))) (nesting (S.levels serializer.old) (E.parts (S.environment serializer.old))) json) }
-    ensures only { IfErr result (IsRefusal memory) }
+    ensures only { IfErr result (number_or memory) }
     ensures err { Grows (S.out serializer.old) (S.out serializer.new) }
     ensures same_env { S.environment serializer.new ≡ S.environment serializer.old }
     ensures same_levels { S.levels serializer.new ≡ S.levels serializer.old }
@@ -130,7 +130,7 @@ fn write_number<E: Env, S: PagableSerializer<E>>(
 fn write_text<E: Env, S: PagableSerializer<E>>(text: &str, serializer: &mut S) -> Result<(), Error>
     ensures ok { OnOk result (WritesSome (Is of_data (string text.now)) (nesting (S.levels serializer.old) (E.parts (S.environment serializer.old))) json (S.out serializer.old) (S.out serializer.new)) }
     ensures refused { IfErr result (Refused (Is of_data (string text.now)) (nesting (S.levels serializer.old) (E.parts (S.environment serializer.old))) json) }
-    ensures only { IfErr result (IsRefusal memory) }
+    ensures only { IfErr result (long_or memory) }
     ensures err { Grows (S.out serializer.old) (S.out serializer.new) }
     ensures same_env { S.environment serializer.new ≡ S.environment serializer.old }
     ensures same_levels { S.levels serializer.new ≡ S.levels serializer.old }
@@ -177,7 +177,7 @@ pub fn write_value<E: Env, S: PagableSerializer<E>>(
 ) -> Result<(), Error>
     ensures ok { OnOk result (WritesSome (Is of_value value.now) (nesting (S.levels serializer.old) (E.parts (S.environment serializer.old))) json (S.out serializer.old) (S.out serializer.new)) }
     ensures refused { IfErr result (Refused (Is of_value value.now) (nesting (S.levels serializer.old) (E.parts (S.environment serializer.old))) json) }
-    ensures only { IfErr result (IsRefusal memory) }
+    ensures only { IfErr result json_causes }
     ensures err { Grows (S.out serializer.old) (S.out serializer.new) }
     ensures same_env { S.environment serializer.new ≡ S.environment serializer.old }
     ensures same_levels { S.levels serializer.new ≡ S.levels serializer.old }
@@ -200,7 +200,7 @@ fn write_array<E: Env, S: PagableSerializer<E>>(
 ) -> Result<(), Error>
     ensures ok { OnOk result (WritesSome (Is of_data (array (items_view items.now.items))) (nesting (S.levels serializer.old) (E.parts (S.environment serializer.old))) json (S.out serializer.old) (S.out serializer.new)) }
     ensures refused { IfErr result (Refused (Is of_data (array (items_view items.now.items))) (nesting (S.levels serializer.old) (E.parts (S.environment serializer.old))) json) }
-    ensures only { IfErr result (IsRefusal memory) }
+    ensures only { IfErr result json_causes }
     ensures err { Grows (S.out serializer.old) (S.out serializer.new) }
     ensures same_env { S.environment serializer.new ≡ S.environment serializer.old }
     ensures same_levels { S.levels serializer.new ≡ S.levels serializer.old }
@@ -221,7 +221,7 @@ fn write_items<E: Env, S: PagableSerializer<E>>(
 ) -> Result<(), Error>
     ensures ok { OnOk result (WritesSomeAll (MeanAll (Is of_value) items.now.items) (nesting (S.levels serializer.old) (E.parts (S.environment serializer.old))) json (S.out serializer.old) (S.out serializer.new)) }
     ensures refused { IfErr result (RefusedAll (MeanAll (Is of_value) items.now.items) (nesting (S.levels serializer.old) (E.parts (S.environment serializer.old))) json) }
-    ensures only { IfErr result (IsRefusal memory) }
+    ensures only { IfErr result json_causes }
     ensures err { Grows (S.out serializer.old) (S.out serializer.new) }
     ensures same_env { S.environment serializer.new ≡ S.environment serializer.old }
     ensures same_levels { S.levels serializer.new ≡ S.levels serializer.old }
@@ -240,7 +240,7 @@ fn write_object<E: Env, S: PagableSerializer<E>>(
 ) -> Result<(), Error>
     ensures ok { OnOk result (WritesSome (Is of_data (object (members_view members.now.entries))) (nesting (S.levels serializer.old) (E.parts (S.environment serializer.old))) json (S.out serializer.old) (S.out serializer.new)) }
     ensures refused { IfErr result (Refused (Is of_data (object (members_view members.now.entries))) (nesting (S.levels serializer.old) (E.parts (S.environment serializer.old))) json) }
-    ensures only { IfErr result (IsRefusal memory) }
+    ensures only { IfErr result json_causes }
     ensures err { Grows (S.out serializer.old) (S.out serializer.new) }
     ensures same_env { S.environment serializer.new ≡ S.environment serializer.old }
     ensures same_levels { S.levels serializer.new ≡ S.levels serializer.old }
@@ -261,7 +261,7 @@ fn write_members<E: Env, S: PagableSerializer<E>>(
 ) -> Result<(), Error>
     ensures ok { OnOk result (WritesSomeAll (MeanAll (MeansPair (Is of_key) (Is of_value)) members.now.entries) (nesting (S.levels serializer.old) (E.parts (S.environment serializer.old))) (both text json) (S.out serializer.old) (S.out serializer.new)) }
     ensures refused { IfErr result (RefusedAll (MeanAll (MeansPair (Is of_key) (Is of_value)) members.now.entries) (nesting (S.levels serializer.old) (E.parts (S.environment serializer.old))) (both text json)) }
-    ensures only { IfErr result (IsRefusal memory) }
+    ensures only { IfErr result json_causes }
     ensures err { Grows (S.out serializer.old) (S.out serializer.new) }
     ensures same_env { S.environment serializer.new ≡ S.environment serializer.old }
     ensures same_levels { S.levels serializer.new ≡ S.levels serializer.old }
@@ -281,7 +281,7 @@ fn write_member<E: Env, S: PagableSerializer<E>>(
 ) -> Result<(), Error>
     ensures ok { OnOk result (WritesSome (MeansPair (Is of_key) (Is of_value) (key.now, value.now)) (nesting (S.levels serializer.old) (E.parts (S.environment serializer.old))) (both text json) (S.out serializer.old) (S.out serializer.new)) }
     ensures refused { IfErr result (Refused (MeansPair (Is of_key) (Is of_value) (key.now, value.now)) (nesting (S.levels serializer.old) (E.parts (S.environment serializer.old))) (both text json)) }
-    ensures only { IfErr result (IsRefusal memory) }
+    ensures only { IfErr result json_causes }
     ensures err { Grows (S.out serializer.old) (S.out serializer.new) }
     ensures same_env { S.environment serializer.new ≡ S.environment serializer.old }
     ensures same_levels { S.levels serializer.new ≡ S.levels serializer.old }

@@ -1,13 +1,13 @@
 //! Lists, and the items of a list in turn.
 
 ghost use Rattle.std.specs.Prelude.{◌≡◌, ◌≤◌, length, map, min, OnOk, IfOk, IfErr, vec_len};
-ghost use Rattle.pagable_model.specs.Gives.{memory_or};
+ghost use Rattle.pagable_model.specs.Gives.{memory_or, long_or};
 ghost use Rattle.pagable_model.specs.Meaning.{sequence};
 ghost use Rattle.pagable_model.specs.Shape.{list};
 ghost use Rattle.pagable_model.specs.Reading.{items, read};
 ghost use Rattle.pagable_model.specs.Standing.{handles_at, MovesOn, GivesSome};
-ghost use Rattle.pagable_model.specs.Writing.{nesting, WritesSome, WritesSomeAll, Refused, RefusedAll, IsRefusal, Grows};
-ghost use Rattle.pagable_model.specs.Causes.{memory_or_is_own_reading, memory_or_is_own_writing};
+ghost use Rattle.pagable_model.specs.Writing.{nesting, WritesSome, WritesSomeAll, Refused, RefusedAll, Grows};
+ghost use Rattle.pagable_model.specs.Causes.{memory_or_is_own_reading, memory_or_may_refuse_writing, long_or_may_refuse_writing};
 ghost use Rattle.pagable_model.specs.Lifted.{MeanAll, MeansList, list_has_meaning, list_is_meaning, list_single};
 
 use crate::traits::{Carried, OneMeaning, PagableDeserialize, PagableSerialize};
@@ -26,7 +26,7 @@ pub fn write_items<E: Env, T: PagableSerialize<E>, S: PagableSerializer<E>>(
 ) -> Result<(), Error>
     ensures ok { OnOk result (WritesSomeAll (MeanAll T.means values.now) (nesting (S.levels serializer.old) (E.parts (S.environment serializer.old))) (T.shape (S.environment serializer.old)) (S.out serializer.old) (S.out serializer.new)) }
     ensures refused { IfErr result (RefusedAll (MeanAll T.means values.now) (nesting (S.levels serializer.old) (E.parts (S.environment serializer.old))) (T.shape (S.environment serializer.old))) }
-    ensures only { IfErr result (IsRefusal T.write_causes) }
+    ensures only { IfErr result T.write_causes }
     ensures err { Grows (S.out serializer.old) (S.out serializer.new) }
     ensures same_env { S.environment serializer.new ≡ S.environment serializer.old }
     ensures same_levels { S.levels serializer.new ≡ S.levels serializer.old }
@@ -44,7 +44,7 @@ pub fn write_list<E: Env, T: PagableSerialize<E>, S: PagableSerializer<E>>(
 ) -> Result<(), Error>
     ensures ok { OnOk result (WritesSome (MeansList T.means values.now) (nesting (S.levels serializer.old) (E.parts (S.environment serializer.old))) (list (T.shape (S.environment serializer.old))) (S.out serializer.old) (S.out serializer.new)) }
     ensures refused { IfErr result (Refused (MeansList T.means values.now) (nesting (S.levels serializer.old) (E.parts (S.environment serializer.old))) (list (T.shape (S.environment serializer.old)))) }
-    ensures only { IfErr result (IsRefusal (memory_or T.write_causes)) }
+    ensures only { IfErr result (long_or (memory_or T.write_causes)) }
     ensures err { Grows (S.out serializer.old) (S.out serializer.new) }
     ensures same_env { S.environment serializer.new ≡ S.environment serializer.old }
     ensures same_levels { S.levels serializer.new ≡ S.levels serializer.old }
@@ -93,9 +93,9 @@ impl<E: Env, T: OneMeaning<E>> OneMeaning<E> for Vec<T> {
 }
 
 impl<E: Env, T: PagableSerialize<E>> PagableSerialize<E> for Vec<T> {
-    ghost write_causes = { memory_or T.write_causes };
+    ghost write_causes = { long_or (memory_or T.write_causes) };
 
-    ghost write_causes_are_own = { memory_or_is_own_writing T.write_causes T.write_causes_are_own };
+    ghost write_causes_may_refuse = { long_or_may_refuse_writing (memory_or T.write_causes) (memory_or_may_refuse_writing T.write_causes T.write_causes_may_refuse) };
 
     fn pagable_serialize<S: PagableSerializer<E>>(&self, serializer: &mut S) -> Result<(), Error> {
         write_list(self.as_slice(), serializer)

@@ -6,7 +6,7 @@ ghost use Rattle.pagable_model.specs.Gives.{never, memory};
 ghost use Rattle.pagable_model.specs.Meaning.{number};
 ghost use Rattle.pagable_model.specs.Shape.{unsigned};
 ghost use Rattle.pagable_model.specs.Standing.{Is};
-ghost use Rattle.pagable_model.specs.Causes.{never_is_own_reading, memory_is_own_writing};
+ghost use Rattle.pagable_model.specs.Causes.{never_is_own_reading, memory_may_refuse_writing};
 
 use crate::traits::{Carried, OneMeaning, PagableDeserialize, PagableSerialize};
 use pagable_codec::deserializer::PagableDeserializer;
@@ -35,7 +35,7 @@ impl<E: Env> OneMeaning<E> for u8 {
 impl<E: Env> PagableSerialize<E> for u8 {
     ghost write_causes = { memory };
 
-    ghost write_causes_are_own = { memory_is_own_writing };
+    ghost write_causes_may_refuse = { memory_may_refuse_writing };
 
     fn pagable_serialize<S: PagableSerializer<E>>(&self, serializer: &mut S) -> Result<(), Error> {
         serializer.serde().write_u8(*self)
@@ -74,7 +74,7 @@ impl<E: Env> OneMeaning<E> for u16 {
 impl<E: Env> PagableSerialize<E> for u16 {
     ghost write_causes = { memory };
 
-    ghost write_causes_are_own = { memory_is_own_writing };
+    ghost write_causes_may_refuse = { memory_may_refuse_writing };
 
     fn pagable_serialize<S: PagableSerializer<E>>(&self, serializer: &mut S) -> Result<(), Error> {
         serializer.serde().write_u16(*self)
@@ -113,7 +113,7 @@ impl<E: Env> OneMeaning<E> for u32 {
 impl<E: Env> PagableSerialize<E> for u32 {
     ghost write_causes = { memory };
 
-    ghost write_causes_are_own = { memory_is_own_writing };
+    ghost write_causes_may_refuse = { memory_may_refuse_writing };
 
     fn pagable_serialize<S: PagableSerializer<E>>(&self, serializer: &mut S) -> Result<(), Error> {
         serializer.serde().write_u32(*self)
@@ -152,7 +152,7 @@ impl<E: Env> OneMeaning<E> for u64 {
 impl<E: Env> PagableSerialize<E> for u64 {
     ghost write_causes = { memory };
 
-    ghost write_causes_are_own = { memory_is_own_writing };
+    ghost write_causes_may_refuse = { memory_may_refuse_writing };
 
     fn pagable_serialize<S: PagableSerializer<E>>(&self, serializer: &mut S) -> Result<(), Error> {
         serializer.serde().write_u64(*self)
@@ -191,7 +191,7 @@ impl<E: Env> OneMeaning<E> for u128 {
 impl<E: Env> PagableSerialize<E> for u128 {
     ghost write_causes = { memory };
 
-    ghost write_causes_are_own = { memory_is_own_writing };
+    ghost write_causes_may_refuse = { memory_may_refuse_writing };
 
     fn pagable_serialize<S: PagableSerializer<E>>(&self, serializer: &mut S) -> Result<(), Error> {
         serializer.serde().write_u128(*self)
@@ -230,7 +230,7 @@ impl<E: Env> OneMeaning<E> for usize {
 impl<E: Env> PagableSerialize<E> for usize {
     ghost write_causes = { memory };
 
-    ghost write_causes_are_own = { memory_is_own_writing };
+    ghost write_causes_may_refuse = { memory_may_refuse_writing };
 
     fn pagable_serialize<S: PagableSerializer<E>>(&self, serializer: &mut S) -> Result<(), Error> {
         serializer.serde().write_usize(*self)

@@ -3,10 +3,10 @@
 ghost use Rattle.std.specs.Prelude.{refl};
 ghost use Rattle.std.specs.String.{string_bytes};
 ghost use Rattle.pagable_model.specs.Carried.{path_text};
-ghost use Rattle.pagable_model.specs.Gives.{memory};
+ghost use Rattle.pagable_model.specs.Gives.{memory, long_or};
 ghost use Rattle.pagable_model.specs.Meaning.{text};
 ghost use Rattle.pagable_model.specs.Standing.{Is};
-ghost use Rattle.pagable_model.specs.Causes.{memory_is_own_reading, memory_is_own_writing};
+ghost use Rattle.pagable_model.specs.Causes.{memory_is_own_reading, text_may_refuse_writing};
 
 use crate::impls::boxed_texts::serialize_str;
 use crate::traits::{Carried, OneMeaning, PagableDeserialize, PagableSerialize};
@@ -39,9 +39,9 @@ impl<E: Env> OneMeaning<E> for PathText {
 }
 
 impl<E: Env> PagableSerialize<E> for PathText {
-    ghost write_causes = { memory };
+    ghost write_causes = { long_or memory };
 
-    ghost write_causes_are_own = { memory_is_own_writing };
+    ghost write_causes_may_refuse = { text_may_refuse_writing };
 
     fn pagable_serialize<S: PagableSerializer<E>>(&self, serializer: &mut S) -> Result<(), Error> {
         serialize_str(self.text.as_str(), serializer)

@@ -2,11 +2,11 @@
 
 ghost use Rattle.std.specs.Prelude.{◌≡◌, ◌≤◌, map, OnOk, IfErr};
 ghost use Rattle.indexmap.specs.IndexMap.{insert_entry, spare};
-ghost use Rattle.pagable_model.specs.Gives.{memory_or, either};
+ghost use Rattle.pagable_model.specs.Gives.{memory_or, either, long_or};
 ghost use Rattle.pagable_model.specs.Meaning.{pair, sequence};
 ghost use Rattle.pagable_model.specs.Shape.{both, placed_map};
-ghost use Rattle.pagable_model.specs.Writing.{nesting, WritesSomeAll, RefusedAll, IsRefusal, Grows};
-ghost use Rattle.pagable_model.specs.Causes.{memory_or_is_own_reading, memory_or_is_own_writing, either_is_own_reading, either_is_own_writing};
+ghost use Rattle.pagable_model.specs.Writing.{nesting, WritesSomeAll, RefusedAll, Grows};
+ghost use Rattle.pagable_model.specs.Causes.{memory_or_is_own_reading, memory_or_may_refuse_writing, long_or_may_refuse_writing, either_is_own_reading, either_may_refuse_writing};
 ghost use Rattle.pagable_model.specs.Lifted.{MeanAll, MeansList, MeansPair, list_has_meaning, pair_has_meaning, list_is_meaning, pair_is_meaning, list_single, pair_single};
 
 use crate::impls::collecting::{Collects, collect_items};
@@ -32,7 +32,7 @@ pub fn write_placed_entries<
 >(entries: &IndexMap<K, V>, serializer: &mut S) -> Result<(), Error>
     ensures ok { OnOk result (WritesSomeAll (MeanAll (MeansPair K.means V.means) entries.now.entries) (nesting (S.levels serializer.old) (E.parts (S.environment serializer.old))) (both (K.shape (S.environment serializer.old)) (V.shape (S.environment serializer.old))) (S.out serializer.old) (S.out serializer.new)) }
     ensures refused { IfErr result (RefusedAll (MeanAll (MeansPair K.means V.means) entries.now.entries) (nesting (S.levels serializer.old) (E.parts (S.environment serializer.old))) (both (K.shape (S.environment serializer.old)) (V.shape (S.environment serializer.old)))) }
-    ensures only { IfErr result (IsRefusal (either K.write_causes V.write_causes)) }
+    ensures only { IfErr result (either K.write_causes V.write_causes) }
     ensures err { Grows (S.out serializer.old) (S.out serializer.new) }
     ensures same_env { S.environment serializer.new ≡ S.environment serializer.old }
     ensures same_levels { S.levels serializer.new ≡ S.levels serializer.old }
@@ -83,9 +83,9 @@ impl<
     K: PagableKey<E> + Hash + PagableSerialize<E>,
     V: PagableSerialize<E>,
 > PagableSerialize<E> for IndexMap<K, V> {
-    ghost write_causes = { memory_or (either K.write_causes V.write_causes) };
+    ghost write_causes = { long_or (memory_or (either K.write_causes V.write_causes)) };
 
-    ghost write_causes_are_own = { memory_or_is_own_writing (either K.write_causes V.write_causes) (either_is_own_writing K.write_causes V.write_causes K.write_causes_are_own V.write_causes_are_own) };
+    ghost write_causes_may_refuse = { long_or_may_refuse_writing (memory_or (either K.write_causes V.write_causes)) (memory_or_may_refuse_writing (either K.write_causes V.write_causes) (either_may_refuse_writing K.write_causes V.write_causes K.write_causes_may_refuse V.write_causes_may_refuse)) };
 
     fn pagable_serialize<S: PagableSerializer<E>>(&self, serializer: &mut S) -> Result<(), Error> {
         write_count(self.len(), serializer)?;

@@ -5,7 +5,7 @@ ghost use Rattle.pagable_model.specs.Gives.{never};
 ghost use Rattle.pagable_model.specs.Meaning.{none};
 ghost use Rattle.pagable_model.specs.Shape.{nothing};
 ghost use Rattle.pagable_model.specs.Standing.{Is};
-ghost use Rattle.pagable_model.specs.Causes.{never_is_own_reading, never_is_own_writing};
+ghost use Rattle.pagable_model.specs.Causes.{never_is_own_reading, never_may_refuse_writing};
 
 use crate::traits::{Carried, OneMeaning, PagableDeserialize, PagableSerialize};
 use pagable_codec::deserializer::PagableDeserializer;
@@ -35,7 +35,7 @@ impl<'a, E: Env, T: OneMeaning<E>> OneMeaning<E> for &'a T {
 impl<'a, E: Env, T: PagableSerialize<E>> PagableSerialize<E> for &'a T {
     ghost write_causes = { T.write_causes };
 
-    ghost write_causes_are_own = { T.write_causes_are_own };
+    ghost write_causes_may_refuse = { T.write_causes_may_refuse };
 
     fn pagable_serialize<S: PagableSerializer<E>>(&self, serializer: &mut S) -> Result<(), Error> {
         T::pagable_serialize(*self, serializer)
@@ -61,7 +61,7 @@ impl<E: Env, T> OneMeaning<E> for PhantomData<T> {
 impl<E: Env, T> PagableSerialize<E> for PhantomData<T> {
     ghost write_causes = { never };
 
-    ghost write_causes_are_own = { never_is_own_writing };
+    ghost write_causes_may_refuse = { never_may_refuse_writing };
 
     fn pagable_serialize<S: PagableSerializer<E>>(&self, _serializer: &mut S) -> Result<(), Error> {
         Ok(())

@@ -3,7 +3,7 @@
 ghost use Rattle.pagable_model.specs.Carried.{of_result};
 ghost use Rattle.pagable_model.specs.Gives.{memory_or, either};
 ghost use Rattle.pagable_model.specs.Shape.{outcome};
-ghost use Rattle.pagable_model.specs.Causes.{memory_or_is_own_writing, either_is_own_reading, either_is_own_writing};
+ghost use Rattle.pagable_model.specs.Causes.{memory_or_may_refuse_writing, either_is_own_reading, either_may_refuse_writing};
 ghost use Rattle.pagable_model.specs.Lifted.{MeansResult, result_has_meaning, result_is_meaning, result_single};
 
 use crate::traits::{Carried, OneMeaning, PagableDeserialize, PagableSerialize};
@@ -33,7 +33,7 @@ impl<E: Env, T: OneMeaning<E>, X: OneMeaning<E>> OneMeaning<E> for Result<T, X> 
 impl<E: Env, T: PagableSerialize<E>, X: PagableSerialize<E>> PagableSerialize<E> for Result<T, X> {
     ghost write_causes = { memory_or (either T.write_causes X.write_causes) };
 
-    ghost write_causes_are_own = { memory_or_is_own_writing (either T.write_causes X.write_causes) (either_is_own_writing T.write_causes X.write_causes T.write_causes_are_own X.write_causes_are_own) };
+    ghost write_causes_may_refuse = { memory_or_may_refuse_writing (either T.write_causes X.write_causes) (either_may_refuse_writing T.write_causes X.write_causes T.write_causes_may_refuse X.write_causes_may_refuse) };
 
     fn pagable_serialize<S: PagableSerializer<E>>(&self, serializer: &mut S) -> Result<(), Error> {
         match self {

@@ -3,11 +3,11 @@
 ghost use Rattle.std.specs.Prelude.{◌≡◌, ◌≤◌, map, OnOk, IfErr};
 ghost use Rattle.std.specs.BTreeSet.{insert_key};
 ghost use Rattle.indexmap.specs.IndexSet as placed;
-ghost use Rattle.pagable_model.specs.Gives.{memory_or};
+ghost use Rattle.pagable_model.specs.Gives.{memory_or, long_or};
 ghost use Rattle.pagable_model.specs.Meaning.{sequence};
 ghost use Rattle.pagable_model.specs.Shape.{sorted_set, placed_set};
-ghost use Rattle.pagable_model.specs.Writing.{nesting, WritesSomeAll, RefusedAll, IsRefusal, Grows};
-ghost use Rattle.pagable_model.specs.Causes.{memory_or_is_own_reading, memory_or_is_own_writing};
+ghost use Rattle.pagable_model.specs.Writing.{nesting, WritesSomeAll, RefusedAll, Grows};
+ghost use Rattle.pagable_model.specs.Causes.{memory_or_is_own_reading, memory_or_may_refuse_writing, long_or_may_refuse_writing};
 ghost use Rattle.pagable_model.specs.Lifted.{MeanAll, MeansList, list_has_meaning, list_is_meaning, list_single};
 
 use crate::impls::collecting::{Collects, collect_items};
@@ -31,7 +31,7 @@ pub fn write_sorted_items<E: Env, T: PagableSerialize<E> + Ord, S: PagableSerial
 ) -> Result<(), Error>
     ensures ok { OnOk result (WritesSomeAll (MeanAll T.means items.now.keys) (nesting (S.levels serializer.old) (E.parts (S.environment serializer.old))) (T.shape (S.environment serializer.old)) (S.out serializer.old) (S.out serializer.new)) }
     ensures refused { IfErr result (RefusedAll (MeanAll T.means items.now.keys) (nesting (S.levels serializer.old) (E.parts (S.environment serializer.old))) (T.shape (S.environment serializer.old))) }
-    ensures only { IfErr result (IsRefusal T.write_causes) }
+    ensures only { IfErr result T.write_causes }
     ensures err { Grows (S.out serializer.old) (S.out serializer.new) }
     ensures same_env { S.environment serializer.new ≡ S.environment serializer.old }
     ensures same_levels { S.levels serializer.new ≡ S.levels serializer.old }
@@ -77,9 +77,9 @@ impl<E: Env, T: PagableOrdKey<E>> OneMeaning<E> for BTreeSet<T> {
 }
 
 impl<E: Env, T: PagableOrdKey<E> + PagableSerialize<E>> PagableSerialize<E> for BTreeSet<T> {
-    ghost write_causes = { memory_or T.write_causes };
+    ghost write_causes = { long_or (memory_or T.write_causes) };
 
-    ghost write_causes_are_own = { memory_or_is_own_writing T.write_causes T.write_causes_are_own };
+    ghost write_causes_may_refuse = { long_or_may_refuse_writing (memory_or T.write_causes) (memory_or_may_refuse_writing T.write_causes T.write_causes_may_refuse) };
 
     fn pagable_serialize<S: PagableSerializer<E>>(&self, serializer: &mut S) -> Result<(), Error> {
         write_count(self.len(), serializer)?;
@@ -141,9 +141,9 @@ impl<E: Env, T: PagableKey<E> + Hash> OneMeaning<E> for IndexSet<T> {
 }
 
 impl<E: Env, T: PagableKey<E> + Hash + PagableSerialize<E>> PagableSerialize<E> for IndexSet<T> {
-    ghost write_causes = { memory_or T.write_causes };
+    ghost write_causes = { long_or (memory_or T.write_causes) };
 
-    ghost write_causes_are_own = { memory_or_is_own_writing T.write_causes T.write_causes_are_own };
+    ghost write_causes_may_refuse = { long_or_may_refuse_writing (memory_or T.write_causes) (memory_or_may_refuse_writing T.write_causes T.write_causes_may_refuse) };
 
     fn pagable_serialize<S: PagableSerializer<E>>(&self, serializer: &mut S) -> Result<(), Error> {
         write_count(self.len(), serializer)?;

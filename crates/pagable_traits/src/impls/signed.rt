@@ -6,7 +6,7 @@ ghost use Rattle.pagable_model.specs.Gives.{never, memory};
 ghost use Rattle.pagable_model.specs.Meaning.{integer};
 ghost use Rattle.pagable_model.specs.Shape.{signed};
 ghost use Rattle.pagable_model.specs.Standing.{Is};
-ghost use Rattle.pagable_model.specs.Causes.{never_is_own_reading, memory_is_own_writing};
+ghost use Rattle.pagable_model.specs.Causes.{never_is_own_reading, memory_may_refuse_writing};
 
 use crate::traits::{Carried, OneMeaning, PagableDeserialize, PagableSerialize};
 use pagable_codec::deserializer::PagableDeserializer;
@@ -35,7 +35,7 @@ impl<E: Env> OneMeaning<E> for i8 {
 impl<E: Env> PagableSerialize<E> for i8 {
     ghost write_causes = { memory };
 
-    ghost write_causes_are_own = { memory_is_own_writing };
+    ghost write_causes_may_refuse = { memory_may_refuse_writing };
 
     fn pagable_serialize<S: PagableSerializer<E>>(&self, serializer: &mut S) -> Result<(), Error> {
         serializer.serde().write_i8(*self)
@@ -74,7 +74,7 @@ impl<E: Env> OneMeaning<E> for i16 {
 impl<E: Env> PagableSerialize<E> for i16 {
     ghost write_causes = { memory };
 
-    ghost write_causes_are_own = { memory_is_own_writing };
+    ghost write_causes_may_refuse = { memory_may_refuse_writing };
 
     #[tactic(auto, using(pagable_codec::proofs::Writing::parts))]
     fn pagable_serialize<S: PagableSerializer<E>>(&self, serializer: &mut S) -> Result<(), Error> {
@@ -114,7 +114,7 @@ impl<E: Env> OneMeaning<E> for i32 {
 impl<E: Env> PagableSerialize<E> for i32 {
     ghost write_causes = { memory };
 
-    ghost write_causes_are_own = { memory_is_own_writing };
+    ghost write_causes_may_refuse = { memory_may_refuse_writing };
 
     fn pagable_serialize<S: PagableSerializer<E>>(&self, serializer: &mut S) -> Result<(), Error> {
         serializer.serde().write_i32(*self)
@@ -153,7 +153,7 @@ impl<E: Env> OneMeaning<E> for i64 {
 impl<E: Env> PagableSerialize<E> for i64 {
     ghost write_causes = { memory };
 
-    ghost write_causes_are_own = { memory_is_own_writing };
+    ghost write_causes_may_refuse = { memory_may_refuse_writing };
 
     fn pagable_serialize<S: PagableSerializer<E>>(&self, serializer: &mut S) -> Result<(), Error> {
         serializer.serde().write_i64(*self)
@@ -192,7 +192,7 @@ impl<E: Env> OneMeaning<E> for i128 {
 impl<E: Env> PagableSerialize<E> for i128 {
     ghost write_causes = { memory };
 
-    ghost write_causes_are_own = { memory_is_own_writing };
+    ghost write_causes_may_refuse = { memory_may_refuse_writing };
 
     fn pagable_serialize<S: PagableSerializer<E>>(&self, serializer: &mut S) -> Result<(), Error> {
         serializer.serde().write_i128(*self)

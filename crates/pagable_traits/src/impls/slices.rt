@@ -2,11 +2,11 @@
 
 ghost use Rattle.std.specs.Prelude.{◌≡◌, map, OnOk, IfErr};
 ghost use Rattle.std.specs.Box.{boxed_slice_items};
-ghost use Rattle.pagable_model.specs.Gives.{memory_or};
+ghost use Rattle.pagable_model.specs.Gives.{memory_or, long_or};
 ghost use Rattle.pagable_model.specs.Meaning.{sequence};
 ghost use Rattle.pagable_model.specs.Shape.{list, run};
-ghost use Rattle.pagable_model.specs.Writing.{nesting, WritesSome, Refused, IsRefusal, Grows};
-ghost use Rattle.pagable_model.specs.Causes.{memory_or_is_own_reading, memory_or_is_own_writing};
+ghost use Rattle.pagable_model.specs.Writing.{nesting, WritesSome, Refused, Grows};
+ghost use Rattle.pagable_model.specs.Causes.{memory_or_is_own_reading, memory_or_may_refuse_writing, long_or_may_refuse_writing};
 ghost use Rattle.pagable_model.specs.Lifted.{MeansList, list_has_meaning, list_is_meaning, list_single};
 
 use crate::impls::lists::{write_items, write_list};
@@ -29,7 +29,7 @@ pub fn serialize_slice<E: Env, T: PagableSerialize<E>, S: PagableSerializer<E>>(
 ) -> Result<(), Error>
     ensures ok { OnOk result (WritesSome (MeansList T.means values.now) (nesting (S.levels serializer.old) (E.parts (S.environment serializer.old))) (list (T.shape (S.environment serializer.old))) (S.out serializer.old) (S.out serializer.new)) }
     ensures refused { IfErr result (Refused (MeansList T.means values.now) (nesting (S.levels serializer.old) (E.parts (S.environment serializer.old))) (list (T.shape (S.environment serializer.old)))) }
-    ensures only { IfErr result (IsRefusal (memory_or T.write_causes)) }
+    ensures only { IfErr result (long_or (memory_or T.write_causes)) }
     ensures err { Grows (S.out serializer.old) (S.out serializer.new) }
     ensures same_env { S.environment serializer.new ≡ S.environment serializer.old }
     ensures same_levels { S.levels serializer.new ≡ S.levels serializer.old }
@@ -56,9 +56,9 @@ impl<'a, E: Env, T: OneMeaning<E>> OneMeaning<E> for &'a [T] {
 }
 
 impl<'a, E: Env, T: PagableSerialize<E>> PagableSerialize<E> for &'a [T] {
-    ghost write_causes = { T.write_causes };
+    ghost write_causes = { long_or T.write_causes };
 
-    ghost write_causes_are_own = { T.write_causes_are_own };
+    ghost write_causes_may_refuse = { long_or_may_refuse_writing T.write_causes T.write_causes_may_refuse };
 
     #[tactic(auto, using(pagable_codec::proofs::Writing::parts, crate::proofs::Slices::runs))]
     fn pagable_serialize<S: PagableSerializer<E>>(&self, serializer: &mut S) -> Result<(), Error> {
@@ -86,9 +86,9 @@ impl<E: Env, T: OneMeaning<E>> OneMeaning<E> for BoxedSlice<T> {
 }
 
 impl<E: Env, T: PagableSerialize<E>> PagableSerialize<E> for BoxedSlice<T> {
-    ghost write_causes = { memory_or T.write_causes };
+    ghost write_causes = { long_or (memory_or T.write_causes) };
 
-    ghost write_causes_are_own = { memory_or_is_own_writing T.write_causes T.write_causes_are_own };
+    ghost write_causes_may_refuse = { long_or_may_refuse_writing (memory_or T.write_causes) (memory_or_may_refuse_writing T.write_causes T.write_causes_may_refuse) };
 
     fn pagable_serialize<S: PagableSerializer<E>>(&self, serializer: &mut S) -> Result<(), Error> {
         write_list(self.as_slice(), serializer)

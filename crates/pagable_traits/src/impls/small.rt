@@ -1,10 +1,10 @@
 //! Lists whose first items are kept in the value.
 
 ghost use Rattle.std.specs.Prelude.{◌≡◌, ◌≤◌, ◌++◌, ◌∷◌, [], map};
-ghost use Rattle.pagable_model.specs.Gives.{memory_or};
+ghost use Rattle.pagable_model.specs.Gives.{memory_or, long_or};
 ghost use Rattle.pagable_model.specs.Meaning.{sequence};
 ghost use Rattle.pagable_model.specs.Shape.{list};
-ghost use Rattle.pagable_model.specs.Causes.{memory_or_is_own_reading, memory_or_is_own_writing};
+ghost use Rattle.pagable_model.specs.Causes.{memory_or_is_own_reading, memory_or_may_refuse_writing, long_or_may_refuse_writing};
 ghost use Rattle.pagable_model.specs.Lifted.{MeansList, list_has_meaning, list_is_meaning, list_single};
 
 use crate::impls::collecting::{Collects, collect_items};
@@ -53,9 +53,9 @@ impl<E: Env, T: OneMeaning<E>, const N: usize> OneMeaning<E> for SmallVec<T, N> 
 }
 
 impl<E: Env, T: PagableSerialize<E>, const N: usize> PagableSerialize<E> for SmallVec<T, N> {
-    ghost write_causes = { memory_or T.write_causes };
+    ghost write_causes = { long_or (memory_or T.write_causes) };
 
-    ghost write_causes_are_own = { memory_or_is_own_writing T.write_causes T.write_causes_are_own };
+    ghost write_causes_may_refuse = { long_or_may_refuse_writing (memory_or T.write_causes) (memory_or_may_refuse_writing T.write_causes T.write_causes_may_refuse) };
 
     fn pagable_serialize<S: PagableSerializer<E>>(&self, serializer: &mut S) -> Result<(), Error> {
         write_list(self.as_slice(), serializer)

@@ -2,11 +2,11 @@
 
 ghost use Rattle.std.specs.Prelude.{refl};
 ghost use Rattle.std.specs.String.{string_bytes};
-ghost use Rattle.pagable_model.specs.Gives.{memory};
+ghost use Rattle.pagable_model.specs.Gives.{memory, long_or};
 ghost use Rattle.pagable_model.specs.Shape.{text};
 ghost use Rattle.pagable_model.specs.Meaning.{text as text_meaning};
 ghost use Rattle.pagable_model.specs.Standing.{Is};
-ghost use Rattle.pagable_model.specs.Causes.{memory_is_own_reading, memory_is_own_writing};
+ghost use Rattle.pagable_model.specs.Causes.{memory_is_own_reading, text_may_refuse_writing};
 
 use crate::traits::{Carried, OneMeaning, PagableDeserialize, PagableSerialize};
 use pagable_codec::deserializer::PagableDeserializer;
@@ -33,9 +33,9 @@ impl<E: Env> OneMeaning<E> for String {
 }
 
 impl<E: Env> PagableSerialize<E> for String {
-    ghost write_causes = { memory };
+    ghost write_causes = { long_or memory };
 
-    ghost write_causes_are_own = { memory_is_own_writing };
+    ghost write_causes_may_refuse = { text_may_refuse_writing };
 
     #[tactic(auto, using(pagable_codec::proofs::Writing::parts))]
     fn pagable_serialize<S: PagableSerializer<E>>(&self, serializer: &mut S) -> Result<(), Error> {

@@ -2,9 +2,9 @@
 
 ghost use Rattle.std.specs.Prelude.{map};
 ghost use Rattle.pagable_model.specs.Carried.{thin};
-ghost use Rattle.pagable_model.specs.Gives.{memory_or, either};
+ghost use Rattle.pagable_model.specs.Gives.{memory_or, either, long_or};
 ghost use Rattle.pagable_model.specs.Meaning.{pair, sequence};
-ghost use Rattle.pagable_model.specs.Causes.{memory_or_is_own_reading, memory_or_is_own_writing, either_is_own_reading, either_is_own_writing};
+ghost use Rattle.pagable_model.specs.Causes.{memory_or_is_own_reading, memory_or_may_refuse_writing, long_or_may_refuse_writing, either_is_own_reading, either_may_refuse_writing};
 ghost use Rattle.pagable_model.specs.Lifted.{MeansList, MeansPair, list_has_meaning, list_is_meaning, list_single, pair_has_meaning, pair_is_meaning, pair_single};
 
 use crate::impls::maps::write_entry;
@@ -39,9 +39,9 @@ impl<E: Env, H: OneMeaning<E>, T: OneMeaning<E>> OneMeaning<E> for Thin<H, T> {
 }
 
 impl<E: Env, H: PagableSerialize<E>, T: PagableSerialize<E>> PagableSerialize<E> for Thin<H, T> {
-    ghost write_causes = { either H.write_causes (memory_or T.write_causes) };
+    ghost write_causes = { either H.write_causes (long_or (memory_or T.write_causes)) };
 
-    ghost write_causes_are_own = { either_is_own_writing H.write_causes (memory_or T.write_causes) H.write_causes_are_own (memory_or_is_own_writing T.write_causes T.write_causes_are_own) };
+    ghost write_causes_may_refuse = { either_may_refuse_writing H.write_causes (long_or (memory_or T.write_causes)) H.write_causes_may_refuse (long_or_may_refuse_writing (memory_or T.write_causes) (memory_or_may_refuse_writing T.write_causes T.write_causes_may_refuse)) };
 
     fn pagable_serialize<S: PagableSerializer<E>>(&self, serializer: &mut S) -> Result<(), Error> {
         write_entry(&self.header, &self.items, serializer)

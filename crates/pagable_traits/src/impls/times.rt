@@ -6,7 +6,7 @@ ghost use Rattle.pagable_model.specs.Gives.{Gives, never, memory, Extends};
 ghost use Rattle.pagable_model.specs.Shape.{duration};
 ghost use Rattle.pagable_model.specs.Standing.{Is};
 ghost use Rattle.pagable_model.specs.Track.{left, GoesOn};
-ghost use Rattle.pagable_model.specs.Causes.{never_is_own_reading, memory_is_own_writing};
+ghost use Rattle.pagable_model.specs.Causes.{never_is_own_reading, memory_may_refuse_writing};
 ghost use Rattle.pagable_model.specs.Spans.{of_span, seconds_of, nanos_of};
 
 use crate::traits::{Carried, OneMeaning, PagableDeserialize, PagableSerialize};
@@ -63,7 +63,7 @@ impl<E: Env> OneMeaning<E> for Duration {
 impl<E: Env> PagableSerialize<E> for Duration {
     ghost write_causes = { memory };
 
-    ghost write_causes_are_own = { memory_is_own_writing };
+    ghost write_causes_may_refuse = { memory_may_refuse_writing };
 
     fn pagable_serialize<S: PagableSerializer<E>>(&self, serializer: &mut S) -> Result<(), Error> {
         write_span(*self, serializer.serde())

@@ -3,7 +3,7 @@
 ghost use Rattle.pagable_model.specs.Gives.{either};
 ghost use Rattle.pagable_model.specs.Meaning.{pair};
 ghost use Rattle.pagable_model.specs.Shape.{both};
-ghost use Rattle.pagable_model.specs.Causes.{either_is_own_reading, either_is_own_writing};
+ghost use Rattle.pagable_model.specs.Causes.{either_is_own_reading, either_may_refuse_writing};
 ghost use Rattle.pagable_model.specs.Lifted.{MeansPair, pair_has_meaning, pair_is_meaning, pair_single};
 
 use crate::impls::maps::write_entry;
@@ -38,7 +38,7 @@ impl<
 > PagableSerialize<E> for (A, B, C) {
     ghost write_causes = { either A.write_causes (either B.write_causes C.write_causes) };
 
-    ghost write_causes_are_own = { either_is_own_writing A.write_causes (either B.write_causes C.write_causes) A.write_causes_are_own (either_is_own_writing B.write_causes C.write_causes B.write_causes_are_own C.write_causes_are_own) };
+    ghost write_causes_may_refuse = { either_may_refuse_writing A.write_causes (either B.write_causes C.write_causes) A.write_causes_may_refuse (either_may_refuse_writing B.write_causes C.write_causes B.write_causes_may_refuse C.write_causes_may_refuse) };
 
     fn pagable_serialize<S: PagableSerializer<E>>(&self, serializer: &mut S) -> Result<(), Error> {
         write_entry(&self.0, &(&self.1, &self.2), serializer)
@@ -93,7 +93,7 @@ impl<
 > PagableSerialize<E> for (A, B, C, D) {
     ghost write_causes = { either A.write_causes (either B.write_causes (either C.write_causes D.write_causes)) };
 
-    ghost write_causes_are_own = { either_is_own_writing A.write_causes (either B.write_causes (either C.write_causes D.write_causes)) A.write_causes_are_own (either_is_own_writing B.write_causes (either C.write_causes D.write_causes) B.write_causes_are_own (either_is_own_writing C.write_causes D.write_causes C.write_causes_are_own D.write_causes_are_own)) };
+    ghost write_causes_may_refuse = { either_may_refuse_writing A.write_causes (either B.write_causes (either C.write_causes D.write_causes)) A.write_causes_may_refuse (either_may_refuse_writing B.write_causes (either C.write_causes D.write_causes) B.write_causes_may_refuse (either_may_refuse_writing C.write_causes D.write_causes C.write_causes_may_refuse D.write_causes_may_refuse)) };
 
     fn pagable_serialize<S: PagableSerializer<E>>(&self, serializer: &mut S) -> Result<(), Error> {
         write_entry(&self.0, &(&self.1, &self.2, &self.3), serializer)
@@ -156,7 +156,7 @@ impl<
 > PagableSerialize<E> for (A, B, C, D, F) {
     ghost write_causes = { either A.write_causes (either B.write_causes (either C.write_causes (either D.write_causes F.write_causes))) };
 
-    ghost write_causes_are_own = { either_is_own_writing A.write_causes (either B.write_causes (either C.write_causes (either D.write_causes F.write_causes))) A.write_causes_are_own (either_is_own_writing B.write_causes (either C.write_causes (either D.write_causes F.write_causes)) B.write_causes_are_own (either_is_own_writing C.write_causes (either D.write_causes F.write_causes) C.write_causes_are_own (either_is_own_writing D.write_causes F.write_causes D.write_causes_are_own F.write_causes_are_own))) };
+    ghost write_causes_may_refuse = { either_may_refuse_writing A.write_causes (either B.write_causes (either C.write_causes (either D.write_causes F.write_causes))) A.write_causes_may_refuse (either_may_refuse_writing B.write_causes (either C.write_causes (either D.write_causes F.write_causes)) B.write_causes_may_refuse (either_may_refuse_writing C.write_causes (either D.write_causes F.write_causes) C.write_causes_may_refuse (either_may_refuse_writing D.write_causes F.write_causes D.write_causes_may_refuse F.write_causes_may_refuse))) };
 
     fn pagable_serialize<S: PagableSerializer<E>>(&self, serializer: &mut S) -> Result<(), Error> {
         write_entry(&self.0, &(&self.1, &self.2, &self.3, &self.4), serializer)

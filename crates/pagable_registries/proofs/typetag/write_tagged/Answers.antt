@@ -2,7 +2,7 @@ use Rattle.std.proofs.Common.{◌∙◌, rules}
 use Rattle.std.proofs.lemmas.Result.{err_from_is_err_and}
 use Rattle.pagable_model.specs.Writing.{nesting}
 use Rattle.pagable_codec.proofs.Writing.{grows_trans}
-use Rattle.pagable_traits.proofs.Parts.{only-count, only_part}
+use Rattle.pagable_traits.proofs.Parts.{only-count, only_parts}
 use Rattle.pagable_registries.proofs.Tagged.{refused_body, writing}
 use Rattle.pagable_registries.proofs.typetag.write_tagged.Goals as goal
 
@@ -38,7 +38,7 @@ returns-clause-refused g c = λ known read.
     refused_body c.pagable_serialize_body.result (g.T.PagableTagged.body_means c.args.value.now) (g.T.PagableTagged.tag c.args.value.now) n (g.T.PagableTagged.bodies env) known read (rw (told.same_levels, told.same_env) at c.pagable_serialize_body.ensures.refused)
 
 pub returns-clause-only : goal.returns-clause-only
-returns-clause-only g c = only_part c.pagable_serialize_body.result g.T.PagableTagged.body_causes c.pagable_serialize_body.ensures.only
+returns-clause-only g c = only_parts c.pagable_serialize_body.result g.T.PagableTagged.body_causes c.pagable_serialize_body.ensures.only
 
 pub returns-clause-err : goal.returns-clause-err
 returns-clause-err g c = grows_trans _ _ _ c.in_ok-write_tag.ensures.err c.pagable_serialize_body.ensures.err

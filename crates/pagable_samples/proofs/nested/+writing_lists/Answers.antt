@@ -1,14 +1,14 @@
 use Rattle.std.proofs.Common.{arith}
-use Rattle.pagable_codec.proofs.Writing.{grows_trans, grows_writes, grows_same, only_memory}
+use Rattle.pagable_codec.proofs.Writing.{grows_trans, grows_writes, grows_same}
 use Rattle.pagable_codec.proofs.Adding.{grows_added_bytes}
-use Rattle.pagable_samples.proofs.Nesting.{writes_down, refused_down, refused_deep, only_deep, writes_end, writes_more, no_first, no_rest, refused_memory_alone}
+use Rattle.pagable_samples.proofs.Nesting.{writes_down, refused_down, refused_deep, only_deep, only_flag, writes_end, writes_more, no_first, no_rest, refused_memory_alone}
 use Rattle.pagable_samples.proofs.nested.+writing_lists.Goals as goal
 
 pub write_cell-returns-in_err-write_flag-in-More-clause-refused : goal.write_cell-returns-in_err-write_flag-in-More-clause-refused
 write_cell-returns-in_err-write_flag-in-More-clause-refused g t c = grind (arith, refused_memory_alone)
 
 pub write_cell-returns-in_err-write_flag-in-More-clause-only : goal.write_cell-returns-in_err-write_flag-in-More-clause-only
-write_cell-returns-in_err-write_flag-in-More-clause-only g t c = grind (arith, only_memory)
+write_cell-returns-in_err-write_flag-in-More-clause-only g t c = grind (arith, only_flag)
 
 pub write_cell-returns-in_err-write_nested-in-More-clause-refused : goal.write_cell-returns-in_err-write_nested-in-More-clause-refused
 write_cell-returns-in_err-write_nested-in-More-clause-refused g t c = grind (arith, no_first)
@@ -29,7 +29,7 @@ pub write_cell-returns-in-End-clause-refused : goal.write_cell-returns-in-End-cl
 write_cell-returns-in-End-clause-refused g t c = grind (arith, refused_memory_alone)
 
 pub write_cell-returns-in-End-clause-only : goal.write_cell-returns-in-End-clause-only
-write_cell-returns-in-End-clause-only g t c = grind (arith, only_memory)
+write_cell-returns-in-End-clause-only g t c = grind (arith, only_flag)
 
 pub write_cell-returns-in_ok-write_nested-in-More-2-clause-ok : goal.write_cell-returns-in_ok-write_nested-in-More-2-clause-ok
 write_cell-returns-in_ok-write_nested-in-More-2-clause-ok g t c = grind (arith, writes_more)

@@ -2,6 +2,7 @@ use Rattle.std.proofs.Common.{◌∙◌, refl}
 use Rattle.std.proofs.lemmas.Result.{err_from_is_err_and}
 use Rattle.std.specs.Int.{w16}
 use Rattle.std.specs.String.{string_bytes}
+use Rattle.pagable_model.specs.Gives.{memory}
 use Rattle.pagable_model.specs.Meaning.{number}
 use Rattle.pagable_model.specs.Meaning as meanings
 use Rattle.pagable_model.specs.Shape.{unsigned}
@@ -9,7 +10,7 @@ use Rattle.pagable_model.specs.Shape as shapes
 use Rattle.pagable_model.specs.Standing.{Is}
 use Rattle.pagable_model.specs.Writing.{nesting}
 use Rattle.pagable_codec.proofs.Writing.{grows_trans}
-use Rattle.pagable_traits.proofs.Parts.{where_ok, writes_pair, refuses_first, refused_second}
+use Rattle.pagable_traits.proofs.Parts.{where_ok, writes_pair, refuses_first, refused_second, only_long_or}
 use Rattle.pagable_examples.proofs.dish.DishPagableSerialize.pagable_serialize.Goals as goal
 
 pub returns-in_err-pagable_serialize-clause-ok : goal.returns-in_err-pagable_serialize-clause-ok
@@ -51,7 +52,7 @@ returns-clause-refused g c =
     refused_second c.pagable_serialize-2.result (Is (λ s. meanings.text (string_bytes s))) (Is number) (λ x. (meanings.text (string_bytes x), refl)) (c.args.self.now.name, c.args.self.now.grams) n shapes.text (unsigned w16) (rw (named.same_levels, named.same_env) at c.pagable_serialize-2.ensures.refused)
 
 pub returns-clause-only : goal.returns-clause-only
-returns-clause-only g c = c.pagable_serialize-2.ensures.only
+returns-clause-only g c = only_long_or c.pagable_serialize-2.result memory c.pagable_serialize-2.ensures.only
 
 pub returns-clause-err : goal.returns-clause-err
 returns-clause-err g c = grows_trans _ _ _ c.in_ok-pagable_serialize.ensures.err c.pagable_serialize-2.ensures.err

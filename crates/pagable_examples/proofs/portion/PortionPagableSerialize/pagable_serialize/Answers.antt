@@ -1,11 +1,11 @@
-use Rattle.std.proofs.Common.{◌∙◌, inr}
+use Rattle.std.proofs.Common.{◌∙◌}
 use Rattle.std.proofs.lemmas.Result.{err_from_is_err_and}
 use Rattle.std.specs.Int.{w16}
 use Rattle.pagable_model.specs.Meaning.{number}
 use Rattle.pagable_model.specs.Shape.{optional, unsigned}
 use Rattle.pagable_model.specs.Standing.{Is}
 use Rattle.pagable_model.specs.Writing.{nesting}
-use Rattle.pagable_codec.proofs.Writing.{grows_trans, memory_refuses, refused_memory, only_memory}
+use Rattle.pagable_codec.proofs.Writing.{grows_trans, memory_refuses, refused_memory}
 use Rattle.pagable_traits.proofs.Parts.{where_ok, writes_absent, writes_present, refused_present}
 use Rattle.pagable_examples.specs.Portions.{portion_means}
 use Rattle.pagable_examples.proofs.portion.PortionPagableSerialize.pagable_serialize.Goals as goal
@@ -21,7 +21,7 @@ returns-in_err-write_flag-in-Part-clause-refused g c =
 pub returns-in_err-write_flag-in-Part-clause-only : goal.returns-in_err-write_flag-in-Part-clause-only
 returns-in_err-write_flag-in-Part-clause-only g c =
     let p = err_from_is_err_and c.from_residual.result c.from_residual.ensures.1 in
-    rw (p.1, p.2) (inr c.in_err-write_flag-in-Part.ensures.only)
+    rw (p.1, p.2) c.in_err-write_flag-in-Part.ensures.only
 
 pub returns-in_err-write_flag-in-Part-clause-err : goal.returns-in_err-write_flag-in-Part-clause-err
 returns-in_err-write_flag-in-Part-clause-err g c = c.in_err-write_flag-in-Part.ensures.err
@@ -45,7 +45,7 @@ returns-in-Whole-clause-refused g c =
     refused_memory c.write_flag.result (portion_means c.args.self.now) n (optional (unsigned w16)) c.write_flag.ensures.only
 
 pub returns-in-Whole-clause-only : goal.returns-in-Whole-clause-only
-returns-in-Whole-clause-only g c = only_memory c.write_flag.result c.write_flag.ensures.only
+returns-in-Whole-clause-only g c = c.write_flag.ensures.only
 
 pub returns-in-Whole-clause-err : goal.returns-in-Whole-clause-err
 returns-in-Whole-clause-err g c = c.write_flag.ensures.err

@@ -13,7 +13,7 @@ use Rattle.pagable_traits.specs.JsonData.{of_value, of_key}
 use Rattle.pagable_traits.proofs.Items.{writes_no_items, writes_item, refuses_item, grows_some_all}
 use Rattle.pagable_traits.proofs.Maps.{writes_entry, written-fewer, written-none, written-more, written-all, written-refused, written-grows}
 use Rattle.pagable_traits.proofs.Parts.{refuses_first, refuses_second}
-use Rattle.pagable_traits.proofs.JsonWritten.{as_value, not_value, seen-null, seen-flag, seen-number, seen-text, seen-array, seen-object, array_written, object_written, refuses_array_length, refuses_object_length, refuses_array_items, refuses_object_members, refuses_deep_array, refuses_deep_object, only-part-of, only-deep, back}
+use Rattle.pagable_traits.proofs.JsonWritten.{as_value, not_value, seen-null, seen-flag, seen-number, seen-text, seen-array, seen-object, array_written, object_written, refuses_array_length, refuses_object_length, refuses_array_items, refuses_object_members, refuses_deep_array, refuses_deep_object, json-long, json-deep, json-text, json_memory, json_number, json_text, back}
 use Rattle.pagable_traits.proofs.impls.json_writing.+writing_json.Goals as goal
 
 pub write_value-returns-in-Null-clause-ok : goal.write_value-returns-in-Null-clause-ok
@@ -31,7 +31,7 @@ write_value-returns-in-Null-clause-refused g t c =
     not_value c.write_null.result c.args.value.now null n (seen-null c.args.value.now c.in-Null.is) c.write_null.ensures.refused
 
 pub write_value-returns-in-Null-clause-only : goal.write_value-returns-in-Null-clause-only
-write_value-returns-in-Null-clause-only g t c = c.write_null.ensures.only
+write_value-returns-in-Null-clause-only g t c = json_memory c.write_null.result c.write_null.ensures.only
 
 pub write_value-returns-in-Null-clause-err : goal.write_value-returns-in-Null-clause-err
 write_value-returns-in-Null-clause-err g t c = c.write_null.ensures.err
@@ -57,7 +57,7 @@ write_value-returns-in-Bool-clause-refused g t c =
     not_value c.write_flag.result c.args.value.now (boolean c.in-Bool.flag) n (seen-flag c.args.value.now c.in-Bool.flag c.in-Bool.is) c.write_flag.ensures.refused
 
 pub write_value-returns-in-Bool-clause-only : goal.write_value-returns-in-Bool-clause-only
-write_value-returns-in-Bool-clause-only g t c = c.write_flag.ensures.only
+write_value-returns-in-Bool-clause-only g t c = json_memory c.write_flag.result c.write_flag.ensures.only
 
 pub write_value-returns-in-Bool-clause-err : goal.write_value-returns-in-Bool-clause-err
 write_value-returns-in-Bool-clause-err g t c = c.write_flag.ensures.err
@@ -83,7 +83,7 @@ write_value-returns-in-Number-clause-refused g t c =
     not_value c.write_number.result c.args.value.now (number (number_view c.in-Number.number)) n (seen-number c.args.value.now c.in-Number.number c.in-Number.is) c.write_number.ensures.refused
 
 pub write_value-returns-in-Number-clause-only : goal.write_value-returns-in-Number-clause-only
-write_value-returns-in-Number-clause-only g t c = c.write_number.ensures.only
+write_value-returns-in-Number-clause-only g t c = json_number c.write_number.result c.write_number.ensures.only
 
 pub write_value-returns-in-Number-clause-err : goal.write_value-returns-in-Number-clause-err
 write_value-returns-in-Number-clause-err g t c = c.write_number.ensures.err
@@ -109,7 +109,7 @@ write_value-returns-in-String-clause-refused g t c =
     not_value c.write_text.result c.args.value.now (string c.as_str.result.now) n (seen-text c.args.value.now c.in-String.text c.as_str.result.now c.in-String.is c.as_str.ensures.value) c.write_text.ensures.refused
 
 pub write_value-returns-in-String-clause-only : goal.write_value-returns-in-String-clause-only
-write_value-returns-in-String-clause-only g t c = c.write_text.ensures.only
+write_value-returns-in-String-clause-only g t c = json_text c.write_text.result c.write_text.ensures.only
 
 pub write_value-returns-in-String-clause-err : goal.write_value-returns-in-String-clause-err
 write_value-returns-in-String-clause-err g t c = c.write_text.ensures.err
@@ -186,7 +186,7 @@ write_array-returns-in_err-begin_array-clause-refused g t c =
 pub write_array-returns-in_err-begin_array-clause-only : goal.write_array-returns-in_err-begin_array-clause-only
 write_array-returns-in_err-begin_array-clause-only g t c =
     let p = err_from_is_err_and c.from_residual.result c.from_residual.ensures.1 in
-    rw (p.1, p.2) (only-part-of _ _ c.in_err-begin_array.ensures.only)
+    rw (p.1, p.2) (json-long _ _ c.in_err-begin_array.ensures.only)
 
 pub write_array-returns-in_err-begin_array-clause-err : goal.write_array-returns-in_err-begin_array-clause-err
 write_array-returns-in_err-begin_array-clause-err g t c = c.in_err-begin_array.ensures.err
@@ -212,7 +212,7 @@ write_array-returns-in_err-enter-clause-refused g t c =
 pub write_array-returns-in_err-enter-clause-only : goal.write_array-returns-in_err-enter-clause-only
 write_array-returns-in_err-enter-clause-only g t c =
     let p = err_from_is_err_and c.from_residual-in_err-enter.result c.from_residual-in_err-enter.ensures.1 in
-    rw (p.1, p.2) (only-deep _ c.in_err-enter.ensures.err.0)
+    rw (p.1, p.2) (json-deep _ c.in_err-enter.ensures.err.0)
 
 pub write_array-returns-in_err-enter-clause-err : goal.write_array-returns-in_err-enter-clause-err
 write_array-returns-in_err-enter-clause-err g t c = rw c.in_err-enter.ensures.same_out c.in_ok-begin_array.ensures.err
@@ -308,7 +308,7 @@ write_object-returns-in_err-begin_object-clause-refused g t c =
 pub write_object-returns-in_err-begin_object-clause-only : goal.write_object-returns-in_err-begin_object-clause-only
 write_object-returns-in_err-begin_object-clause-only g t c =
     let p = err_from_is_err_and c.from_residual.result c.from_residual.ensures.1 in
-    rw (p.1, p.2) (only-part-of _ _ c.in_err-begin_object.ensures.only)
+    rw (p.1, p.2) (json-long _ _ c.in_err-begin_object.ensures.only)
 
 pub write_object-returns-in_err-begin_object-clause-err : goal.write_object-returns-in_err-begin_object-clause-err
 write_object-returns-in_err-begin_object-clause-err g t c = c.in_err-begin_object.ensures.err
@@ -334,7 +334,7 @@ write_object-returns-in_err-enter-clause-refused g t c =
 pub write_object-returns-in_err-enter-clause-only : goal.write_object-returns-in_err-enter-clause-only
 write_object-returns-in_err-enter-clause-only g t c =
     let p = err_from_is_err_and c.from_residual-in_err-enter.result c.from_residual-in_err-enter.ensures.1 in
-    rw (p.1, p.2) (only-deep _ c.in_err-enter.ensures.err.0)
+    rw (p.1, p.2) (json-deep _ c.in_err-enter.ensures.err.0)
 
 pub write_object-returns-in_err-enter-clause-err : goal.write_object-returns-in_err-enter-clause-err
 write_object-returns-in_err-enter-clause-err g t c = rw c.in_err-enter.ensures.same_out c.in_ok-begin_object.ensures.err
@@ -557,7 +557,7 @@ write_member-returns-in_err-pagable_serialize-clause-refused g t c =
 pub write_member-returns-in_err-pagable_serialize-clause-only : goal.write_member-returns-in_err-pagable_serialize-clause-only
 write_member-returns-in_err-pagable_serialize-clause-only g t c =
     let p = err_from_is_err_and c.from_residual.result c.from_residual.ensures.1 in
-    rw (p.1, p.2) c.in_err-pagable_serialize.ensures.only
+    rw (p.1, p.2) (json-text _ c.in_err-pagable_serialize.ensures.only)
 
 pub write_member-returns-in_err-pagable_serialize-clause-err : goal.write_member-returns-in_err-pagable_serialize-clause-err
 write_member-returns-in_err-pagable_serialize-clause-err g t c = c.in_err-pagable_serialize.ensures.err

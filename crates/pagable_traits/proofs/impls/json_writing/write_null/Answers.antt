@@ -2,7 +2,7 @@ use Rattle.pagable_model.specs.Shape.{json}
 use Rattle.pagable_model.specs.Standing.{Is}
 use Rattle.pagable_model.specs.Writing.{nesting}
 use Rattle.serde_json.specs.Data.{null}
-use Rattle.pagable_codec.proofs.Writing.{refused_memory, only_memory}
+use Rattle.pagable_codec.proofs.Writing.{refused_memory}
 use Rattle.pagable_traits.specs.JsonData.{of_data}
 use Rattle.pagable_traits.proofs.Basics.{wrote_on}
 use Rattle.pagable_traits.proofs.JsonWritten.{wrote_json, null_form}
@@ -20,7 +20,7 @@ returns-clause-refused g c =
     refused_memory c.put_null.result (Is of_data null) n json c.put_null.ensures.only
 
 pub returns-clause-only : goal.returns-clause-only
-returns-clause-only g c = only_memory c.put_null.result c.put_null.ensures.only
+returns-clause-only g c = c.put_null.ensures.only
 
 pub returns-clause-err : goal.returns-clause-err
 returns-clause-err g c =

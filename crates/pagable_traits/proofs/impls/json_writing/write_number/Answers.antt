@@ -10,10 +10,10 @@ use Rattle.pagable_model.specs.Numbers.{IsSigned}
 use Rattle.pagable_model.specs.Shape.{json}
 use Rattle.pagable_model.specs.Standing.{Is}
 use Rattle.pagable_model.specs.Writing.{nesting}
-use Rattle.pagable_codec.proofs.Writing.{grows_refl, refused_memory, only_memory}
+use Rattle.pagable_codec.proofs.Writing.{grows_refl, refused_memory}
 use Rattle.pagable_traits.specs.JsonData.{of_data}
 use Rattle.pagable_traits.proofs.Basics.{wrote_on}
-use Rattle.pagable_traits.proofs.JsonWritten.{wrote_json, number_form, refuses_number, only_number}
+use Rattle.pagable_traits.proofs.JsonWritten.{wrote_json, number_form, refuses_number, only_number, only_whole}
 use Rattle.pagable_traits.proofs.impls.json_writing.write_number.Goals as goal
 
 pub returns-in_default-clause-refused : goal.returns-in_default-clause-refused
@@ -43,7 +43,7 @@ returns-clause-refused g c =
     refused_memory c.put_whole.result (Is of_data (number (number_view c.args.value.now))) n json c.put_whole.ensures.only
 
 pub returns-clause-only : goal.returns-clause-only
-returns-clause-only g c = only_memory c.put_whole.result c.put_whole.ensures.only
+returns-clause-only g c = only_whole c.put_whole.result c.put_whole.ensures.only
 
 pub returns-clause-err : goal.returns-clause-err
 returns-clause-err g c =

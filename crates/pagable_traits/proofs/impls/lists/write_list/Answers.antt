@@ -3,7 +3,7 @@ use Rattle.std.proofs.lemmas.Result.{err_from_is_err_and}
 use Rattle.pagable_model.specs.Writing.{nesting}
 use Rattle.pagable_codec.proofs.Writing.{grows_trans}
 use Rattle.pagable_traits.proofs.Items.{writes_list, refused_items, refuses-count}
-use Rattle.pagable_traits.proofs.Parts.{where_ok, only-count, only_part}
+use Rattle.pagable_traits.proofs.Parts.{where_ok, only-count, only_parts}
 use Rattle.pagable_traits.proofs.impls.lists.write_list.Goals as goal
 
 pub returns-in_err-write_count-clause-ok : goal.returns-in_err-write_count-clause-ok
@@ -45,7 +45,7 @@ returns-clause-refused g c =
     refused_items c.write_items.result g.T.Carried.means c.args.values.now n (g.T.Carried.shape env) (rw (counted.same_levels, counted.same_env) at c.write_items.ensures.refused)
 
 pub returns-clause-only : goal.returns-clause-only
-returns-clause-only g c = only_part c.write_items.result g.T.PagableSerialize.write_causes c.write_items.ensures.only
+returns-clause-only g c = only_parts c.write_items.result g.T.PagableSerialize.write_causes c.write_items.ensures.only
 
 pub returns-clause-err : goal.returns-clause-err
 returns-clause-err g c = grows_trans _ _ _ c.in_ok-write_count.ensures.err c.write_items.ensures.err

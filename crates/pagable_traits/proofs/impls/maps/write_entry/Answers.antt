@@ -1,8 +1,8 @@
-use Rattle.std.proofs.Common.{◌∙◌}
+use Rattle.std.proofs.Common.{◌∙◌, inl, inr}
 use Rattle.std.proofs.lemmas.Result.{err_from_is_err_and}
 use Rattle.pagable_model.specs.Writing.{nesting}
 use Rattle.pagable_codec.proofs.Writing.{grows_trans}
-use Rattle.pagable_traits.proofs.Parts.{refuses_first, refuses_second, only-first, only-second}
+use Rattle.pagable_traits.proofs.Parts.{refuses_first, refuses_second}
 use Rattle.pagable_traits.proofs.Maps.{writes_entry}
 use Rattle.pagable_traits.proofs.impls.maps.write_entry.Goals as goal
 
@@ -19,7 +19,7 @@ returns-in_err-pagable_serialize-clause-refused g c =
 pub returns-in_err-pagable_serialize-clause-only : goal.returns-in_err-pagable_serialize-clause-only
 returns-in_err-pagable_serialize-clause-only g c =
     let p = err_from_is_err_and c.from_residual.result c.from_residual.ensures.1 in
-    rw (p.1, p.2) (only-first g.K.PagableSerialize.write_causes g.V.PagableSerialize.write_causes _ c.in_err-pagable_serialize.ensures.only)
+    rw (p.1, p.2) (inl c.in_err-pagable_serialize.ensures.only)
 
 pub returns-in_err-pagable_serialize-clause-err : goal.returns-in_err-pagable_serialize-clause-err
 returns-in_err-pagable_serialize-clause-err g c = c.in_err-pagable_serialize.ensures.err
@@ -44,7 +44,7 @@ returns-in_err-pagable_serialize-2-clause-refused g c =
 pub returns-in_err-pagable_serialize-2-clause-only : goal.returns-in_err-pagable_serialize-2-clause-only
 returns-in_err-pagable_serialize-2-clause-only g c =
     let p = err_from_is_err_and c.from_residual-in_err-pagable_serialize-2.result c.from_residual-in_err-pagable_serialize-2.ensures.1 in
-    rw (p.1, p.2) (only-second g.K.PagableSerialize.write_causes g.V.PagableSerialize.write_causes _ c.in_err-pagable_serialize-2.ensures.only)
+    rw (p.1, p.2) (inr c.in_err-pagable_serialize-2.ensures.only)
 
 pub returns-in_err-pagable_serialize-2-clause-err : goal.returns-in_err-pagable_serialize-2-clause-err
 returns-in_err-pagable_serialize-2-clause-err g c = grows_trans _ _ _ c.in_ok-pagable_serialize.ensures.err c.in_err-pagable_serialize-2.ensures.err

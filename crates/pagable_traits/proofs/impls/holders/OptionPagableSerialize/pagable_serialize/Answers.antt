@@ -1,4 +1,4 @@
-use Rattle.std.proofs.Common.{◌∙◌, inr, inl}
+use Rattle.std.proofs.Common.{◌∙◌, inl}
 use Rattle.std.proofs.lemmas.Result.{err_from_is_err_and}
 use Rattle.pagable_model.specs.Writing.{nesting}
 use Rattle.pagable_model.specs.Shape.{optional}
@@ -18,7 +18,7 @@ returns-in_err-write_flag-in-Some-clause-refused g c =
 pub returns-in_err-write_flag-in-Some-clause-only : goal.returns-in_err-write_flag-in-Some-clause-only
 returns-in_err-write_flag-in-Some-clause-only g c =
     let p = err_from_is_err_and c.from_residual.result c.from_residual.ensures.1 in
-    rw (p.1, p.2) (inr (inl c.in_err-write_flag-in-Some.ensures.only))
+    rw (p.1, p.2) (inl c.in_err-write_flag-in-Some.ensures.only)
 
 pub returns-in_err-write_flag-in-Some-clause-err : goal.returns-in_err-write_flag-in-Some-clause-err
 returns-in_err-write_flag-in-Some-clause-err g c = c.in_err-write_flag-in-Some.ensures.err

@@ -4,7 +4,7 @@ use Rattle.pagable_model.specs.Meaning.{number}
 use Rattle.pagable_model.specs.Shape.{unsigned}
 use Rattle.pagable_model.specs.Standing.{Is}
 use Rattle.pagable_model.specs.Writing.{nesting}
-use Rattle.pagable_codec.proofs.Writing.{refused_memory, only_memory}
+use Rattle.pagable_codec.proofs.Writing.{refused_memory}
 use Rattle.pagable_traits.proofs.Basics.{wrote_unsigned, wrote_on}
 use Rattle.pagable_traits.proofs.impls.numbers.U8PagableSerialize.pagable_serialize.Goals as goal
 
@@ -20,7 +20,7 @@ returns-clause-refused g c =
     refused_memory c.write_u8.result (Is number c.args.self.now) n (unsigned w8) c.write_u8.ensures.only
 
 pub returns-clause-only : goal.returns-clause-only
-returns-clause-only g c = only_memory c.write_u8.result c.write_u8.ensures.only
+returns-clause-only g c = c.write_u8.ensures.only
 
 pub returns-clause-err : goal.returns-clause-err
 returns-clause-err g c =

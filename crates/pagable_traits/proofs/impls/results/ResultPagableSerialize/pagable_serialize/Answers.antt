@@ -1,4 +1,4 @@
-use Rattle.std.proofs.Common.{inl, inr}
+use Rattle.std.proofs.Common.{inl}
 use Rattle.std.proofs.lemmas.Result.{err_from_is_err_and}
 use Rattle.pagable_model.specs.Writing.{nesting}
 use Rattle.pagable_codec.proofs.Writing.{memory_refuses}
@@ -37,7 +37,7 @@ returns-in_err-write_flag-in-Ok-clause-refused g c =
 pub returns-in_err-write_flag-in-Ok-clause-only : goal.returns-in_err-write_flag-in-Ok-clause-only
 returns-in_err-write_flag-in-Ok-clause-only g c =
     let p = err_from_is_err_and c.from_residual.result c.from_residual.ensures.1 in
-    rw (p.1, p.2) (inr (inl c.in_err-write_flag-in-Ok.ensures.only))
+    rw (p.1, p.2) (inl c.in_err-write_flag-in-Ok.ensures.only)
 
 pub returns-in_ok-write_flag-in-Ok-clause-only : goal.returns-in_ok-write_flag-in-Ok-clause-only
 returns-in_ok-write_flag-in-Ok-clause-only g c = only_success _ g.T.PagableSerialize.write_causes g.X.PagableSerialize.write_causes c.pagable_serialize.ensures.only
@@ -53,7 +53,7 @@ returns-in_err-write_flag-in-Err-clause-refused g c =
 pub returns-in_err-write_flag-in-Err-clause-only : goal.returns-in_err-write_flag-in-Err-clause-only
 returns-in_err-write_flag-in-Err-clause-only g c =
     let p = err_from_is_err_and c.from_residual-in_err-write_flag-in-Err.result c.from_residual-in_err-write_flag-in-Err.ensures.1 in
-    rw (p.1, p.2) (inr (inl c.in_err-write_flag-in-Err.ensures.only))
+    rw (p.1, p.2) (inl c.in_err-write_flag-in-Err.ensures.only)
 
 pub returns-in_ok-write_flag-in-Err-clause-only : goal.returns-in_ok-write_flag-in-Err-clause-only
 returns-in_ok-write_flag-in-Err-clause-only g c = only_failure _ g.T.PagableSerialize.write_causes g.X.PagableSerialize.write_causes c.pagable_serialize-in-Err.ensures.only

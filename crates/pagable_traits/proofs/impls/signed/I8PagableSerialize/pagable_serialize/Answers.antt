@@ -5,7 +5,7 @@ use Rattle.pagable_model.specs.Meaning.{integer}
 use Rattle.pagable_model.specs.Shape.{signed}
 use Rattle.pagable_model.specs.Standing.{Is}
 use Rattle.pagable_model.specs.Writing.{nesting}
-use Rattle.pagable_codec.proofs.Writing.{refused_memory, only_memory}
+use Rattle.pagable_codec.proofs.Writing.{refused_memory}
 use Rattle.pagable_traits.proofs.Basics.{wrote_signed, wrote_on}
 use Rattle.pagable_traits.proofs.impls.signed.I8PagableSerialize.pagable_serialize.Goals as goal
 
@@ -22,7 +22,7 @@ returns-clause-refused g c =
     refused_memory c.write_i8.result (Is integer c.args.self.now) n (signed w8) c.write_i8.ensures.only
 
 pub returns-clause-only : goal.returns-clause-only
-returns-clause-only g c = only_memory c.write_i8.result c.write_i8.ensures.only
+returns-clause-only g c = c.write_i8.ensures.only
 
 pub returns-clause-err : goal.returns-clause-err
 returns-clause-err g c =
