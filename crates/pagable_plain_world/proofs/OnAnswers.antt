@@ -32,14 +32,14 @@ use Rattle.pagable_world.specs.Stands.{NodeStands, here, away, MeaningStands, no
 use Rattle.pagable_world.specs.Bounds.{Unfolds, unfolds, UnfoldsFrom, ends-here, takes-next, LoadsAreBounded}
 use Rattle.pagable_world.specs.Premises.{ReadsItsTypes, ReadsAsHandle}
 use Rattle.pagable_world.specs.Interleaved.{HasFormlessValue, RefusesFormless, ReadIsRight, ReadGives, IsLeftPagedOut, LeavesAll, AnswerLeavesAll, PublishIsKey, IsKeyOfTask, AnswerIsKey}
-use Rattle.pagable_world.specs.Alone.{IsTooDeepTask, DeepIsRefused}
+use Rattle.pagable_world.specs.Alone.{IsTooDeepTask, IsTooDeepReading, DeepIsRefused}
 use Rattle.pagable_world.specs.Results.{kind_of_arc, HasForm, ResultStands, stands-over, ResultsStand, no-results, more-results, IsOverResults}
 use Rattle.pagable_plain_world.specs.Samples.{new_pages, first_node, all_of, none_of, only_of, dropped}
 use Rattle.pagable_plain_world.specs.SampleSeen.{sample, sample_types, bare, referring, child_kind, reading, first_table, nothing_written, one_reference, one_written, item_worker, first_identity, claiming}
 use Rattle.pagable_plain_world.specs.SampleRuns.{lone_pages, empty_trees}
 use Rattle.pagable_plain_world.specs.SampleTurns.{faulty_load, pages_of, load_event, wait_event, fail_reply}
 use Rattle.pagable_plain_world.specs.SampleParts.{referring_load}
-use Rattle.pagable_plain_world.specs.SampleAnswers.{nothing_reference, nothing_identity, paged_item, paged_slot, paged_worker, paged, nothing_trees, chain, deep_trees, read_reply, answer_reply, publish_reply, referring_steps, run_types, write_reply, nothing_pages, two_stored, nothing_row}
+use Rattle.pagable_plain_world.specs.SampleAnswers.{nothing_reference, nothing_identity, paged_item, paged_slot, paged_worker, paged, nothing_trees, chain, deep_trees, read_reply, answer_reply, publish_reply, referring_steps, run_types, write_reply, nothing_pages, two_stored, nothing_row, ringing, ring_paged}
 use Rattle.pagable_plain_world.specs.AnswerExamples.{ReadExamples, PageOutExamples, PremiseExamples}
 use Rattle.pagable_plain_world.proofs.TodayLoad.{own_of}
 use Rattle.pagable_plain_world.proofs.Filters.{sum-filter-none}
@@ -47,6 +47,7 @@ use Rattle.pagable_plain_world.proofs.OnHandles.{the-one}
 use Rattle.pagable_plain_world.proofs.OnSteps.{wants-it, not-read}
 use Rattle.pagable_plain_world.proofs.OnRuns.{no-key, not-settled}
 use Rattle.pagable_plain_world.proofs.OnTurns.{reads-bare-tree}
+use Rattle.pagable_plain_world.proofs.OnWork.{ring-deep}
 
 -- ---- what is read
 
@@ -255,6 +256,12 @@ deep stored worker has =
     let too_deep : IsTooDeepTask (deep_trees (claiming stored)) (item_worker one_written).task = (one_reference, (0, refl), let h = height-chain longest_path in omega arith) in
     ((λ failed. inl (subst (λ v. IsTooDeepTask (deep_trees (claiming stored)) v.task) (sym (the-one _ worker has.0)) too_deep)), λ key is. absurd (cc))
 
+deep-reading : DeepIsRefused ringing (new_pages none_of) (nothing_trees ring_paged) wait_event fail_reply (new_pages none_of) (empty_trees none_of)
+deep-reading worker has =
+    let its_cell : Cell = record { number = 1; node_type = 1; key = optional.Some 1 } in
+    let too_deep : IsTooDeepReading ringing ring_paged (item_worker paged_item) = (nothing_identity, 1, meets-of-item paged_item nothing_reference refl (0, refl), (refl, (its_cell, ((0, refl), refl), refl)), ring-deep) in
+    ((λ failed. inr (inr (subst (λ v. IsTooDeepReading ringing ring_paged v) (sym (the-one _ worker has.0)) too_deep))), λ key is. absurd (cc))
+
 over-results : IsOverResults sample [] (nothing_reference ∷ []) (digest sample bare)
 over-results = (digest sample bare ∷ [], more-results nothing_reference 1 (digest sample bare) [] [] (stands-over nothing_identity 1 [] [] [] refl (record { shape = shapes.nothing; own = none; is = refl; means = refl; form = nothing-form deepest }) no-results) no-results, refl)
 
@@ -306,6 +313,7 @@ page-outs =
       answers = answers;
       not_other = λ stored key other all. let it = all (paged_worker key) key ((0, refl), refl) refl in other it.0.is;
       deep = deep;
+      deep_reading = deep-reading;
       own = λ w w'. refl;
       not_own = λ w w' cause. cause;
       of_writing = λ w w'. refl;

@@ -20,7 +20,7 @@ use Rattle.pagable_plain_world.specs.Samples.{new_pages, lone, first, all_of, no
 use Rattle.pagable_plain_world.specs.SampleSeen.{sample, sample_types, bare, referring, reading, one_reference, claiming}
 use Rattle.pagable_plain_world.specs.SampleRuns.{unsettled, lone_pages, empty_trees}
 use Rattle.pagable_plain_world.specs.SampleTurns.{faulty_load, pages_of, load_event, wait_event, fail_reply}
-use Rattle.pagable_plain_world.specs.SampleAnswers.{nothing_reference, paged, nothing_trees, deep_trees, read_reply, answer_reply, publish_reply, referring_steps, run_types, choosy, write_reply, nothing_pages, two_stored, nothing_row}
+use Rattle.pagable_plain_world.specs.SampleAnswers.{nothing_reference, paged, nothing_trees, deep_trees, read_reply, answer_reply, publish_reply, referring_steps, run_types, choosy, write_reply, nothing_pages, two_stored, nothing_row, ringing, ring_paged}
 
 -- What a load of a key answers is what its blob reads as, with the reference in it.
 pub record ReadExamples : Type 0 where
@@ -42,6 +42,7 @@ pub record PageOutExamples : Type 0 where
   pub answers : (stored : ℕ → Option Blob) → AnswerIsKey sample (new_pages stored) (nothing_trees (paged stored (digest sample bare))) wait_event (answer_reply (digest sample bare)) (new_pages stored) (empty_trees stored)
   pub not_other : (stored : ℕ → Option Blob) (key : ℕ) → key ≢ digest sample bare → ¬ AnswerIsKey sample (new_pages stored) (nothing_trees (paged stored key)) wait_event (answer_reply key) (new_pages stored) (empty_trees stored)
   pub deep : (stored : ℕ → Option Blob) → DeepIsRefused sample (new_pages stored) (deep_trees (claiming stored)) wait_event fail_reply (new_pages stored) (empty_trees stored)
+  pub deep_reading : DeepIsRefused ringing (new_pages none_of) (nothing_trees ring_paged) wait_event fail_reply (new_pages none_of) (empty_trees none_of)
   pub own : (w w' : Whole) → IsOwnCause choosy 0 w errors.RegexRefused w'
   pub not_own : (w w' : Whole) → ¬ IsOwnCause sample 0 w errors.RegexRefused w'
   pub of_writing : (w w' : Whole) → IsOfWriting choosy 0 w errors.Unregistered w'

@@ -24,7 +24,7 @@ use Rattle.pagable_world.specs.Seen.{Seen}
 use Rattle.pagable_world.specs.Pages.{Pages}
 use Rattle.pagable_world.specs.Stands.{TreeWorld}
 use Rattle.pagable_plain_world.specs.Samples.{lone, first, first_node, all_of}
-use Rattle.pagable_plain_world.specs.SampleSeen.{sample, bare, referring, reading, first_table, first_worker, first_identity, nothing_written, item_worker}
+use Rattle.pagable_plain_world.specs.SampleSeen.{sample, ring_types, bare, referring, reading, first_table, first_worker, first_identity, nothing_written, item_worker}
 use Rattle.pagable_plain_world.specs.SampleParts.{referring_load}
 
 -- a loose reference to a cell of the type 1, and an item of it
@@ -98,3 +98,10 @@ two_stored q = if q == 1 then Some (referring 2) else Some bare
 
 abbrev pub nothing_row : HandleRow
 nothing_row = row_of 1 first_node modes.LoosePinned owners.Caller
+
+-- a worker whose item refers to a cell that is away, under a key of a ring
+abbrev pub ringing : Seen ℕ Blob Written
+ringing = record sample { types = ring_types }
+
+abbrev pub ring_paged : Whole
+ring_paged = record (paged (all_of (referring 1)) 1) { rows = row_of 1 first_node modes.LooseUnpinned owners.Caller ∷ []; workers = item_worker paged_item ∷ []; slots = [] }
