@@ -7,6 +7,7 @@ use Rattle.pagable_model.specs.declared.error.Error.TheVariants as errors
 use Rattle.pagable_model.specs.declared.data_key.OptionalDataKey.TheVariants as optional
 use Rattle.pagable_model.specs.declared.numbers.ArcRef.{ArcRef}
 use Rattle.pagable_model.specs.declared.numbers.Identity.{Identity}
+use Rattle.pagable_model.specs.declared.numbers.NodeNumber.{NodeNumber}
 use Rattle.pagable_model.specs.Blob.{Blob}
 use Rattle.pagable_model.specs.Canonical.{IsReadable, LiesIn, Within, Throughout, throughout-in}
 use Rattle.pagable_model.specs.Deep.{longest_path, kid}
@@ -19,6 +20,7 @@ use Rattle.pagable_model.specs.Writing.{nesting, FormAt, NoFormOfSome}
 use Rattle.pagable_model.specs.Trees.{Tree, KeyRef, tree, key_ref, blob_context, rest_of, ReadsAs, IsFollowed, number-followed, integer-followed, text-followed, pattern-followed, none-followed, pair-followed, variant-followed, reference-followed, ReadsTree, height}
 use Rattle.pagable_world.specs.declared.rows.Owner.TheVariants as owners
 use Rattle.pagable_world.specs.State.{one}
+use Rattle.pagable_world.specs.Cells.{Cell}
 use Rattle.pagable_world.specs.Words.{Among, times}
 use Rattle.pagable_world.specs.Kinds.{identity_of}
 use Rattle.pagable_world.specs.Seen.{digest}
@@ -26,18 +28,18 @@ use Rattle.pagable_world.specs.Whole.{Whole, OpenLoad, WorkerRow, is_open_load}
 use Rattle.pagable_world.specs.Loads.{LoadCloses}
 use Rattle.pagable_world.specs.LoadSteps.{Wants, IsRead, root_frame, root_type, LoadFails}
 use Rattle.pagable_world.specs.Met.{Meets, meets-of-item, meets-entry, meets-below}
-use Rattle.pagable_world.specs.Stands.{MeaningStands, none-stands}
+use Rattle.pagable_world.specs.Stands.{NodeStands, here, away, MeaningStands, none-stands, KeyFits}
 use Rattle.pagable_world.specs.Bounds.{Unfolds, unfolds, UnfoldsFrom, ends-here, takes-next, LoadsAreBounded}
-use Rattle.pagable_world.specs.Premises.{ReadsItsTypes}
+use Rattle.pagable_world.specs.Premises.{ReadsItsTypes, ReadsAsHandle}
 use Rattle.pagable_world.specs.Interleaved.{HasFormlessValue, RefusesFormless, ReadIsRight, ReadGives, IsLeftPagedOut, LeavesAll, AnswerLeavesAll, PublishIsKey, IsKeyOfTask, AnswerIsKey}
-use Rattle.pagable_world.specs.Alone.{IsTooDeepTask, DeepIsRefused}
+use Rattle.pagable_world.specs.Alone.{IsTooDeepTask, IsTooDeepReading, DeepIsRefused}
 use Rattle.pagable_world.specs.Results.{kind_of_arc, HasForm, ResultStands, stands-over, ResultsStand, no-results, more-results, IsOverResults}
-use Rattle.pagable_plain_world.specs.Samples.{new_pages, first_node, all_of, none_of, dropped}
+use Rattle.pagable_plain_world.specs.Samples.{new_pages, first_node, all_of, none_of, only_of, dropped}
 use Rattle.pagable_plain_world.specs.SampleSeen.{sample, sample_types, bare, referring, child_kind, reading, first_table, nothing_written, one_reference, one_written, item_worker, first_identity, claiming}
 use Rattle.pagable_plain_world.specs.SampleRuns.{lone_pages, empty_trees}
 use Rattle.pagable_plain_world.specs.SampleTurns.{faulty_load, pages_of, load_event, wait_event, fail_reply}
 use Rattle.pagable_plain_world.specs.SampleParts.{referring_load}
-use Rattle.pagable_plain_world.specs.SampleAnswers.{nothing_reference, nothing_identity, paged_item, paged_slot, paged_worker, paged, nothing_trees, chain, deep_trees, read_reply, answer_reply, publish_reply, referring_steps, run_types, write_reply, nothing_pages}
+use Rattle.pagable_plain_world.specs.SampleAnswers.{nothing_reference, nothing_identity, paged_item, paged_slot, paged_worker, paged, nothing_trees, chain, deep_trees, read_reply, answer_reply, publish_reply, referring_steps, run_types, write_reply, nothing_pages, two_stored, nothing_row, ringing, ring_paged}
 use Rattle.pagable_plain_world.specs.AnswerExamples.{ReadExamples, PageOutExamples, PremiseExamples}
 use Rattle.pagable_plain_world.proofs.TodayLoad.{own_of}
 use Rattle.pagable_plain_world.proofs.Filters.{sum-filter-none}
@@ -45,6 +47,7 @@ use Rattle.pagable_plain_world.proofs.OnHandles.{the-one}
 use Rattle.pagable_plain_world.proofs.OnSteps.{wants-it, not-read}
 use Rattle.pagable_plain_world.proofs.OnRuns.{no-key, not-settled}
 use Rattle.pagable_plain_world.proofs.OnTurns.{reads-bare-tree}
+use Rattle.pagable_plain_world.proofs.OnWork.{ring-deep}
 
 -- ---- what is read
 
@@ -253,6 +256,12 @@ deep stored worker has =
     let too_deep : IsTooDeepTask (deep_trees (claiming stored)) (item_worker one_written).task = (one_reference, (0, refl), let h = height-chain longest_path in omega arith) in
     ((λ failed. inl (subst (λ v. IsTooDeepTask (deep_trees (claiming stored)) v.task) (sym (the-one _ worker has.0)) too_deep)), λ key is. absurd (cc))
 
+deep-reading : DeepIsRefused ringing (new_pages none_of) (nothing_trees ring_paged) wait_event fail_reply (new_pages none_of) (empty_trees none_of)
+deep-reading worker has =
+    let its_cell : Cell = record { number = 1; node_type = 1; key = optional.Some 1 } in
+    let too_deep : IsTooDeepReading ringing ring_paged (item_worker paged_item) = (nothing_identity, 1, meets-of-item paged_item nothing_reference refl (0, refl), (refl, (its_cell, ((0, refl), refl), refl)), ring-deep) in
+    ((λ failed. inr (inr (subst (λ v. IsTooDeepReading ringing ring_paged v) (sym (the-one _ worker has.0)) too_deep))), λ key is. absurd (cc))
+
 over-results : IsOverResults sample [] (nothing_reference ∷ []) (digest sample bare)
 over-results = (digest sample bare ∷ [], more-results nothing_reference 1 (digest sample bare) [] [] (stands-over nothing_identity 1 [] [] [] refl (record { shape = shapes.nothing; own = none; is = refl; means = refl; form = nothing-form deepest }) no-results) no-results, refl)
 
@@ -304,6 +313,7 @@ page-outs =
       answers = answers;
       not_other = λ stored key other all. let it = all (paged_worker key) key ((0, refl), refl) refl in other it.0.is;
       deep = deep;
+      deep_reading = deep-reading;
       own = λ w w'. refl;
       not_own = λ w w' cause. cause;
       of_writing = λ w w'. refl;
@@ -332,6 +342,44 @@ not-unread : ¬ ReadsItsTypes run_types
 unfolding IsReadable Within
 not-unread all = (all 0 (shapes.run shapes.nothing) refl).within 0
 
+-- the cell's first key reads as what it stands for
+first-reads : (n : NodeNumber) (t : Tree) → n ≡ first_node → NodeStands sample (pages_of (paged two_stored 1)) n t → ReadsTree two_stored sample_types 1 t
+first-reads n t at (here _ x own _ has typed means stands fits) = absurd (let e = has.1 in cc)
+first-reads n t at (away _ key _ none_is is fits) = fits 1 (record { number = 1; node_type = 1; key = optional.Some 1 }, ((0, refl), sym (ap (λ (k : NodeNumber). k.0) at)), refl)
+
+alike : ReadsAsHandle sample (pages_of (paged two_stored 1)) nothing_row 2
+unfolding read read_with
+alike t (cell, (among, at), typed) stands =
+    let one_is : t.type ≡ 1 = sym typed ∙ ap (λ c. c.node_type) (the-one _ cell among) in
+    let reads = first-reads first_node t refl stands in
+    let e = nothing-followed reads.own t.meaning reads.follows (nothing-read two_stored t.type 1 reads.own one_is reads.reads) in
+    record {
+      own = none;
+      reads = record {
+        blob = bare;
+        stored = refl;
+        rest = record { bytes = []; refs = [] };
+        reads = subst (λ k. read_typed (blob_context sample_types) (sample_types.nodes k) (rest_of bare) ≡ Ok (none, record { bytes = []; refs = [] })) (sym one_is) refl;
+      };
+      follows = subst (λ a. IsFollowed (ReadsAs two_stored sample_types) none a) (sym e) none-followed;
+    }
+
+first-alone : ReadsTree (only_of 1 bare) sample_types 1 (tree 1 none)
+unfolding read read_with
+first-alone = record { own = none; reads = record { blob = bare; stored = refl; rest = record { bytes = []; refs = [] }; reads = refl }; follows = none-followed }
+
+not-alike : ¬ ReadsAsHandle sample (pages_of (paged (only_of 1 bare) 1)) nothing_row 2
+not-alike all =
+    let its_cell : Cell = record { number = 1; node_type = 1; key = optional.Some 1 } in
+    let fits : KeyFits sample (pages_of (paged (only_of 1 bare) 1)) first_node (tree 1 none) = λ key is.
+        let there : is.0.key ≡ optional.Some 1 = ap (λ c. c.key) (the-one _ is.0 is.1.0) in
+        let named = is.2 in
+        let one_is : key ≡ 1 = cc in
+        subst (λ k. ReadsTree (only_of 1 bare) sample_types k (tree 1 none)) (sym one_is) first-alone in
+    let r = all (tree 1 none) (its_cell, ((0, refl), refl), refl) (away first_node 1 (tree 1 none) refl (its_cell, ((0, refl), refl), refl) fits) in
+    let e = r.reads.stored in
+    absurd (cc)
+
 pub premises : PremiseExamples
 premises =
     record {
@@ -342,4 +390,6 @@ premises =
       held = λ stored n x has a b one other. other ∙ sym one;
       not_held = λ stored held. not-settled 0 (held 1 0 (0, refl));
       not_read = λ x read_it. not-settled x (read_it x refl);
+      alike = alike;
+      not_alike = not-alike;
     }

@@ -214,6 +214,9 @@ ring-down : (n : ℕ) → LeadsDown ring_types (all_of (referring 1)) 1 1 n 1 1
 ring-down zero = is-there 1 1
 ring-down (suc n) = goes-down 1 1 1 n (suc n) 1 1 (referring 1) [] child_kind (omega arith) refl ring-wants (ring-down n)
 
+pub ring-deep : ReadsTooDeep ring_types (all_of (referring 1)) 1 1
+ring-deep = (129, 1, 1, referring 1, ring-down 129, refl, inl (omega arith))
+
 -- what has no key leads nowhere
 stays-there : (t key n last_type last : ℕ) → LeadsDown sample_types (all_of bare) t key n last_type last → (n ≡ 0) × (last_type ≡ t)
 stays-there t key _ _ _ (is-there _ _) = (refl, refl)
@@ -248,7 +251,7 @@ bounds =
       not_idle = λ stored all. let a = all (record { number = first_worker; table = first_table; task = of_item nothing_written; steps = 5; answer = None }) (0, refl) in omega arith;
       unfolds = unfolds-bare;
       not_missing = not-missing;
-      too_deep = (129, 1, 1, referring 1, ring-down 129, refl, inl (omega arith));
+      too_deep = ring-deep;
       not_too_deep = not-too-deep;
       loads = loads-bounded;
       not_longer = λ key all. let a = all (load_after key 2) 0 0 (0, refl) (1, refl, unfolds-bare key) in omega arith;

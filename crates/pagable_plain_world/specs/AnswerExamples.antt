@@ -12,15 +12,15 @@ use Rattle.pagable_world.specs.Whole.{Whole}
 use Rattle.pagable_world.specs.LoadSteps.{IsOwnCause, LoadFails}
 use Rattle.pagable_world.specs.WorkerSteps.{IsOfWriting}
 use Rattle.pagable_world.specs.Bounds.{LoadsAreBounded}
-use Rattle.pagable_world.specs.Premises.{ReadsItsTypes, HoldsSettled, ReadsSettled, AsksWell}
+use Rattle.pagable_world.specs.Premises.{ReadsItsTypes, ReadsAsHandle, HoldsSettled, ReadsSettled, AsksWell}
 use Rattle.pagable_world.specs.Interleaved.{RefusesFormless, ReadIsRight, ReadGives, AnswerLeavesAll, PublishIsKey, AnswerIsKey}
 use Rattle.pagable_world.specs.Alone.{DeepIsRefused}
 use Rattle.pagable_world.specs.Results.{IsOverResults}
-use Rattle.pagable_plain_world.specs.Samples.{new_pages, lone, first, all_of, none_of, dropped}
+use Rattle.pagable_plain_world.specs.Samples.{new_pages, lone, first, all_of, none_of, only_of, dropped}
 use Rattle.pagable_plain_world.specs.SampleSeen.{sample, sample_types, bare, referring, reading, one_reference, claiming}
 use Rattle.pagable_plain_world.specs.SampleRuns.{unsettled, lone_pages, empty_trees}
 use Rattle.pagable_plain_world.specs.SampleTurns.{faulty_load, pages_of, load_event, wait_event, fail_reply}
-use Rattle.pagable_plain_world.specs.SampleAnswers.{nothing_reference, paged, nothing_trees, deep_trees, read_reply, answer_reply, publish_reply, referring_steps, run_types, choosy, write_reply, nothing_pages}
+use Rattle.pagable_plain_world.specs.SampleAnswers.{nothing_reference, paged, nothing_trees, deep_trees, read_reply, answer_reply, publish_reply, referring_steps, run_types, choosy, write_reply, nothing_pages, two_stored, nothing_row, ringing, ring_paged}
 
 -- What a load of a key answers is what its blob reads as, with the reference in it.
 pub record ReadExamples : Type 0 where
@@ -42,6 +42,7 @@ pub record PageOutExamples : Type 0 where
   pub answers : (stored : ℕ → Option Blob) → AnswerIsKey sample (new_pages stored) (nothing_trees (paged stored (digest sample bare))) wait_event (answer_reply (digest sample bare)) (new_pages stored) (empty_trees stored)
   pub not_other : (stored : ℕ → Option Blob) (key : ℕ) → key ≢ digest sample bare → ¬ AnswerIsKey sample (new_pages stored) (nothing_trees (paged stored key)) wait_event (answer_reply key) (new_pages stored) (empty_trees stored)
   pub deep : (stored : ℕ → Option Blob) → DeepIsRefused sample (new_pages stored) (deep_trees (claiming stored)) wait_event fail_reply (new_pages stored) (empty_trees stored)
+  pub deep_reading : DeepIsRefused ringing (new_pages none_of) (nothing_trees ring_paged) wait_event fail_reply (new_pages none_of) (empty_trees none_of)
   pub own : (w w' : Whole) → IsOwnCause choosy 0 w errors.RegexRefused w'
   pub not_own : (w w' : Whole) → ¬ IsOwnCause sample 0 w errors.RegexRefused w'
   pub of_writing : (w w' : Whole) → IsOfWriting choosy 0 w errors.Unregistered w'
@@ -51,7 +52,8 @@ pub record PageOutExamples : Type 0 where
   pub over_results : IsOverResults sample [] (nothing_reference ∷ []) (digest sample bare)
   pub not_formless : (key : ℕ) → ¬ IsOverResults sample [] (one_reference ∷ []) key
 
--- Types that are read, keys that read as the type, and values in memory that mean one thing each.
+-- Types that are read, keys that read as the type, values in memory that mean one thing each, and another key of a cell that is
+-- away, which reads as its tree and not as others that the first one reads as.
 pub record PremiseExamples : Type 0 where
   pub types : ReadsItsTypes sample_types
   pub not_unread : ¬ ReadsItsTypes run_types
@@ -60,3 +62,5 @@ pub record PremiseExamples : Type 0 where
   pub held : (stored : ℕ → Option Blob) → HoldsSettled sample (lone_pages stored)
   pub not_held : (stored : ℕ → Option Blob) → ¬ HoldsSettled unsettled (lone_pages stored)
   pub not_read : (x : ℕ) → ¬ ReadsSettled unsettled (read_reply x)
+  pub alike : ReadsAsHandle sample (pages_of (paged two_stored 1)) nothing_row 2
+  pub not_alike : ¬ ReadsAsHandle sample (pages_of (paged (only_of 1 bare) 1)) nothing_row 2

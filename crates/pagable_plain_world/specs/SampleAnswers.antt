@@ -1,5 +1,5 @@
 -- Small worlds in which loads and workers answer, and what they answer.
-use Rattle.std.specs.Prelude.{ℕ, zero, suc, ◌≡◌, [], ◌∷◌, Option, Some, None, Ok, Err}
+use Rattle.std.specs.Prelude.{ℕ, zero, suc, ◌≡◌, ◌==◌, if◌then◌else◌, [], ◌∷◌, Option, Some, None, Ok, Err}
 use Rattle.pagable_model.specs.declared.error.Error.{Error}
 use Rattle.pagable_model.specs.declared.error.Error.TheVariants as errors
 use Rattle.pagable_model.specs.declared.data_key.OptionalDataKey.TheVariants as optional
@@ -10,17 +10,21 @@ use Rattle.pagable_model.specs.Deep.{longest_path}
 use Rattle.pagable_model.specs.Meaning.{Meaning, none, followed}
 use Rattle.pagable_model.specs.Shape as shapes
 use Rattle.pagable_model.specs.Trees.{Types, tree}
+use Rattle.pagable_world.specs.declared.rows.Mode.TheVariants as modes
+use Rattle.pagable_world.specs.declared.rows.Owner.TheVariants as owners
+use Rattle.pagable_world.specs.declared.rows.HandleRow.{HandleRow}
 use Rattle.pagable_world.specs.declared.events.LoadAnswer.TheVariants as ends
 use Rattle.pagable_world.specs.declared.events.Took.TheVariants as took
 use Rattle.pagable_world.specs.declared.events.WorkerAnswer.TheVariants as finals
 use Rattle.pagable_world.specs.declared.events.EventReply.{EventReply}
 use Rattle.pagable_world.specs.declared.events.EventReply.TheVariants as answers
 use Rattle.pagable_world.specs.Whole.{Whole, Written, WorkerRow, SlotRow, published}
+use Rattle.pagable_world.specs.Handles.{row_of}
 use Rattle.pagable_world.specs.Seen.{Seen}
 use Rattle.pagable_world.specs.Pages.{Pages}
 use Rattle.pagable_world.specs.Stands.{TreeWorld}
 use Rattle.pagable_plain_world.specs.Samples.{lone, first, first_node, all_of}
-use Rattle.pagable_plain_world.specs.SampleSeen.{sample, referring, reading, first_table, first_worker, first_identity, nothing_written, item_worker}
+use Rattle.pagable_plain_world.specs.SampleSeen.{sample, ring_types, bare, referring, reading, first_table, first_worker, first_identity, nothing_written, item_worker}
 use Rattle.pagable_plain_world.specs.SampleParts.{referring_load}
 
 -- a loose reference to a cell of the type 1, and an item of it
@@ -87,3 +91,17 @@ write_reply e = answers.WorkerMoved (Ok (record { took = took.Write first_identi
 
 abbrev pub nothing_pages : (ℕ → Option Blob) → Pages ℕ
 nothing_pages stored = record { world = lone stored; counts = (1, 1) ∷ []; values = (1, 1) ∷ [] }
+
+-- a key that reads as a value of every type, and keys that read as one of each type but 0; the cell of the type 1 has the first
+abbrev pub two_stored : ℕ → Option Blob
+two_stored q = if q == 1 then Some (referring 2) else Some bare
+
+abbrev pub nothing_row : HandleRow
+nothing_row = row_of 1 first_node modes.LoosePinned owners.Caller
+
+-- a worker whose item refers to a cell that is away, under a key of a ring
+abbrev pub ringing : Seen ℕ Blob Written
+ringing = record sample { types = ring_types }
+
+abbrev pub ring_paged : Whole
+ring_paged = record (paged (all_of (referring 1)) 1) { rows = row_of 1 first_node modes.LooseUnpinned owners.Caller ∷ []; workers = item_worker paged_item ∷ []; slots = [] }
