@@ -12,12 +12,12 @@ use Rattle.pagable_model.specs.Shape.{unsigned, nested}
 use Rattle.pagable_model.specs.Form.{ok-form, err-form, both-form}
 use Rattle.pagable_model.specs.Reading.{Rest, deepest, read, read_with, bytes_of}
 use Rattle.pagable_model.specs.Standing.{Answer, Gave, Is, handles_at}
-use Rattle.pagable_model.specs.Writing.{Out, Nesting, FormAt, nesting, WritesSome, added, NoForm, Refused}
+use Rattle.pagable_model.specs.Writing.{Out, Nesting, nesting, WritesSome, added, NoForm, Refused}
 use Rattle.pagable_codec.proofs.Writing.{grows_refl, grows_trans, grows_some, grows_same, then, refused_memory}
 use Rattle.pagable_codec.proofs.Adding.{grows_added_bytes}
 use Rattle.pagable_codec.proofs.Reading.{moves_trans, moves_refl}
 use Rattle.pagable_examples.proofs.Levels.{writes-down, refused-down, refused-deep, only-deep, reads-deep, reads-down}
-use Rattle.pagable_examples.specs.declared.expression.Expression.{Expression, Number, Sum'}
+use Rattle.pagable_examples.specs.declared.expression.Expression.{Expression, Number}
 use Rattle.pagable_examples.specs.Expressions.{node, nodes, of_expression}
 
 -- ---- one level down

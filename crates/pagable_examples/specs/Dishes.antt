@@ -1,5 +1,5 @@
 -- What a dish means: its name and its weight, one after the other.
-use Rattle.std.specs.Prelude.{◌≡◌, refl}
+use Rattle.std.specs.Prelude.{refl}
 use Rattle.std.specs.String.{string_bytes}
 use Rattle.pagable_model.specs.declared.numbers.ArcRef.{ArcRef}
 use Rattle.pagable_model.specs.Lifted.{MeansPair}

@@ -1,6 +1,6 @@
 -- What the nodes of a menu hold, mean and refer to.
 use Rattle.std.proofs.Common.{arith, subst}
-use Rattle.std.specs.Prelude.{◌≡◌, ◌≢◌, ◌<◌, ◌^◌, refl, true, ℕ, zero, suc, Option, Some, None, List, []}
+use Rattle.std.specs.Prelude.{◌≡◌, ◌≢◌, ◌<◌, ◌^◌, refl, true, ℕ, zero, suc, Option, Some, None, []}
 use Rattle.std.specs.Arc.{arc_value}
 use Rattle.pagable_model.specs.declared.error.Error.{Error}
 use Rattle.pagable_model.specs.declared.numbers.ArcRef.{ArcRef}
@@ -11,11 +11,10 @@ use Rattle.pagable_model.specs.Meaning.{Meaning, number}
 use Rattle.pagable_model.specs.References.{references_in, SameReferences}
 use Rattle.pagable_model.specs.Shape.{Shape, both, text, unsigned, optional}
 use Rattle.pagable_model.specs.Standing.{Is, SomeMeaning}
-use Rattle.pagable_model.specs.Lifted.{MeansPair, MeansOption, means-none, means-some}
+use Rattle.pagable_model.specs.Lifted.{MeansOption, means-none, means-some}
 use Rattle.std.specs.Int.{w16}
 use Rattle.pagable_examples.specs.declared.dish.Dish.{Dish}
 use Rattle.pagable_examples.specs.declared.portion.Portion.{Portion}
-use Rattle.pagable_examples.specs.declared.portion.Portion.TheVariants as portions
 use Rattle.pagable_examples.specs.declared.menu.MenuNode.{MenuNode}
 use Rattle.pagable_examples.specs.declared.menu.MenuNode.TheVariants as nodes
 use Rattle.pagable_examples.specs.Dishes.{dish_means, dish_has_meaning}

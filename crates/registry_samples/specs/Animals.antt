@@ -1,5 +1,5 @@
 -- The tags of animals, and what stands under each.
-use Rattle.std.specs.Prelude.{◌≡◌, refl, ℕ, List, [], ◌∷◌, cond}
+use Rattle.std.specs.Prelude.{refl, ℕ, List, [], ◌∷◌, cond}
 use Rattle.std.specs.Int.{w8}
 use Rattle.std.specs.Str.{bytes_eq}
 use Rattle.pagable_model.specs.declared.numbers.ArcRef.{ArcRef}
