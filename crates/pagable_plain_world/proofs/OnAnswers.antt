@@ -372,10 +372,10 @@ not-alike : ¬ ReadsAsHandle sample (pages_of (paged (only_of 1 bare) 1)) nothin
 not-alike all =
     let its_cell : Cell = record { number = 1; node_type = 1; key = optional.Some 1 } in
     let fits : KeyFits sample (pages_of (paged (only_of 1 bare) 1)) first_node (tree 1 none) = λ key is.
-        let there : is.0.key ≡ optional.Some 1 = ap (λ c. c.key) (the-one _ is.0 is.1.0) in
-        let named = is.2 in
-        let one_is : key ≡ 1 = cc in
-        subst (λ k. ReadsTree (only_of 1 bare) sample_types k (tree 1 none)) (sym one_is) first-alone in
+    let there : is.0.key ≡ optional.Some 1 = ap (λ c. c.key) (the-one _ is.0 is.1.0) in
+    let named = is.2 in
+    let one_is : key ≡ 1 = cc in
+    subst (λ k. ReadsTree (only_of 1 bare) sample_types k (tree 1 none)) (sym one_is) first-alone in
     let r = all (tree 1 none) (its_cell, ((0, refl), refl), refl) (away first_node 1 (tree 1 none) refl (its_cell, ((0, refl), refl), refl) fits) in
     let e = r.reads.stored in
     absurd (cc)

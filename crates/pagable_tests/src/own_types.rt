@@ -89,12 +89,7 @@ fn an_enum_is_its_case_and_its_part(rt: HostRuntime) -> Result<(), Fail> {
 }
 
 /// The node at the front of these bytes, of the type of this number.
-fn read_node(
-    alloc: Global,
-    env: &Card,
-    node_type: u32,
-    bytes: &[u8],
-) -> Result<MenuNode, Error> {
+fn read_node(alloc: Global, env: &Card, node_type: u32, bytes: &[u8]) -> Result<MenuNode, Error> {
     let session = SessionContext::new(alloc);
     let mut source = PagableDeserializerImpl::new(bytes, &[], NoReferences::new(env, &session));
     NodeSet::<Card>::read(node_type, alloc, &mut source)
@@ -113,11 +108,17 @@ fn a_node_holds_a_value_of_its_type(rt: HostRuntime) -> Result<(), Fail> {
     equal(&rt, node.write(&mut out), Ok(()), "written");
     let data = out.finish().ok().ok_or("not finished")?;
     equal(&rt, data.bytes.as_slice(), b"\x01\xac\x02", "bytes");
-    let again = read_node(alloc, &env, 1, data.bytes.as_slice()).ok().ok_or("not read")?;
-    let portion = <Portion as InNode<Card>>::from_node(alloc, &again).ok().flatten();
+    let again = read_node(alloc, &env, 1, data.bytes.as_slice())
+        .ok()
+        .ok_or("not read")?;
+    let portion = <Portion as InNode<Card>>::from_node(alloc, &again)
+        .ok()
+        .flatten();
     let portion = portion.ok_or("another type")?;
     equal(&rt, portion.as_ref(), &Portion::Part(300), "value");
-    let dish = <Dish as InNode<Card>>::from_node(alloc, &again).ok().ok_or("memory")?;
+    let dish = <Dish as InNode<Card>>::from_node(alloc, &again)
+        .ok()
+        .ok_or("memory")?;
     equal(&rt, dish.is_none(), true, "no dish");
     let unknown = read_node(alloc, &env, 2, b"\x00").err();
     equal(&rt, unknown, Some(Error::WrongKind), "no such type");

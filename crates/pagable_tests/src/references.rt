@@ -9,9 +9,9 @@ ghost use Rattle.pagable_model.specs.Causes.{memory_may_refuse_writing, never_is
 
 use crate::equal::equal;
 use pagable::{
-    ArcRef, Carried, DataKey, Env, Error, HandleNumber, Kind, NoReferences, NodeNumber, PagableDeserialize,
-    PagableDeserializer, PagableDeserializerImpl, PagableSerialize, PagableSerializer,
-    PagableSerializerImpl, References, SessionContext, WeighHash,
+    ArcRef, Carried, DataKey, Env, Error, HandleNumber, Kind, NoReferences, NodeNumber,
+    PagableDeserialize, PagableDeserializer, PagableDeserializerImpl, PagableSerialize,
+    PagableSerializer, PagableSerializerImpl, References, SessionContext, WeighHash,
 };
 use std::alloc::Global;
 use std::test::Fail;

@@ -14,8 +14,7 @@ use std::alloc::Global;
 use std::sync::Arc;
 
 /// A value type of an environment. It is read without borrowing from the input, so at `'static`.
-pub trait InNode<E: Env>:
-    Carried<E> + PagableSerialize<E> + PagableDeserialize<'static, E> + Sized
+pub trait InNode<E: Env>: Carried<E> + PagableSerialize<E> + PagableDeserialize<'static, E> + Sized
 where
     E::Node: NodeSet<E>,
 {
