@@ -58,11 +58,9 @@ is_own_reading errors.OutOfMemory = true
 is_own_reading (errors.Custom text) = true
 is_own_reading _ = false
 
--- Those by which a reference may be refused: what the pager and the storage say of its key, and what its own blob's reading says.
--- That no key is left only the deserializer tells; that a value isn't registered only a writer; that a key is taken, or a storage
--- closed, only who stores.
+-- Those by which a reference may be refused: what the pager and the storage say of its key, and what the reading of its own blob
+-- says. That a value isn't registered only a writer tells; that a key is taken, or a storage closed, only who stores.
 abbrev pub may_refuse_reference : Error → Bool
-may_refuse_reference errors.NoMoreKeys = false
 may_refuse_reference errors.Unregistered = false
 may_refuse_reference errors.KeyTaken = false
 may_refuse_reference errors.Closed = false
