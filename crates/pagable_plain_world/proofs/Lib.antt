@@ -41,4 +41,5 @@ mod OnWholeRuns
 mod OnIdentities
 mod OnEntries
 mod OnItems
+mod OnFailures
 mod Telling

@@ -1,5 +1,5 @@
 -- The whole page-out of a listed cell, step by step.
-use Rattle.std.proofs.Common.{ℕ, Bool, true, [], ◌∷◌, refl, inl, inr, arith}
+use Rattle.std.proofs.Common.{ℕ, Bool, true, List, [], ◌∷◌, refl, inl, inr, arith}
 use Rattle.std.specs.Prelude.{Some, None, Ok}
 use Rattle.std.proofs.lemmas.Bool.Decides.{nat_tests}
 use Rattle.pagable_model.specs.declared.data_key.OptionalDataKey.{OptionalDataKey}
@@ -18,7 +18,8 @@ use Rattle.pagable_world.specs.Whole.{Whole, Written, SlotRow, no_result, publis
 use Rattle.pagable_world.specs.Falls.{Falls, MustList, nobody}
 use Rattle.pagable_world.specs.Handles.{row_of, with_key}
 use Rattle.pagable_world.specs.WorkerSteps.{is_workers_at, WorkerStepped}
-use Rattle.pagable_world.specs.Over.{WorkerRun, worker-ends, worker-goes-on, EntryRun, no-more, pages}
+use Rattle.pagable_world.specs.Order.{no-wait, at-once, Walk, does, no-walk}
+use Rattle.pagable_world.specs.Over.{WorkerRun, worker-ends, worker-goes-on, WholeWork, EntryRun, no-more, pages}
 use Rattle.pagable_plain_world.specs.Samples.{none_of, second, first_node}
 use Rattle.pagable_plain_world.specs.SampleSeen.{sample, bare, first_table, first_worker, nothing_written}
 use Rattle.pagable_plain_world.specs.SampleParts.{third}
@@ -263,15 +264,39 @@ releases-it = (
   refl,
 )
 
-runs : WorkerRun sample first_worker started (finals.Key bare_key) entry_done
+-- its steps, from the write on
+abbrev later_steps : List (Took Written)
+later_steps = took.Store (Some nothing_identity) (Ok bare_key) ∷ took.SetKey nothing_identity (Ok tt) ∷ took.Publish nothing_identity bare_key 0 ∷ took.Release nothing_identity ∷ []
+
+abbrev entry_pin : Took Written
+entry_pin = took.Pin nothing_identity (Ok (pinsteps.Held (record { 0 = 4 })))
+
+abbrev entry_steps : List (Took Written)
+entry_steps = took.Claim nothing_identity (Ok claims.Claimed) ∷ entry_pin ∷ took.Write nothing_identity (Ok nothing_written) ∷ later_steps
+
+runs : WorkerRun sample first_worker started entry_steps (finals.Key bare_key) entry_done
 runs =
-    worker-goes-on _ _ _ (step (took.Claim nothing_identity (Ok claims.Claimed)) 1) _ claims-it refl
-    (worker-goes-on _ _ _ (step (took.Pin nothing_identity (Ok (pinsteps.Held (record { 0 = 4 })))) 2) _ pins-it refl
-    (worker-goes-on _ _ _ (step (took.Write nothing_identity (Ok nothing_written)) 3) _ writes-it refl
-    (worker-goes-on _ _ _ (step (took.Store (Some nothing_identity) (Ok bare_key)) 4) _ stores-it refl
-    (worker-goes-on _ _ _ (step (took.SetKey nothing_identity (Ok tt)) 5) _ keys-it refl
-    (worker-goes-on _ _ _ (step (took.Publish nothing_identity bare_key 0) 6) _ publishes-it refl
-    (worker-ends _ _ last_reply _ releases-it refl))))))
+    worker-goes-on _ _ _ (step (took.Claim nothing_identity (Ok claims.Claimed)) 1) _ _ _ claims-it refl
+    (worker-goes-on _ _ _ (step entry_pin 2) _ _ _ pins-it refl
+    (worker-goes-on _ _ _ (step (took.Write nothing_identity (Ok nothing_written)) 3) _ _ _ writes-it refl
+    (worker-goes-on _ _ _ (step (took.Store (Some nothing_identity) (Ok bare_key)) 4) _ _ _ stores-it refl
+    (worker-goes-on _ _ _ (step (took.SetKey nothing_identity (Ok tt)) 5) _ _ _ keys-it refl
+    (worker-goes-on _ _ _ (step (took.Publish nothing_identity bare_key 0) 6) _ _ _ publishes-it refl
+    (worker-ends _ _ last_reply _ _ releases-it refl refl) refl) refl) refl) refl) refl) refl
+
+walks-it : Walk sample entry_reference entry_steps
+walks-it = does entry_reference nothing_identity bare_key bare_key 0 nothing_written [] (entry_pin ∷ []) [] entry_steps refl no-wait (at-once (record { 0 = 4 })) no-walk refl
+
+works : WholeWork sample first_worker started (finals.Key bare_key) entry_done
+works =
+    record {
+      worker = entry_worker 0 None;
+      steps = entry_steps;
+      starts = ((0, refl), refl);
+      run = runs;
+      order = inl (entry_steps, [], (entry_reference, entry_steps, refl, walks-it, inl refl), refl);
+      met = tt;
+    }
 
 entry-run : EntryRun sample listed_nothing 0 (finals.Key bare_key) entry_done
 entry-run =
@@ -282,7 +307,7 @@ entry-run =
       started,
       (refl, refl),
       (second, 1, (omega arith, omega arith), refl, refl, omega arith, (row_of 2 first_node modes.LooseUnpinned owners.List, ((1, refl), refl), ((bare_cell optional.None, ((0, refl), refl), refl), refl))),
-      runs,
+      works,
     ))
 
 pub entries : EntryExamples

@@ -33,9 +33,9 @@ use Rattle.pagable_world.specs.Handles.{row_of, with_handle, with_mode, ReleaseC
 use Rattle.pagable_world.specs.LoadSteps.{root_frame, LoadDoes, LoadGoesOn, GetsRoot, LoadStepped}
 use Rattle.pagable_world.specs.Order.{no-wait, more-waits, PinsFirst, at-once, by-load, Walk, finds, does, Walks, no-walk, more-walks}
 use Rattle.pagable_world.specs.Pages.{Pages}
-use Rattle.pagable_world.specs.Over.{LoadRun, load-ends, load-goes-on, PinTakenBack, ReadsOver, PagesOutItemOver, EntryRun, ListRun, no-more, skips, pages, fails, PagesOutListOver}
+use Rattle.pagable_world.specs.Over.{LoadRun, load-ends, load-goes-on, PinTakenBack, ReadsOver, WholeWork, PagesOutItemOver, EntryRun, ListRun, no-more, skips, pages, fails, PagesOutListOver}
 use Rattle.pagable_plain_world.specs.Samples.{empty, new_pages, lone, away, scheduled, pinned, first, second, first_node, first_load, none_of, all_of, only_of, dropped}
-use Rattle.pagable_plain_world.specs.SampleSeen.{sample, bare, reading, first_table, first_worker, first_identity, nothing_written, one_reference, tabled, working, answered}
+use Rattle.pagable_plain_world.specs.SampleSeen.{sample, bare, reading, first_table, first_worker, first_identity, nothing_written, one_reference, item_worker, tabled, working, answered}
 use Rattle.pagable_plain_world.specs.SampleTurns.{pages_of}
 use Rattle.pagable_plain_world.specs.WholeRunExamples.{unread_load, unread, taken_back, unpinned_too, unlisted, last_steps, walk_with, WholeRunExamples}
 use Rattle.pagable_plain_world.proofs.Alone.{given-least}
@@ -163,6 +163,17 @@ not-missing key x s' (mid, w', l, (kk, next, same), run, parts) =
 
 -- ---- page-outs
 
+item-work : WholeWork sample first_worker (working none_of (of_item nothing_written)) (finals.Key (digest sample bare)) (answered (digest sample bare))
+item-work =
+    record {
+      worker = item_worker nothing_written;
+      steps = took.Store None (Ok (digest sample bare)) ∷ [];
+      starts = ((0, refl), refl);
+      run = turns.run;
+      order = inl (took.Store None (Ok (digest sample bare)) ∷ [], [], ([], digest sample bare, no-walk, refl), refl);
+      met = tt;
+    }
+
 item-over : PagesOutItemOver sample (pages_of (tabled none_of)) first_table nothing_written (finals.Key (digest sample bare)) (pages_of (tabled (only_of (digest sample bare) bare))) first_table
 item-over = (
   answered (digest sample bare),
@@ -173,11 +184,11 @@ item-over = (
     ended = λ i slot has without. unclaimed (answered (digest sample bare)) i slot refl has;
     ended_too = λ i slot has without. unclaimed (tabled (only_of (digest sample bare) bare)) i slot refl has;
   },
-  inl (working none_of (of_item nothing_written), first_worker, starts.item none_of, turns.run),
+  inl (working none_of (of_item nothing_written), first_worker, starts.item none_of, item-work),
 )
 
 not-on-none : (stored : ℕ → Option Blob) (key : ℕ) (s' : Pages ℕ) (t' : TableNumber) → ¬ PagesOutItemOver sample (new_pages stored) first_table nothing_written (finals.Key key) s' t'
-not-on-none stored key s' t' (w', parts, results, inl (mid, v, started, run)) = let a = started.0.1 in absurd (omega arith)
+not-on-none stored key s' t' (w', parts, results, inl (mid, v, started, work)) = let a = started.0.1 in absurd (omega arith)
 not-on-none stored key s' t' (w', parts, results, inr (e, refused, is)) = absurd (cc)
 
 not-past : (stored : ℕ → Option Blob) (key : ℕ) (w' : Whole) → ¬ EntryRun sample (empty stored) 0 (finals.Key key) w'

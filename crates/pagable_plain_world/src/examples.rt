@@ -13,7 +13,7 @@ ghost use Rattle.pagable_plain_world.specs.HeadlineExamples.{HeadlineExamples};
 ghost use Rattle.pagable_plain_world.specs.WholeRunExamples.{WholeRunExamples};
 ghost use Rattle.pagable_plain_world.specs.IdentityExamples.{IdentityExamples};
 ghost use Rattle.pagable_plain_world.specs.EntryExamples.{EntryExamples};
-ghost use Rattle.pagable_plain_world.specs.ItemExamples.{ItemIsStored};
+ghost use Rattle.pagable_plain_world.specs.ItemExamples.{ItemIsStored, FailureExamples};
 ghost use Rattle.pagable_plain_world.specs.PartExamples.{LoadPartExamples, WorkerPartExamples};
 
 /// The calls on handles and nodes.
@@ -100,7 +100,8 @@ pub fn entries()
     ensures { EntryExamples }
 {}
 
-/// A page-out of an item that answers a key and stores nothing.
+/// Page-outs that answer a key and store nothing, or fail at will.
 pub fn items()
-    ensures { ItemIsStored }
+    ensures stored { ItemIsStored }
+    ensures failures { FailureExamples }
 {}

@@ -1,6 +1,6 @@
 -- Whole operations over an access that tells its state: each is a run that has alone, up to its end, this pin, this reading or
 -- this page-out, and its answer is what the run's last step answered.
-use Rattle.std.specs.Prelude.{ℕ, ◌≡◌, ◌≢◌, ◌+◌, ◌⊎◌, ◌↔◌, Some, None, length, Result, Ok, Err, slice_get}
+use Rattle.std.specs.Prelude.{ℕ, ◌≡◌, ◌≢◌, ◌+◌, ◌⊎◌, ◌↔◌, List, [], ◌∷◌, Some, None, length, Result, Ok, Err, slice_get}
 use Rattle.pagable_model.specs.declared.error.Error.{Error}
 use Rattle.pagable_model.specs.declared.error.Error.TheVariants as errors
 use Rattle.pagable_model.specs.declared.data_key.OptionalDataKey.{OptionalDataKey}
@@ -20,16 +20,19 @@ use Rattle.pagable_world.specs.declared.events.TableNumber.{TableNumber}
 use Rattle.pagable_world.specs.declared.events.LoadAnswer.{LoadAnswer}
 use Rattle.pagable_world.specs.declared.events.LoadAnswer.TheVariants as ends
 use Rattle.pagable_world.specs.declared.events.LoadReply.{LoadReply}
+use Rattle.pagable_world.specs.declared.events.Took.{Took}
 use Rattle.pagable_world.specs.declared.events.WorkerAnswer.{WorkerAnswer}
 use Rattle.pagable_world.specs.declared.events.WorkerAnswer.TheVariants as finals
 use Rattle.pagable_world.specs.declared.events.WorkerReply.{WorkerReply}
-use Rattle.pagable_world.specs.Whole.{Whole, SlotRow, Written, no_result, failed, of_item, of_type, HasRowOf, HasSlot, KeyIs}
+use Rattle.pagable_world.specs.Whole.{Whole, WorkerRow, SlotRow, Written, no_result, failed, of_item, of_type, HasRowOf, HasWorker, HasSlot, KeyIs}
 use Rattle.pagable_world.specs.Seen.{Seen}
 use Rattle.pagable_world.specs.Pages.{Pages, HasValue}
 use Rattle.pagable_world.specs.Handles.{PinCall, UnpinCall, ReleaseCall, TakeCall}
 use Rattle.pagable_world.specs.Loads.{BeginCall, BeginKeyCall}
 use Rattle.pagable_world.specs.LoadSteps.{LoadStepped}
 use Rattle.pagable_world.specs.WorkerSteps.{WorkerStepped, IsPublished}
+use Rattle.pagable_world.specs.Order.{InOrder}
+use Rattle.pagable_world.specs.Interleaved.{IsMetFailure}
 use Rattle.pagable_world.specs.Events.{Tabled, StartedItem, StartedListed}
 
 -- a load's steps up to its end, which is this
@@ -37,10 +40,20 @@ pub data LoadRun {N B W : Type 0} (m : Seen N B W) (l : LoadNumber) : Whole → 
   load-ends : (w w' : Whole) (reply : LoadReply N) (answer : LoadAnswer N) → LoadStepped m w l (Ok reply) w' → reply.ended ≡ Some answer → LoadRun m l w answer w'
   load-goes-on : (w mid w' : Whole) (reply : LoadReply N) (answer : LoadAnswer N) → LoadStepped m w l (Ok reply) mid → reply.ended ≡ None → LoadRun m l mid answer w' → LoadRun m l w answer w'
 
--- a worker's steps up to its answer
-pub data WorkerRun {N B W : Type 0} (m : Seen N B W) (v : WorkerNumber) : Whole → WorkerAnswer → Whole → Type 0 where
-  worker-ends : (w w' : Whole) (reply : WorkerReply W) (answer : WorkerAnswer) → WorkerStepped m w v (Ok reply) w' → reply.answer ≡ Some answer → WorkerRun m v w answer w'
-  worker-goes-on : (w mid w' : Whole) (reply : WorkerReply W) (answer : WorkerAnswer) → WorkerStepped m w v (Ok reply) mid → reply.answer ≡ None → WorkerRun m v mid answer w' → WorkerRun m v w answer w'
+-- a worker's steps up to its answer, and which they are
+pub data WorkerRun {N B W : Type 0} (m : Seen N B W) (v : WorkerNumber) : Whole → List (Took W) → WorkerAnswer → Whole → Type 0 where
+  worker-ends : (w w' : Whole) (reply : WorkerReply W) (steps : List (Took W)) (answer : WorkerAnswer) → WorkerStepped m w v (Ok reply) w' → reply.answer ≡ Some answer → steps ≡ reply.took ∷ [] → WorkerRun m v w steps answer w'
+  worker-goes-on : (w mid w' : Whole) (reply : WorkerReply W) (rest steps : List (Took W)) (answer : WorkerAnswer) → WorkerStepped m w v (Ok reply) mid → reply.answer ≡ None → WorkerRun m v mid rest answer w' → steps ≡ reply.took ∷ rest → WorkerRun m v w steps answer w'
+
+-- All that a worker does from its start on: its steps are in order, and a failure is one that a step of its own met, or another
+-- worker's where its walk came.
+pub record WholeWork {N B W : Type 0} (m : Seen N B W) (v : WorkerNumber) (w : Whole) (answer : WorkerAnswer) (w' : Whole) : Type 0 where
+  pub worker : WorkerRow
+  pub steps : List (Took W)
+  pub starts : HasWorker w v worker
+  pub run : WorkerRun m v w steps answer w'
+  pub order : InOrder m worker.task steps
+  pub met : IsMetFailure w' worker steps answer
 
 -- a pin: at once, or by a load up to its end
 abbrev pub PinRun : {N B W : Type 0} → Seen N B W → Whole → HandleNumber → Result HandleNumber Error → Whole → Type 0
@@ -112,7 +125,7 @@ PagesOutItemOver m s t written answer s' t' =
     (w' : Whole)
     × SameParts w' s'.world
     × SameResults w' t s'.world t'
-    × (((mid : Whole) × (v : WorkerNumber) × StartedItem s.world t (of_item written) (Ok v) mid × WorkerRun m v mid answer w')
+    × (((mid : Whole) × (v : WorkerNumber) × StartedItem s.world t (of_item written) (Ok v) mid × WholeWork m v mid answer w')
     ⊎ ((e : Error) × StartedItem s.world t (of_item written) (Err e) w' × (answer ≡ finals.Failed e)))
 
 -- the cell of the entry at this place has this key, or none
@@ -124,7 +137,7 @@ abbrev pub EntryRun : {N B W : Type 0} → Seen N B W → Whole → ℕ → Work
 EntryRun m w n answer w' =
     ((e : Error) × Tabled w (Err e) w' × (answer ≡ finals.Failed e))
     ⊎ ((t : TableNumber) × (mid : Whole) × (e : Error) × Tabled w (Ok t) mid × StartedListed mid t n (Err e) w' × (answer ≡ finals.Failed e))
-    ⊎ ((t : TableNumber) × (v : WorkerNumber) × (mid low : Whole) × Tabled w (Ok t) mid × StartedListed mid t n (Ok v) low × WorkerRun m v low answer w')
+    ⊎ ((t : TableNumber) × (v : WorkerNumber) × (mid low : Whole) × Tabled w (Ok t) mid × StartedListed mid t n (Ok v) low × WholeWork m v low answer w')
 
 -- A page-out of so many entries, from the last to the first: one whose cell has a key is taken and released, another is paged
 -- out, and the first failure is the end.
