@@ -317,6 +317,6 @@ entries =
       list = (
         entry_done,
         pages 1 0 second bare_key (Ok tt) listed_nothing entry_done entry_done refl (row_of 2 first_node modes.LooseUnpinned owners.List, refl, ((1, refl), refl), (bare_cell optional.None, ((0, refl), refl), refl)) entry-run (no-more entry_done),
-        record { rows = refl; cells = refl; list = refl; cache = refl; stored = λ k. refl },
+        record { rows = refl; cells = refl; list = refl; cache = refl; stored = λ k. refl; closed = refl; failures = refl; refusals = refl; loads = refl; last = (refl, refl, refl) },
       );
     }

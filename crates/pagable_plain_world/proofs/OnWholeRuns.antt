@@ -131,7 +131,7 @@ root-got key = (
   refl,
 )
 
-reads-over : (key : ℕ) → ReadsOver sample (new_pages (all_of bare)) key 1 (Ok 1) (new_pages (all_of bare))
+reads-over : (key : ℕ) → ReadsOver sample (new_pages (all_of bare)) key 1 (Ok 1) (pages_of (dropped (all_of bare) key))
 reads-over key = (
   unread (all_of bare) key,
   dropped (all_of bare) key,
@@ -139,7 +139,7 @@ reads-over key = (
   (refl, (refl, omega arith), refl),
   load-goes-on (unread (all_of bare) key) (reading (all_of bare) key 1 bare) (dropped (all_of bare) key) (record { ended = None; steps = 1 }) (ends.Read 1) (root-got key) refl
       (load-ends (reading (all_of bare) key 1 bare) (dropped (all_of bare) key) (record { ended = Some (ends.Read 1); steps = 2 }) (ends.Read 1) (answers-it (all_of bare) key) refl),
-  record { rows = refl; cells = refl; list = refl; cache = refl; stored = λ k. refl },
+  record { rows = refl; cells = refl; list = refl; cache = refl; stored = λ k. refl; closed = refl; failures = refl; refusals = refl; loads = refl; last = (refl, refl, refl) },
 )
 
 -- a load that has got nothing reads nothing where nothing is stored
@@ -177,7 +177,7 @@ item-work =
 item-over : PagesOutItemOver sample (pages_of (tabled none_of)) first_table nothing_written (finals.Key (digest sample bare)) (pages_of (tabled (only_of (digest sample bare) bare))) first_table
 item-over = (
   answered (digest sample bare),
-  record { rows = refl; cells = refl; list = refl; cache = refl; stored = λ k. refl },
+  record { rows = refl; cells = refl; list = refl; cache = refl; stored = λ k. refl; closed = refl; failures = refl; refusals = refl; loads = refl; last = (refl, refl, refl) },
   record {
     known = λ i key height. (λ p. absurd (not-published (answered (digest sample bare)) i key height refl p), λ p. absurd (not-published (tabled (only_of (digest sample bare) bare)) i key height refl p));
     failures = λ i. (λ p. absurd (not-failed (answered (digest sample bare)) i refl p), λ p. absurd (not-failed (tabled (only_of (digest sample bare) bare)) i refl p));
@@ -225,7 +225,7 @@ list-over stored key = (
   skips 1 0 first key (Ok tt) (Ok tt) (scheduled stored key) (away stored key) (unlisted stored key) (unlisted stored key) refl
       (row_of 1 first_node modes.LooseUnpinned owners.List, refl, ((0, refl), refl), (record { number = 1; node_type = 0; key = optional.Some key }, ((0, refl), refl), refl))
       (refl, refl) (entry-gone stored key) (no-more (unlisted stored key)),
-  record { rows = refl; cells = refl; list = refl; cache = refl; stored = λ k. refl },
+  record { rows = refl; cells = refl; list = refl; cache = refl; stored = λ k. refl; closed = refl; failures = refl; refusals = refl; loads = refl; last = (refl, refl, refl) },
 )
 
 none-left : (i : ℕ) (answer : Result (Unit {0}) WorkerAnswer) (w w' : Whole) → ListRun sample i answer w w' → i ≡ 0 → w' ≡ w

@@ -13,7 +13,7 @@ use Rattle.pagable_world.specs.Seen.{digest}
 use Rattle.pagable_world.specs.Order.{Walk}
 use Rattle.pagable_world.specs.Pages.{Pages}
 use Rattle.pagable_world.specs.Over.{PinTakenBack, ReadsOver, PagesOutItemOver, EntryRun, PagesOutListOver}
-use Rattle.pagable_plain_world.specs.Samples.{empty, new_pages, lone, lone_listed, lone_unlisted, scheduled, first, none_of, all_of, only_of, key_begun}
+use Rattle.pagable_plain_world.specs.Samples.{empty, new_pages, lone, lone_listed, lone_unlisted, scheduled, first, none_of, all_of, only_of, key_begun, dropped}
 use Rattle.pagable_plain_world.specs.SampleSeen.{sample, bare, first_table, first_identity, nothing_written, one_reference, tabled}
 use Rattle.pagable_plain_world.specs.SampleTurns.{load_of, pages_of}
 
@@ -47,7 +47,7 @@ walk_with rest = took.Claim first_identity (Ok claims.Claimed) ∷ took.Pin firs
 pub record WholeRunExamples : Type 0 where
   pub taken_back : (stored : ℕ → Option Blob) → PinTakenBack sample (lone stored) first (taken_back stored)
   pub not_unpinned : (stored : ℕ → Option Blob) → ¬ PinTakenBack sample (lone stored) first (unpinned_too stored)
-  pub reads : (key : ℕ) → ReadsOver sample (new_pages (all_of bare)) key 1 (Ok 1) (new_pages (all_of bare))
+  pub reads : (key : ℕ) → ReadsOver sample (new_pages (all_of bare)) key 1 (Ok 1) (pages_of (dropped (all_of bare) key))
   pub not_missing : (key x : ℕ) (s' : Pages ℕ) → ¬ ReadsOver sample (new_pages none_of) key 1 (Ok x) s'
   pub item : PagesOutItemOver sample (pages_of (tabled none_of)) first_table nothing_written (finals.Key (digest sample bare)) (pages_of (tabled (only_of (digest sample bare) bare))) first_table
   pub not_on_none : (stored : ℕ → Option Blob) (key : ℕ) (s' : Pages ℕ) (t' : TableNumber) → ¬ PagesOutItemOver sample (new_pages stored) first_table nothing_written (finals.Key key) s' t'

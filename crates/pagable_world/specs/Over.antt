@@ -26,6 +26,7 @@ use Rattle.pagable_world.specs.declared.events.WorkerAnswer.TheVariants as final
 use Rattle.pagable_world.specs.declared.events.WorkerReply.{WorkerReply}
 use Rattle.pagable_world.specs.Whole.{Whole, WorkerRow, SlotRow, Written, no_result, failed, of_item, of_type, HasRowOf, HasWorker, HasSlot, KeyIs}
 use Rattle.pagable_world.specs.Seen.{Seen}
+use Rattle.pagable_world.specs.Causes.{IsFull}
 use Rattle.pagable_world.specs.Pages.{Pages, HasValue}
 use Rattle.pagable_world.specs.Handles.{PinCall, UnpinCall, ReleaseCall, TakeCall}
 use Rattle.pagable_world.specs.Loads.{BeginCall, BeginKeyCall}
@@ -87,14 +88,20 @@ pub record SameResults (w : Whole) (t : TableNumber) (w' : Whole) (t' : TableNum
   pub ended : (i : Identity) (slot : SlotRow) → HasSlot w t i slot → slot.outcome ≢ no_result
   pub ended_too : (i : Identity) (slot : SlotRow) → HasSlot w' t' i slot → slot.outcome ≢ no_result
 
--- what an operation is said to leave: rows, cells, list, cache and store. Whoever lends a pager has no rows of workers, and
--- no counts of steps.
+-- What an operation is said to leave: rows, cells, list, cache, store and open loads, the last numbers of nodes, handles and
+-- loads, and how often the storage failed and a growth was refused. Whoever lends a pager has no rows of workers, and no counts of
+-- steps.
 pub record SameParts (w w' : Whole) : Type 0 where
   pub rows : w.rows ≡ w'.rows
   pub cells : w.cells ≡ w'.cells
   pub list : w.list ≡ w'.list
   pub cache : w.cache ≡ w'.cache
   pub stored : (key : ℕ) → w.stored key ≡ w'.stored key
+  pub closed : w.closed ≡ w'.closed
+  pub failures : w.failures ≡ w'.failures
+  pub refusals : w.refusals ≡ w'.refusals
+  pub loads : w.loads ≡ w'.loads
+  pub last : (w.last.node ≡ w'.last.node) × (w.last.handle ≡ w'.last.handle) × (w.last.load ≡ w'.last.load)
 
 -- the value of the handle's node is one that means the same
 abbrev pub IsValueOf : {N B W : Type 0} → Seen N B W → Pages N → HandleNumber → N → Type 0
@@ -104,7 +111,7 @@ IsValueOf {N} m s k x = (row : HandleRow) × (y : N) × HasRowOf s.world k row �
 -- To be carried by: `pin_over`.
 abbrev pub PinsOver : {N B W : Type 0} → Seen N B W → Pages N → HandleNumber → Result (HandleNumber × N) Error → Pages N → Type 0
 PinsOver m s h (Ok (k, x)) s' = (w' : Whole) × PinRun m s.world h (Ok k) w' × SameParts w' s'.world × IsValueOf m s' k x
-PinsOver m s h (Err e) s' = (w' : Whole) × SameParts w' s'.world × (PinRun m s.world h (Err e) w' ⊎ ((e ≡ errors.OutOfMemory) × PinTakenBack m s.world h w'))
+PinsOver m s h (Err e) s' = (w' : Whole) × SameParts w' s'.world × (PinRun m s.world h (Err e) w' ⊎ ((e ≡ errors.OutOfMemory) × IsFull s.world w' × PinTakenBack m s.world h w'))
 
 -- The answer of a reading of a key as a value of a type, and what it leaves.
 -- To be carried by: `read_over`.
