@@ -272,8 +272,7 @@ formless : (stored : ℕ → Option Blob) → HasFormlessValue sample (lone_page
 formless stored = (
   0,
   (0, refl),
-  λ shape is. let same : shape ≡ shapes.reference 5 = cc in
-      subst (λ s. NoFormOfSome (sample.means 0) (nesting 0 sample_types.parts) s) (sym same) (record { m = none; is = refl; no_form = no-form }),
+  (shapes.reference 5, refl, record { m = none; is = refl; no_form = no-form }),
 )
 
 refuses : (stored : ℕ → Option Blob) → RefusesFormless sample (lone_pages stored) (empty_trees stored) wait_event (write_reply errors.TooLong) (lone_pages stored) (empty_trees stored)
@@ -283,7 +282,9 @@ not-of-form : (stored : ℕ → Option Blob) → ¬ RefusesFormless sample (noth
 not-of-form stored all =
     let given = all first_identity errors.TooLong refl refl in
     let one_is : given.0 ≡ 1 = ap (λ v. v.1) (the-one _ (1, given.0) given.1) in
-    let none_has = given.2 shapes.nothing (subst (λ n. sample_types.nodes n ≡ Some shapes.nothing) (sym one_is) refl) in
+    let there : Some shapes.nothing ≡ Some given.2.0 = subst (λ n. sample_types.nodes n ≡ Some given.2.0) one_is given.2.1 in
+    let shape : given.2.0 ≡ shapes.nothing = cc in
+    let none_has = subst (NoFormOfSome (sample.means given.0) (nesting 0 sample_types.parts)) shape given.2.2 in
     none_has.no_form [] [] (subst (λ a. FormAt (nesting 0 sample_types.parts) shapes.nothing a [] []) (sym none_has.is) (nothing-form deepest))
 
 has-no-form : (x : ℕ) (bytes : List ℕ) (references : List ArcRef) → x ≡ 0 → HasForm sample x bytes references → ⊥
@@ -320,6 +321,7 @@ page-outs =
       not_of_writing = λ w w' cause. cause;
       refuses = refuses;
       not_of_form = not-of-form;
+      not_shapeless = λ stored all. let given = all first_identity errors.TooLong refl refl in let e = given.2.1 in absurd (cc);
       over_results = over-results;
       not_formless = not-formless;
     }
