@@ -1,9 +1,11 @@
 -- The whole page-out of a listed cell, step by step.
-use Rattle.std.proofs.Common.{ℕ, Bool, true, List, [], ◌∷◌, refl, inl, inr, arith}
-use Rattle.std.specs.Prelude.{Some, None, Ok}
+use Rattle.std.proofs.Common.{ℕ, zero, suc, Bool, true, List, [], ◌∷◌, refl, inl, inr, arith}
+use Rattle.std.specs.Prelude.{Some, None, Ok, Err}
 use Rattle.std.proofs.lemmas.Bool.Decides.{nat_tests}
+use Rattle.pagable_model.specs.declared.error.Error.{Error}
 use Rattle.pagable_model.specs.declared.data_key.OptionalDataKey.{OptionalDataKey}
 use Rattle.pagable_model.specs.declared.data_key.OptionalDataKey.TheVariants as optional
+use Rattle.pagable_model.specs.declared.numbers.Identity.{Identity}
 use Rattle.pagable_world.specs.declared.rows.Mode.TheVariants as modes
 use Rattle.pagable_world.specs.declared.rows.Owner.TheVariants as owners
 use Rattle.pagable_world.specs.declared.rows.HandleRow.{HandleRow}
@@ -13,6 +15,7 @@ use Rattle.pagable_world.specs.declared.events.Took.{Took}
 use Rattle.pagable_world.specs.declared.events.Took.TheVariants as took
 use Rattle.pagable_world.specs.declared.events.WorkerAnswer.TheVariants as finals
 use Rattle.pagable_world.specs.declared.events.WorkerReply.{WorkerReply}
+use Rattle.pagable_world.specs.Words.{Among}
 use Rattle.pagable_world.specs.Cells.{Cell}
 use Rattle.pagable_world.specs.Whole.{Whole, Written, SlotRow, no_result, published}
 use Rattle.pagable_world.specs.Falls.{Falls, MustList, nobody}
@@ -23,6 +26,7 @@ use Rattle.pagable_world.specs.Over.{WorkerRun, worker-ends, worker-goes-on, Who
 use Rattle.pagable_plain_world.specs.Samples.{none_of, second, first_node}
 use Rattle.pagable_plain_world.specs.SampleSeen.{sample, bare, first_table, first_worker, nothing_written}
 use Rattle.pagable_plain_world.specs.SampleParts.{third}
+use Rattle.pagable_plain_world.specs.SampleTurns.{pages_of}
 use Rattle.pagable_plain_world.specs.SampleAnswers.{nothing_identity}
 use Rattle.pagable_plain_world.specs.EntryExamples.{listed_nothing, entry_worker, entry_reference, entry_slot, entry_at, callers_row, entry_rows, pinned_rows, bare_key, bare_stored, entry_done, EntryExamples}
 use Rattle.pagable_plain_world.proofs.Alone.{given-least}
@@ -287,7 +291,17 @@ runs =
 walks-it : Walk sample entry_reference entry_steps
 walks-it = does entry_reference nothing_identity bare_key bare_key 0 nothing_written [] (entry_pin ∷ []) [] entry_steps refl no-wait (at-once (record { 0 = 4 })) no-walk refl
 
-works : WholeWork sample first_worker started (finals.Key bare_key) entry_done
+no-refusal : (i : Identity) (e : Error) → Among entry_steps (took.Write i (Err e)) → ⊥
+no-refusal i e (zero, is) = absurd (cc)
+no-refusal i e (suc zero, is) = absurd (cc)
+no-refusal i e (suc (suc zero), is) = absurd (cc)
+no-refusal i e (suc (suc (suc zero)), is) = absurd (cc)
+no-refusal i e (suc (suc (suc (suc zero))), is) = absurd (cc)
+no-refusal i e (suc (suc (suc (suc (suc zero)))), is) = absurd (cc)
+no-refusal i e (suc (suc (suc (suc (suc (suc zero))))), is) = absurd (cc)
+no-refusal i e (suc (suc (suc (suc (suc (suc (suc n)))))), is) = absurd (cc)
+
+works : WholeWork sample (pages_of listed_nothing) first_worker started (finals.Key bare_key) entry_done
 works =
     record {
       worker = entry_worker 0 None;
@@ -296,9 +310,10 @@ works =
       run = runs;
       order = inl (entry_steps, [], (entry_reference, entry_steps, refl, walks-it, inl refl), refl);
       met = tt;
+      formless = λ i e among fault. absurd (no-refusal i e among);
     }
 
-entry-run : EntryRun sample listed_nothing 0 (finals.Key bare_key) entry_done
+entry-run : EntryRun sample (pages_of listed_nothing) listed_nothing 0 (finals.Key bare_key) entry_done
 entry-run =
     inr (inr (
       first_table,

@@ -1,10 +1,11 @@
 -- Page-outs over an access that store nothing, or fail at will.
 use Rattle.std.proofs.Common.{◌≡◌, ◌⊎◌, ℕ, Bool, zero, suc, List, [], ◌∷◌, ◌++◌, length, refl, ap, sym, ◌∙◌, subst, inl, inr}
-use Rattle.std.specs.Prelude.{Some, None, Ok, Err, slice_get}
+use Rattle.std.specs.Prelude.{Option, Some, None, Ok, Err, slice_get}
 use Rattle.pagable_model.specs.declared.error.Error.TheVariants as errors
 use Rattle.pagable_model.specs.declared.numbers.ArcRef.{ArcRef}
 use Rattle.pagable_model.specs.declared.numbers.Identity.{Identity}
 use Rattle.pagable_model.specs.declared.numbers.WorkerNumber.{WorkerNumber}
+use Rattle.pagable_model.specs.Blob.{Blob}
 use Rattle.pagable_world.specs.declared.events.Claim.TheVariants as claims
 use Rattle.pagable_world.specs.declared.events.TableNumber.{TableNumber}
 use Rattle.pagable_world.specs.declared.events.Took.{Took}
@@ -20,14 +21,15 @@ use Rattle.pagable_world.specs.Interleaved.{IsMetFailure}
 use Rattle.pagable_world.specs.Order.{no-wait, more-waits, PinsFirst, at-once, by-load, Walk, finds, does, Walks, no-walk, more-walks, AllSteps, InOrder, MetError, IsBroken, IsSameKind}
 use Rattle.pagable_world.specs.WorkerSteps.{WorkerDoes}
 use Rattle.pagable_world.specs.Events.{StartedItem, IsNoTable}
-use Rattle.pagable_world.specs.Over.{WorkerRun, worker-ends, worker-goes-on, WholeWork, PagesOutItemOver}
+use Rattle.pagable_world.specs.Over.{MetFormless, WorkerRun, worker-ends, worker-goes-on, WholeWork, PagesOutItemOver}
 use Rattle.pagable_plain_world.specs.Samples.{none_of, second}
 use Rattle.pagable_plain_world.specs.SampleSeen.{sample, first_table, nothing_written, tabled}
 use Rattle.pagable_plain_world.specs.SampleTurns.{pages_of}
-use Rattle.pagable_plain_world.specs.SampleAnswers.{nothing_identity}
+use Rattle.pagable_plain_world.specs.SampleAnswers.{nothing_identity, nothing_pages}
 use Rattle.pagable_plain_world.specs.EntryExamples.{bare_key}
 use Rattle.pagable_plain_world.specs.ItemExamples.{storing_nothing, FailureExamples}
 use Rattle.pagable_plain_world.proofs.OnHandles.{the-one}
+use Rattle.pagable_plain_world.proofs.OnAnswers.{has-a-form}
 use Rattle.pagable_plain_world.proofs.OnWork.{not-push, no-steps, not-empty}
 
 abbrev Steps : Type 0
@@ -201,8 +203,8 @@ abbrev start : Whole
 start = tabled none_of
 
 -- the worker that was started has the item
-has-item : (v : WorkerNumber) (mid : Whole) (answer : WorkerAnswer) (w' : Whole) → StartedItem start first_table (of_item nothing_written) (Ok v) mid → (work : WholeWork sample v mid answer w') → OnlyStore work.steps
-has-item v mid answer w' (there, number, same) work =
+has-item : (s : Pages ℕ) (v : WorkerNumber) (mid : Whole) (answer : WorkerAnswer) (w' : Whole) → StartedItem start first_table (of_item nothing_written) (Ok v) mid → (work : WholeWork sample s v mid answer w') → OnlyStore work.steps
+has-item s v mid answer w' (there, number, same) work =
     let t : work.worker.task ≡ of_item nothing_written = ap (λ x. x.task) (the-one _ work.worker (subst (λ w. Among w.workers work.worker) same work.starts.0)) in
     only-store work.steps (subst (λ task. InOrder sample task work.steps) t work.order)
 
@@ -211,7 +213,7 @@ not-at-will s' t' (w', parts, results, inr (e, (stays, why), is)) = let f : e �
 not-at-will s' t' (w', parts, results, inl (mid, v, started, work)) = by work.met
   where
     by : IsMetFailure w' work.worker work.steps (finals.Failed errors.KeyTaken) → ⊥
-    by (taken, among, met) = elim (only-among work.steps taken (has-item v mid (finals.Failed errors.KeyTaken) w' started work) among) [
+    by (taken, among, met) = elim (only-among work.steps taken (has-item (pages_of start) v mid (finals.Failed errors.KeyTaken) w' started work) among) [
       | inl fails ↦ subst (λ t. MetError t errors.KeyTaken) fails met
       | inr (rest, key, kind, first) ↦ (let e = refused-store key taken kind met in
           never-taken v work.steps rest (finals.Failed errors.KeyTaken) mid w' (λ q. ap (λ w. w.stored q) started.2) work.run (subst (λ t. work.steps ≡ t ∷ rest) e first))
@@ -222,10 +224,14 @@ not-by-another s' t' (w', parts, results, inr (e, refused, is)) = absurd (cc)
 not-by-another s' t' (w', parts, results, inl (mid, v, started, work)) = by work.met
   where
     by : IsMetFailure w' work.worker work.steps finals.AlreadyFailed → ⊥
-    by (i, slot, among, has, other, failed_is) = elim (only-among work.steps (took.Claim i (Ok claims.AlreadyFailed)) (has-item v mid finals.AlreadyFailed w' started work) among) [
+    by (i, slot, among, has, other, failed_is) = elim (only-among work.steps (took.Claim i (Ok claims.AlreadyFailed)) (has-item (pages_of start) v mid finals.AlreadyFailed w' started work) among) [
       | inl fails ↦ absurd (cc)
       | inr (rest, key, kind, first) ↦ kind
     ]
 
+not-formless : (stored : ℕ → Option Blob) (w' : Whole) → ¬ MetFormless sample (nothing_pages stored) w' nothing_identity
+not-formless stored w' (inl (x, has, formless)) = has-a-form x (ap (λ v. v.1) (the-one _ (1, x) has)) formless
+not-formless stored w' (inr (x, typed, there, formless)) = has-a-form x typed formless
+
 pub failures : FailureExamples
-failures = record { not_at_will = not-at-will; not_by_another = not-by-another; not_at_once = not-at-once; not_unstored = not-unstored }
+failures = record { not_at_will = not-at-will; not_by_another = not-by-another; not_formless = not-formless; not_at_once = not-at-once; not_unstored = not-unstored }

@@ -20,7 +20,7 @@ use Rattle.pagable_world.specs.Words.{Among}
 use Rattle.pagable_world.specs.Whole.{Whole, KeyIs, HasType}
 use Rattle.pagable_world.specs.Seen.{IsLawful, HasNoFollowed, IsSettled, digest}
 use Rattle.pagable_model.specs.References.{SameReferences, references_in}
-use Rattle.pagable_world.specs.Pages.{WellFormed, HasValue, IsWhole}
+use Rattle.pagable_world.specs.Pages.{Pages, WellFormed, HasValue, IsWhole}
 use Rattle.pagable_world.specs.Stands.{NodeStands, here, away, none-stands, ValueStands, Represents, TreeWorld}
 use Rattle.pagable_world.specs.Interleaved.{GivesTree, ClaimsAreDistinct, IsInterleaved}
 use Rattle.pagable_world.specs.Headline.{Headline}
@@ -276,11 +276,11 @@ not-without : (stored : ℕ → Option Blob) (answer : LoadAnswer ℕ) (w w' : W
 not-without stored answer w w' none_is (load-ends _ _ reply _ (load, t, mid, ((among, is), mine), rest, counted, does_it, same) ended) = let e : Among [] load = subst (λ ls. Among ls load) none_is among in absurd (cc)
 not-without stored answer w w' none_is (load-goes-on _ middle _ reply _ (load, t, mid, ((among, is), mine), rest, counted, does_it, same) ended run) = let e : Among [] load = subst (λ ls. Among ls load) none_is among in absurd (cc)
 
-not-of-none : (i : ℕ) (answer : Result (Unit {0}) WorkerAnswer) (w w' : Whole) → w.list ≡ [] → i ≡ 1 → ¬ ListRun sample i answer w w'
-not-of-none _ _ w _ empty_is one_is (no-more _) = omega arith
-not-of-none i answer w w' empty_is one_is (skips _ n h key r _ _ mid low _ e (row, at, live, has_key_is) takes releases run) = let f : slice_get [] n ≡ Some h = subst (λ hs. slice_get hs n ≡ Some h) empty_is at in absurd (cc)
-not-of-none i answer w w' empty_is one_is (pages _ n h key _ _ mid _ e (row, at, live, has_key_is) once run) = let f : slice_get [] n ≡ Some h = subst (λ hs. slice_get hs n ≡ Some h) empty_is at in absurd (cc)
-not-of-none i _ w w' empty_is one_is (fails _ n h error _ _ e (row, at, live, has_key_is) once) = let f : slice_get [] n ≡ Some h = subst (λ hs. slice_get hs n ≡ Some h) empty_is at in absurd (cc)
+not-of-none : (s : Pages ℕ) (i : ℕ) (answer : Result (Unit {0}) WorkerAnswer) (w w' : Whole) → w.list ≡ [] → i ≡ 1 → ¬ ListRun sample s i answer w w'
+not-of-none s _ _ w _ empty_is one_is (no-more _) = omega arith
+not-of-none s i answer w w' empty_is one_is (skips _ n h key r _ _ mid low _ e (row, at, live, has_key_is) takes releases run) = let f : slice_get [] n ≡ Some h = subst (λ hs. slice_get hs n ≡ Some h) empty_is at in absurd (cc)
+not-of-none s i answer w w' empty_is one_is (pages _ n h key _ _ mid _ e (row, at, live, has_key_is) once run) = let f : slice_get [] n ≡ Some h = subst (λ hs. slice_get hs n ≡ Some h) empty_is at in absurd (cc)
+not-of-none s i _ w w' empty_is one_is (fails _ n h error _ _ e (row, at, live, has_key_is) once) = let f : slice_get [] n ≡ Some h = subst (λ hs. slice_get hs n ≡ Some h) empty_is at in absurd (cc)
 
 not-unpinned : (stored : ℕ → Option Blob) (k : HandleNumber) (x : ℕ) → ¬ PinsOver sample (lone_pages stored) first (Ok (k, x)) (new_pages stored)
 not-unpinned stored k x (w', run, parts, (row, y, (among, is), has, same)) = absurd (cc)
@@ -300,7 +300,7 @@ overs =
       pin = λ stored. (pinned stored, inl (pin-examples.met stored), record { rows = refl; cells = refl; list = refl; cache = refl; stored = λ key. refl; closed = refl; failures = refl; refusals = refl; loads = refl; last = (refl, refl, refl) }, (row_of 2 first_node modes.Pinned owners.Caller, 0, ((1, refl), refl), (0, refl), λ a. (λ e. e, λ e. e)));
       not_unpinned = not-unpinned;
       list = λ stored. no-more (empty stored);
-      not_of_none = λ stored w'. not-of-none 1 (Ok tt) (empty stored) w' refl refl;
+      not_of_none = λ stored w'. not-of-none (new_pages stored) 1 (Ok tt) (empty stored) w' refl refl;
       same = λ stored. record { rows = refl; cells = refl; list = refl; cache = refl; stored = λ key. refl; closed = refl; failures = refl; refusals = refl; loads = refl; last = (refl, refl, refl) };
       not_full = not-full;
       not_counted = λ stored same. let e = same.failures in omega arith;

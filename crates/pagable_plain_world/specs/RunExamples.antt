@@ -81,8 +81,8 @@ pub record OverExamples : Type 0 where
   pub pin : (stored : ℕ → Option Blob) → PinsOver sample (lone_pages stored) first (Ok (second, 0)) (pinned_pages stored)
   pub not_unpinned : (stored : ℕ → Option Blob) (k : HandleNumber) (x : ℕ) → ¬ PinsOver sample (lone_pages stored) first (Ok (k, x)) (new_pages stored)
   pub not_full : (stored : ℕ → Option Blob) → ¬ PinsOver sample (lone_pages stored) first (Err errors.OutOfMemory) (lone_pages stored)
-  pub list : (stored : ℕ → Option Blob) → ListRun sample 0 (Ok tt) (empty stored) (empty stored)
-  pub not_of_none : (stored : ℕ → Option Blob) (w' : Whole) → ¬ ListRun sample 1 (Ok tt) (empty stored) w'
+  pub list : (stored : ℕ → Option Blob) → ListRun sample (new_pages stored) 0 (Ok tt) (empty stored) (empty stored)
+  pub not_of_none : (stored : ℕ → Option Blob) (w' : Whole) → ¬ ListRun sample (new_pages stored) 1 (Ok tt) (empty stored) w'
   pub same : (stored : ℕ → Option Blob) → SameParts (empty stored) (tabled stored)
   pub not_counted : (stored : ℕ → Option Blob) → ¬ SameParts (record (empty stored) { failures = 1 }) (empty stored)
   pub not_same : (stored : ℕ → Option Blob) → ¬ SameParts (empty stored) (lone stored)

@@ -51,8 +51,8 @@ pub record WholeRunExamples : Type 0 where
   pub not_missing : (key x : ℕ) (s' : Pages ℕ) → ¬ ReadsOver sample (new_pages none_of) key 1 (Ok x) s'
   pub item : PagesOutItemOver sample (pages_of (tabled none_of)) first_table nothing_written (finals.Key (digest sample bare)) (pages_of (tabled (only_of (digest sample bare) bare))) first_table
   pub not_on_none : (stored : ℕ → Option Blob) (key : ℕ) (s' : Pages ℕ) (t' : TableNumber) → ¬ PagesOutItemOver sample (new_pages stored) first_table nothing_written (finals.Key key) s' t'
-  pub entry_refused : (stored : ℕ → Option Blob) → EntryRun sample (lone_listed stored) 0 (finals.Failed errors.OutOfMemory) (record (lone_listed stored) { refusals = 1 })
-  pub not_past : (stored : ℕ → Option Blob) (key : ℕ) (w' : Whole) → ¬ EntryRun sample (empty stored) 0 (finals.Key key) w'
+  pub entry_refused : (stored : ℕ → Option Blob) → EntryRun sample (pages_of (lone_listed stored)) (lone_listed stored) 0 (finals.Failed errors.OutOfMemory) (record (lone_listed stored) { refusals = 1 })
+  pub not_past : (s : Pages ℕ) (stored : ℕ → Option Blob) (key : ℕ) (w' : Whole) → ¬ EntryRun sample s (empty stored) 0 (finals.Key key) w'
   pub list : (stored : ℕ → Option Blob) (key : ℕ) → PagesOutListOver sample (pages_of (scheduled stored key)) (Ok tt) (pages_of (unlisted stored key))
   pub not_overlooked : (stored : ℕ → Option Blob) (key : ℕ) → ¬ PagesOutListOver sample (pages_of (scheduled stored key)) (Ok tt) (pages_of (scheduled stored key))
   pub walk : (key : ℕ) → Walk sample one_reference (walk_with (took.Store (Some first_identity) (Ok key) ∷ last_steps key))

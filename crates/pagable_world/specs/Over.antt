@@ -1,6 +1,6 @@
 -- Whole operations over an access that tells its state: each is a run that has alone, up to its end, this pin, this reading or
 -- this page-out, and its answer is what the run's last step answered.
-use Rattle.std.specs.Prelude.{ℕ, ◌≡◌, ◌≢◌, ◌+◌, ◌⊎◌, ◌↔◌, List, [], ◌∷◌, Some, None, length, Result, Ok, Err, slice_get}
+use Rattle.std.specs.Prelude.{ℕ, ◌≡◌, ◌≢◌, ◌+◌, ◌⊎◌, ◌↔◌, true, List, [], ◌∷◌, Some, None, length, Result, Ok, Err, slice_get}
 use Rattle.pagable_model.specs.declared.error.Error.{Error}
 use Rattle.pagable_model.specs.declared.error.Error.TheVariants as errors
 use Rattle.pagable_model.specs.declared.data_key.OptionalDataKey.{OptionalDataKey}
@@ -11,6 +11,8 @@ use Rattle.pagable_model.specs.declared.numbers.Identity.{Identity}
 use Rattle.pagable_model.specs.declared.numbers.LoadNumber.{LoadNumber}
 use Rattle.pagable_model.specs.declared.numbers.WorkerNumber.{WorkerNumber}
 use Rattle.pagable_model.specs.Meaning.{Meaning}
+use Rattle.pagable_model.specs.Trees.{type_of}
+use Rattle.pagable_model.specs.Refusals.{is_writing_fault}
 use Rattle.pagable_world.specs.declared.rows.Mode.TheVariants as modes
 use Rattle.pagable_world.specs.declared.rows.Owner.TheVariants as owners
 use Rattle.pagable_world.specs.declared.rows.HandleRow.{HandleRow}
@@ -21,19 +23,21 @@ use Rattle.pagable_world.specs.declared.events.LoadAnswer.{LoadAnswer}
 use Rattle.pagable_world.specs.declared.events.LoadAnswer.TheVariants as ends
 use Rattle.pagable_world.specs.declared.events.LoadReply.{LoadReply}
 use Rattle.pagable_world.specs.declared.events.Took.{Took}
+use Rattle.pagable_world.specs.declared.events.Took.TheVariants as took
 use Rattle.pagable_world.specs.declared.events.WorkerAnswer.{WorkerAnswer}
 use Rattle.pagable_world.specs.declared.events.WorkerAnswer.TheVariants as finals
 use Rattle.pagable_world.specs.declared.events.WorkerReply.{WorkerReply}
-use Rattle.pagable_world.specs.Whole.{Whole, WorkerRow, SlotRow, Written, no_result, failed, of_item, of_type, HasRowOf, HasWorker, HasSlot, KeyIs}
+use Rattle.pagable_world.specs.Words.{Among}
+use Rattle.pagable_world.specs.Whole.{Whole, Frame, WorkerRow, SlotRow, Written, no_result, failed, of_item, of_type, HasRowOf, HasWorker, HasSlot, KeyIs}
 use Rattle.pagable_world.specs.Seen.{Seen}
 use Rattle.pagable_world.specs.Causes.{IsFull}
 use Rattle.pagable_world.specs.Pages.{Pages, HasValue}
 use Rattle.pagable_world.specs.Handles.{PinCall, UnpinCall, ReleaseCall, TakeCall}
 use Rattle.pagable_world.specs.Loads.{BeginCall, BeginKeyCall}
-use Rattle.pagable_world.specs.LoadSteps.{LoadStepped}
+use Rattle.pagable_world.specs.LoadSteps.{IsRead, LoadStepped}
 use Rattle.pagable_world.specs.WorkerSteps.{WorkerStepped, IsPublished}
 use Rattle.pagable_world.specs.Order.{InOrder}
-use Rattle.pagable_world.specs.Interleaved.{IsMetFailure}
+use Rattle.pagable_world.specs.Interleaved.{IsMetFailure, IsFormless, HasFormlessValue}
 use Rattle.pagable_world.specs.Events.{Tabled, StartedItem, StartedListed}
 
 -- a load's steps up to its end, which is this
@@ -46,15 +50,25 @@ pub data WorkerRun {N B W : Type 0} (m : Seen N B W) (v : WorkerNumber) : Whole 
   worker-ends : (w w' : Whole) (reply : WorkerReply W) (steps : List (Took W)) (answer : WorkerAnswer) → WorkerStepped m w v (Ok reply) w' → reply.answer ≡ Some answer → steps ≡ reply.took ∷ [] → WorkerRun m v w steps answer w'
   worker-goes-on : (w mid w' : Whole) (reply : WorkerReply W) (rest steps : List (Took W)) (answer : WorkerAnswer) → WorkerStepped m w v (Ok reply) mid → reply.answer ≡ None → WorkerRun m v mid rest answer w' → steps ≡ reply.took ∷ rest → WorkerRun m v w steps answer w'
 
--- All that a worker does from its start on: its steps are in order, and a failure is one that a step of its own met, or another
--- worker's where its walk came.
-pub record WholeWork {N B W : Type 0} (m : Seen N B W) (v : WorkerNumber) (w : Whole) (answer : WorkerAnswer) (w' : Whole) : Type 0 where
+-- what is stored under a key reads as a value of its type that means the same
+abbrev pub IsReadThere : {N B W : Type 0} → Seen N B W → Whole → N → Type 0
+IsReadThere m w x = (frame : Frame) × (own : Meaning ArcRef) × (w.stored frame.key ≡ Some frame.blob) × (m.node_type x ≡ frame.node_type) × IsRead m.types frame own × m.means x own
+
+-- a value of the identity's node has no form: its own at the call, or one that the run may have read
+abbrev pub MetFormless : {N B W : Type 0} → Seen N B W → Pages N → Whole → Identity → Type 0
+MetFormless {N} m s w' i = HasFormlessValue m s i.node ⊎ ((x : N) × (m.node_type x ≡ type_of i.kind.0) × IsReadThere m w' x × IsFormless m x)
+
+-- All that a worker does from its start on, in a run that began at the state s: its steps are in order; a failure is one that a
+-- step of its own met, or another worker's where its walk came; and a write is refused by a name that says that a value has no
+-- form only where one has none.
+pub record WholeWork {N B W : Type 0} (m : Seen N B W) (s : Pages N) (v : WorkerNumber) (w : Whole) (answer : WorkerAnswer) (w' : Whole) : Type 0 where
   pub worker : WorkerRow
   pub steps : List (Took W)
   pub starts : HasWorker w v worker
   pub run : WorkerRun m v w steps answer w'
   pub order : InOrder m worker.task steps
   pub met : IsMetFailure w' worker steps answer
+  pub formless : (i : Identity) (e : Error) → Among steps (took.Write i (Err e)) → is_writing_fault e ≡ true → MetFormless m s w' i
 
 -- a pin: at once, or by a load up to its end
 abbrev pub PinRun : {N B W : Type 0} → Seen N B W → Whole → HandleNumber → Result HandleNumber Error → Whole → Type 0
@@ -132,30 +146,30 @@ PagesOutItemOver m s t written answer s' t' =
     (w' : Whole)
     × SameParts w' s'.world
     × SameResults w' t s'.world t'
-    × (((mid : Whole) × (v : WorkerNumber) × StartedItem s.world t (of_item written) (Ok v) mid × WholeWork m v mid answer w')
+    × (((mid : Whole) × (v : WorkerNumber) × StartedItem s.world t (of_item written) (Ok v) mid × WholeWork m s v mid answer w')
     ⊎ ((e : Error) × StartedItem s.world t (of_item written) (Err e) w' × (answer ≡ finals.Failed e)))
 
 -- the cell of the entry at this place has this key, or none
 abbrev pub EntryHas : Whole → ℕ → HandleNumber → OptionalDataKey → Type 0
 EntryHas w n h key = (row : HandleRow) × (slice_get w.list n ≡ Some h) × HasRowOf w h row × KeyIs w row.node key
 
--- an entry is paged out on a table of its own; table or worker may be refused
-abbrev pub EntryRun : {N B W : Type 0} → Seen N B W → Whole → ℕ → WorkerAnswer → Whole → Type 0
-EntryRun m w n answer w' =
+-- in a run that began at the state s an entry is paged out on a table of its own; table or worker may be refused
+abbrev pub EntryRun : {N B W : Type 0} → Seen N B W → Pages N → Whole → ℕ → WorkerAnswer → Whole → Type 0
+EntryRun m s w n answer w' =
     ((e : Error) × Tabled w (Err e) w' × (answer ≡ finals.Failed e))
     ⊎ ((t : TableNumber) × (mid : Whole) × (e : Error) × Tabled w (Ok t) mid × StartedListed mid t n (Err e) w' × (answer ≡ finals.Failed e))
-    ⊎ ((t : TableNumber) × (v : WorkerNumber) × (mid low : Whole) × Tabled w (Ok t) mid × StartedListed mid t n (Ok v) low × WholeWork m v low answer w')
+    ⊎ ((t : TableNumber) × (v : WorkerNumber) × (mid low : Whole) × Tabled w (Ok t) mid × StartedListed mid t n (Ok v) low × WholeWork m s v low answer w')
 
 -- A page-out of so many entries, from the last to the first: one whose cell has a key is taken and released, another is paged
 -- out, and the first failure is the end.
-pub data ListRun {N B W : Type 0} (m : Seen N B W) : ℕ → Result (Unit {0}) WorkerAnswer → Whole → Whole → Type 0 where
-  no-more : (w : Whole) → ListRun m 0 (Ok tt) w w
+pub data ListRun {N B W : Type 0} (m : Seen N B W) (s : Pages N) : ℕ → Result (Unit {0}) WorkerAnswer → Whole → Whole → Type 0 where
+  no-more : (w : Whole) → ListRun m s 0 (Ok tt) w w
   skips : (i n : ℕ) (h : HandleNumber) (key : ℕ) (r : Result (Unit {0}) Error) (answer : Result (Unit {0}) WorkerAnswer) (w mid low w' : Whole) → i ≡ n + 1 → EntryHas w n h (optional.Some key)
-      → TakeCall w owners.Caller n (Some h) mid → ReleaseCall mid owners.Caller h r low → ListRun m n answer low w' → ListRun m i answer w w'
-  pages : (i n : ℕ) (h : HandleNumber) (key : ℕ) (answer : Result (Unit {0}) WorkerAnswer) (w mid w' : Whole) → i ≡ n + 1 → EntryHas w n h optional.None → EntryRun m w n (finals.Key key) mid → ListRun m n answer mid w' → ListRun m i answer w w'
-  fails : (i n : ℕ) (h : HandleNumber) (e : Error) (w w' : Whole) → i ≡ n + 1 → EntryHas w n h optional.None → EntryRun m w n (finals.Failed e) w' → ListRun m i (Err (finals.Failed e)) w w'
+      → TakeCall w owners.Caller n (Some h) mid → ReleaseCall mid owners.Caller h r low → ListRun m s n answer low w' → ListRun m s i answer w w'
+  pages : (i n : ℕ) (h : HandleNumber) (key : ℕ) (answer : Result (Unit {0}) WorkerAnswer) (w mid w' : Whole) → i ≡ n + 1 → EntryHas w n h optional.None → EntryRun m s w n (finals.Key key) mid → ListRun m s n answer mid w' → ListRun m s i answer w w'
+  fails : (i n : ℕ) (h : HandleNumber) (e : Error) (w w' : Whole) → i ≡ n + 1 → EntryHas w n h optional.None → EntryRun m s w n (finals.Failed e) w' → ListRun m s i (Err (finals.Failed e)) w w'
 
 -- The answer of a page-out of the list as it stands at the call, and what it leaves.
 -- To be carried by: `page_out_pending_over`.
 abbrev pub PagesOutListOver : {N B W : Type 0} → Seen N B W → Pages N → Result (Unit {0}) WorkerAnswer → Pages N → Type 0
-PagesOutListOver m s answer s' = (w' : Whole) × ListRun m (length s.world.list) answer s.world w' × SameParts w' s'.world
+PagesOutListOver m s answer s' = (w' : Whole) × ListRun m s (length s.world.list) answer s.world w' × SameParts w' s'.world
