@@ -42,4 +42,5 @@ mod OnIdentities
 mod OnEntries
 mod OnItems
 mod OnFailures
+mod OnTrees
 mod Telling

@@ -109,7 +109,7 @@ not-other-type stored t one_is (away _ key _ none_is is fits) = omega arith
 pub at-one : (stored : ℕ → Option Blob) (n : ℕ) → 0 < held n (lone stored).rows → n ≡ 1
 at-one stored n some = grind (arith, nat_tests)
 
-lone-represents : (stored : ℕ → Option Blob) → Represents sample (lone_pages stored) (lone_trees stored 0)
+pub lone-represents : (stored : ℕ → Option Blob) → Represents sample (lone_pages stored) (lone_trees stored 0)
 lone-represents stored =
     record {
       same = refl;

@@ -14,6 +14,7 @@ ghost use Rattle.pagable_plain_world.specs.WholeRunExamples.{WholeRunExamples};
 ghost use Rattle.pagable_plain_world.specs.IdentityExamples.{IdentityExamples};
 ghost use Rattle.pagable_plain_world.specs.EntryExamples.{EntryExamples};
 ghost use Rattle.pagable_plain_world.specs.ItemExamples.{ItemIsStored, FailureExamples};
+ghost use Rattle.pagable_plain_world.specs.TreeExamples.{TreeExamples};
 ghost use Rattle.pagable_plain_world.specs.PartExamples.{LoadPartExamples, WorkerPartExamples};
 
 /// The calls on handles and nodes.
@@ -58,6 +59,7 @@ pub fn runs()
     ensures runs { RunExamples }
     ensures facts { FactExamples }
     ensures overs { OverExamples }
+    ensures trees { TreeExamples }
 {}
 
 /// Single steps of workers and loads, and what is said of them.

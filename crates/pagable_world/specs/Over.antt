@@ -12,6 +12,7 @@ use Rattle.pagable_model.specs.declared.numbers.LoadNumber.{LoadNumber}
 use Rattle.pagable_model.specs.declared.numbers.WorkerNumber.{WorkerNumber}
 use Rattle.pagable_model.specs.Meaning.{Meaning}
 use Rattle.pagable_model.specs.Trees.{type_of}
+use Rattle.pagable_model.specs.Merkle.{KeyOf}
 use Rattle.pagable_model.specs.Refusals.{is_writing_fault}
 use Rattle.pagable_world.specs.declared.rows.Mode.TheVariants as modes
 use Rattle.pagable_world.specs.declared.rows.Owner.TheVariants as owners
@@ -29,15 +30,17 @@ use Rattle.pagable_world.specs.declared.events.WorkerAnswer.TheVariants as final
 use Rattle.pagable_world.specs.declared.events.WorkerReply.{WorkerReply}
 use Rattle.pagable_world.specs.Words.{Among}
 use Rattle.pagable_world.specs.Whole.{Whole, Frame, WorkerRow, SlotRow, Written, no_result, failed, of_item, of_type, HasRowOf, HasWorker, HasSlot, KeyIs}
-use Rattle.pagable_world.specs.Seen.{Seen}
+use Rattle.pagable_world.specs.Seen.{Seen, IsLawful, IsSettled}
 use Rattle.pagable_world.specs.Causes.{IsFull}
 use Rattle.pagable_world.specs.Pages.{Pages, HasValue}
+use Rattle.pagable_world.specs.Stands.{ValueStands, TreeWorld, Represents, KeepsTrees}
+use Rattle.pagable_world.specs.Premises.{ReadsItsTypes, HoldsSettled}
 use Rattle.pagable_world.specs.Handles.{PinCall, UnpinCall, ReleaseCall, TakeCall}
 use Rattle.pagable_world.specs.Loads.{BeginCall, BeginKeyCall}
 use Rattle.pagable_world.specs.LoadSteps.{IsRead, LoadStepped}
 use Rattle.pagable_world.specs.WorkerSteps.{WorkerStepped, IsPublished}
 use Rattle.pagable_world.specs.Order.{InOrder}
-use Rattle.pagable_world.specs.Interleaved.{IsMetFailure, IsFormless, HasFormlessValue}
+use Rattle.pagable_world.specs.Interleaved.{IsMetFailure, IsFormless, HasFormlessValue, ReadIsRight, IsKeyOfTask}
 use Rattle.pagable_world.specs.Events.{Tabled, StartedItem, StartedListed}
 
 -- a load's steps up to its end, which is this
@@ -173,3 +176,41 @@ pub data ListRun {N B W : Type 0} (m : Seen N B W) (s : Pages N) : ℕ → Resul
 -- To be carried by: `page_out_pending_over`.
 abbrev pub PagesOutListOver : {N B W : Type 0} → Seen N B W → Pages N → Result (Unit {0}) WorkerAnswer → Pages N → Type 0
 PagesOutListOver m s answer s' = (w' : Whole) × ListRun m s (length s.world.list) answer s.world w' × SameParts w' s'.world
+
+-- ---- what these mean, by trees
+
+-- Under the laws of values, where these values are settled: for each world with trees that the pager stood for there is one, with
+-- the same trees of the nodes that were there, that it stands for now, and of the two P holds.
+abbrev pub LeadsToTrees : {N B W : Type 0} → Seen N B W → Pages N → Pages N → Type 0 → (TreeWorld → TreeWorld → Type 0) → Type 0
+LeadsToTrees m s s' settled P = IsLawful m → ReadsItsTypes m.types → settled → (u : TreeWorld) → Represents m s u → (u' : TreeWorld) × KeepsTrees u u' × Represents m s' u' × P u u'
+
+-- The value that a pin answers stands for the tree of its handle's node, whatever the pin did or read.
+-- To be carried by: `pin_over`.
+abbrev pub PinsRightlyOver : {N B W : Type 0} → Seen N B W → Pages N → Result (HandleNumber × N) Error → Pages N → Type 0
+PinsRightlyOver m s (Ok (k, x)) s' = LeadsToTrees m s s' (HoldsSettled m s × HoldsSettled m s') (λ u u'. (row : HandleRow) × HasRowOf s'.world k row × ValueStands m s' x (u'.tree row.node.0))
+PinsRightlyOver m s (Err e) s' = LeadsToTrees m s s' (HoldsSettled m s × HoldsSettled m s') (λ u u'. Unit {0})
+
+-- The value that a reading answers stands for the tree that its key reads as, and the nodes that were made of it stand too.
+-- To be carried by: `read_over`.
+abbrev pub ReadsRightlyOver : {N B W : Type 0} → Seen N B W → Pages N → ℕ → Result N Error → Pages N → Type 0
+ReadsRightlyOver m s key (Ok x) s' = LeadsToTrees m s s' (HoldsSettled m s × HoldsSettled m s' × IsSettled m x) (λ u u'. ReadIsRight m s' key x)
+ReadsRightlyOver m s key (Err e) s' = LeadsToTrees m s s' (HoldsSettled m s × HoldsSettled m s') (λ u u'. Unit {0})
+
+-- a page-out reads values that are in memory neither before nor after it
+abbrev pub AllSettled : {N B W : Type 0} → Seen N B W → Type 0
+AllSettled {N} m = (x : N) → IsSettled m x
+
+-- the keys that are known on the table are those of their nodes' trees
+abbrev pub KeysAreRight : {N B W : Type 0} → Seen N B W → Whole → TableNumber → TreeWorld → Type 0
+KeysAreRight m w t u = (i : Identity) (key height : ℕ) → IsPublished w t i key height → KeyOf m.hash m.types (u.tree i.node.0) key
+
+-- Where the keys known on the table were right, they are, and a key that is answered is the item's.
+-- To be carried by: `page_out_item_over`.
+abbrev pub PagesItemRightlyOver : {N B W : Type 0} → Seen N B W → Pages N → TableNumber → Written → WorkerAnswer → Pages N → TableNumber → Type 0
+PagesItemRightlyOver m s t written answer s' t' =
+    LeadsToTrees m s s' (AllSettled m) (λ u u'. KeysAreRight m s.world t u → KeysAreRight m s'.world t' u' × ((key : ℕ) → answer ≡ finals.Key key → IsKeyOfTask m u' (of_item written) key))
+
+-- Each key that a cell gets reads as its tree, since the pager stands for the trees afterwards.
+-- To be carried by: `page_out_pending_over`.
+abbrev pub PagesListRightlyOver : {N B W : Type 0} → Seen N B W → Pages N → Pages N → Type 0
+PagesListRightlyOver m s s' = LeadsToTrees m s s' (AllSettled m) (λ u u'. Unit {0})
