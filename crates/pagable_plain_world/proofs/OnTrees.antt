@@ -1,27 +1,32 @@
--- What a pin over an access answers, by trees.
-use Rattle.std.proofs.Common.{◌≡◌, ℕ, zero, suc, ◌<◌, ◌==◌, [], ◌∷◌, refl, ap, sym, ◌∙◌, subst, arith}
-use Rattle.std.specs.Prelude.{Option, Some, Ok}
+-- What a pin and a page-out over an access answer, by trees.
+use Rattle.std.proofs.Common.{◌≡◌, ℕ, zero, suc, ◌<◌, [], refl, ap, sym, ◌∙◌, subst, arith}
+use Rattle.std.specs.Prelude.{◌≢◌, Option, Ok}
 use Rattle.std.proofs.lemmas.Bool.Decides.{nat_tests}
 use Rattle.pagable_model.specs.declared.numbers.ArcRef.{ArcRef}
 use Rattle.pagable_model.specs.Blob.{Blob}
 use Rattle.pagable_model.specs.Meaning.{Meaning, none}
-use Rattle.pagable_model.specs.Trees.{Tree}
+use Rattle.pagable_model.specs.Trees.{Tree, tree}
+use Rattle.pagable_model.specs.Merkle.{no-keys}
 use Rattle.pagable_world.specs.declared.rows.Mode.TheVariants as modes
 use Rattle.pagable_world.specs.declared.rows.Owner.TheVariants as owners
 use Rattle.pagable_world.specs.declared.rows.HandleRow.{HandleRow}
+use Rattle.pagable_world.specs.declared.events.WorkerAnswer.TheVariants as finals
 use Rattle.pagable_world.specs.State.{held}
 use Rattle.pagable_world.specs.Words.{Among}
+use Rattle.pagable_world.specs.Seen.{digest}
 use Rattle.pagable_world.specs.Whole.{HasType}
 use Rattle.pagable_world.specs.Handles.{row_of}
 use Rattle.pagable_world.specs.Stands.{NodeStands, here, away, MeaningStands, none-stands, number-stands, integer-stands, text-stands, pattern-stands, pair-stands, variant-stands, reference-stands, ValueStands, TreeWorld, Represents}
-use Rattle.pagable_world.specs.Over.{PinsRightlyOver}
-use Rattle.pagable_plain_world.specs.Samples.{pinned, second, first_node}
-use Rattle.pagable_plain_world.specs.SampleSeen.{sample}
+use Rattle.pagable_world.specs.Over.{PinsRightlyOver, PagesItemRightlyOver}
+use Rattle.pagable_plain_world.specs.Samples.{pinned, second, first_node, none_of, only_of}
+use Rattle.pagable_plain_world.specs.SampleSeen.{sample, bare, first_table, nothing_written, tabled}
 use Rattle.pagable_plain_world.specs.SampleRuns.{lone_pages, lone_trees, pinned_pages}
+use Rattle.pagable_plain_world.specs.SampleTurns.{pages_of}
 use Rattle.pagable_plain_world.specs.TreeExamples.{TreeExamples}
 use Rattle.pagable_plain_world.proofs.OnHandles.{the-one}
 use Rattle.pagable_plain_world.proofs.OnRuns.{no-key, lawful, lone-represents}
 use Rattle.pagable_plain_world.proofs.OnAnswers.{reads-types}
+use Rattle.pagable_plain_world.proofs.OnTurns.{not-published}
 
 at-one : (stored : ℕ → Option Blob) (n : ℕ) → 0 < held n (pinned stored).rows → n ≡ 1
 at-one stored n some = grind (arith, nat_tests)
@@ -77,5 +82,26 @@ not-invented stored all =
     let kept : (it.0.tree 1).type ≡ 0 = ap (λ t. t.type) (it.1 1 (omega arith)) in
     omega arith
 
+-- where no node is, any trees do
+of-none : (stored : ℕ → Option Blob) (trees : ℕ → Tree) → Represents sample (pages_of (tabled stored)) (record { plain = tabled stored; tree = trees })
+of-none stored trees = record { same = refl; stands = λ n some. absurd (omega arith); typed = λ n some. absurd (omega arith); loads = λ load among. absurd (cc) }
+
+item : PagesItemRightlyOver sample (pages_of (tabled none_of)) first_table nothing_written (finals.Key (digest sample bare)) (pages_of (tabled (only_of (digest sample bare) bare))) first_table
+item law reads settled u rep = (
+  record { plain = tabled (only_of (digest sample bare) bare); tree = u.tree },
+  (λ n low. refl),
+  of-none (only_of (digest sample bare) bare) u.tree,
+  λ right. (
+    (λ i key height known. absurd (not-published (tabled (only_of (digest sample bare) bare)) i key height refl known)),
+    (λ key is. let k : key ≡ digest sample bare = cc in (record { keys = []; each = no-keys; is = k }, λ canonical other it. it.is ∙ sym k)),
+  ),
+)
+
+not-other-key : (key : ℕ) → key ≢ digest sample bare → ¬ PagesItemRightlyOver sample (pages_of (tabled none_of)) first_table nothing_written (finals.Key key) (pages_of (tabled (only_of key bare))) first_table
+not-other-key key other all =
+    let it = all lawful reads-types (λ x a b is same. same ∙ sym is) (record { plain = tabled none_of; tree = λ n. tree 0 none }) (of-none none_of (λ n. tree 0 none)) in
+    let right = it.3 (λ i k height known. absurd (not-published (tabled none_of) i k height refl known)) in
+    other (right.1 key refl).0.is
+
 pub trees : TreeExamples
-trees = record { pin = pin; not_invented = not-invented }
+trees = record { pin = pin; not_invented = not-invented; item = item; not_other_key = not-other-key }
