@@ -41,4 +41,6 @@ mod OnWholeRuns
 mod OnIdentities
 mod OnEntries
 mod OnItems
+mod OnFailures
+mod OnTrees
 mod Telling

@@ -31,7 +31,7 @@ use Rattle.pagable_world.specs.Met.{Meets, meets-of-item, meets-entry, meets-bel
 use Rattle.pagable_world.specs.Stands.{NodeStands, here, away, MeaningStands, none-stands, KeyFits}
 use Rattle.pagable_world.specs.Bounds.{Unfolds, unfolds, UnfoldsFrom, ends-here, takes-next, LoadsAreBounded}
 use Rattle.pagable_world.specs.Premises.{ReadsItsTypes, ReadsAsHandle}
-use Rattle.pagable_world.specs.Interleaved.{HasFormlessValue, RefusesFormless, ReadIsRight, ReadGives, IsLeftPagedOut, LeavesAll, AnswerLeavesAll, PublishIsKey, IsKeyOfTask, AnswerIsKey}
+use Rattle.pagable_world.specs.Interleaved.{IsFormless, HasFormlessValue, RefusesFormless, ReadIsRight, ReadGives, IsLeftPagedOut, LeavesAll, AnswerLeavesAll, PublishIsKey, IsKeyOfTask, AnswerIsKey}
 use Rattle.pagable_world.specs.Alone.{IsTooDeepTask, IsTooDeepReading, DeepIsRefused}
 use Rattle.pagable_world.specs.Results.{kind_of_arc, HasForm, ResultStands, stands-over, ResultsStand, no-results, more-results, IsOverResults}
 use Rattle.pagable_plain_world.specs.Samples.{new_pages, first_node, all_of, none_of, only_of, dropped}
@@ -272,19 +272,24 @@ formless : (stored : ℕ → Option Blob) → HasFormlessValue sample (lone_page
 formless stored = (
   0,
   (0, refl),
-  λ shape is. let same : shape ≡ shapes.reference 5 = cc in
-      subst (λ s. NoFormOfSome (sample.means 0) (nesting 0 sample_types.parts) s) (sym same) (record { m = none; is = refl; no_form = no-form }),
+  (shapes.reference 5, refl, record { m = none; is = refl; no_form = no-form }),
 )
 
 refuses : (stored : ℕ → Option Blob) → RefusesFormless sample (lone_pages stored) (empty_trees stored) wait_event (write_reply errors.TooLong) (lone_pages stored) (empty_trees stored)
 refuses stored i e is fault = let same : i ≡ first_identity = cc in subst (λ j. HasFormlessValue sample (lone_pages stored) j.node) (sym same) (formless stored)
 
+-- a value of the type 1 has one
+pub has-a-form : (x : ℕ) → x ≡ 1 → IsFormless sample x → ⊥
+has-a-form x one_is (shape, is, none_has) =
+    let there : Some shapes.nothing ≡ Some shape = subst (λ n. sample_types.nodes n ≡ Some shape) one_is is in
+    let same : shape ≡ shapes.nothing = cc in
+    let without = subst (NoFormOfSome (sample.means x) (nesting 0 sample_types.parts)) same none_has in
+    without.no_form [] [] (subst (λ a. FormAt (nesting 0 sample_types.parts) shapes.nothing a [] []) (sym without.is) (nothing-form deepest))
+
 not-of-form : (stored : ℕ → Option Blob) → ¬ RefusesFormless sample (nothing_pages stored) (empty_trees stored) wait_event (write_reply errors.TooLong) (nothing_pages stored) (empty_trees stored)
 not-of-form stored all =
     let given = all first_identity errors.TooLong refl refl in
-    let one_is : given.0 ≡ 1 = ap (λ v. v.1) (the-one _ (1, given.0) given.1) in
-    let none_has = given.2 shapes.nothing (subst (λ n. sample_types.nodes n ≡ Some shapes.nothing) (sym one_is) refl) in
-    none_has.no_form [] [] (subst (λ a. FormAt (nesting 0 sample_types.parts) shapes.nothing a [] []) (sym none_has.is) (nothing-form deepest))
+    has-a-form given.0 (ap (λ v. v.1) (the-one _ (1, given.0) given.1)) given.2
 
 has-no-form : (x : ℕ) (bytes : List ℕ) (references : List ArcRef) → x ≡ 0 → HasForm sample x bytes references → ⊥
 has-no-form x bytes references zero_is has =
@@ -320,6 +325,7 @@ page-outs =
       not_of_writing = λ w w' cause. cause;
       refuses = refuses;
       not_of_form = not-of-form;
+      not_shapeless = λ stored all. let given = all first_identity errors.TooLong refl refl in let e = given.2.1 in absurd (cc);
       over_results = over-results;
       not_formless = not-formless;
     }

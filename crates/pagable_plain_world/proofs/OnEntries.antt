@@ -1,9 +1,11 @@
 -- The whole page-out of a listed cell, step by step.
-use Rattle.std.proofs.Common.{ℕ, Bool, true, [], ◌∷◌, refl, inl, inr, arith}
-use Rattle.std.specs.Prelude.{Some, None, Ok}
+use Rattle.std.proofs.Common.{ℕ, zero, suc, Bool, true, List, [], ◌∷◌, refl, inl, inr, arith}
+use Rattle.std.specs.Prelude.{Some, None, Ok, Err}
 use Rattle.std.proofs.lemmas.Bool.Decides.{nat_tests}
+use Rattle.pagable_model.specs.declared.error.Error.{Error}
 use Rattle.pagable_model.specs.declared.data_key.OptionalDataKey.{OptionalDataKey}
 use Rattle.pagable_model.specs.declared.data_key.OptionalDataKey.TheVariants as optional
+use Rattle.pagable_model.specs.declared.numbers.Identity.{Identity}
 use Rattle.pagable_world.specs.declared.rows.Mode.TheVariants as modes
 use Rattle.pagable_world.specs.declared.rows.Owner.TheVariants as owners
 use Rattle.pagable_world.specs.declared.rows.HandleRow.{HandleRow}
@@ -13,15 +15,18 @@ use Rattle.pagable_world.specs.declared.events.Took.{Took}
 use Rattle.pagable_world.specs.declared.events.Took.TheVariants as took
 use Rattle.pagable_world.specs.declared.events.WorkerAnswer.TheVariants as finals
 use Rattle.pagable_world.specs.declared.events.WorkerReply.{WorkerReply}
+use Rattle.pagable_world.specs.Words.{Among}
 use Rattle.pagable_world.specs.Cells.{Cell}
 use Rattle.pagable_world.specs.Whole.{Whole, Written, SlotRow, no_result, published}
 use Rattle.pagable_world.specs.Falls.{Falls, MustList, nobody}
 use Rattle.pagable_world.specs.Handles.{row_of, with_key}
 use Rattle.pagable_world.specs.WorkerSteps.{is_workers_at, WorkerStepped}
-use Rattle.pagable_world.specs.Over.{WorkerRun, worker-ends, worker-goes-on, EntryRun, no-more, pages}
+use Rattle.pagable_world.specs.Order.{no-wait, at-once, Walk, does, no-walk}
+use Rattle.pagable_world.specs.Over.{WorkerRun, worker-ends, worker-goes-on, WholeWork, EntryRun, no-more, pages}
 use Rattle.pagable_plain_world.specs.Samples.{none_of, second, first_node}
 use Rattle.pagable_plain_world.specs.SampleSeen.{sample, bare, first_table, first_worker, nothing_written}
 use Rattle.pagable_plain_world.specs.SampleParts.{third}
+use Rattle.pagable_plain_world.specs.SampleTurns.{pages_of}
 use Rattle.pagable_plain_world.specs.SampleAnswers.{nothing_identity}
 use Rattle.pagable_plain_world.specs.EntryExamples.{listed_nothing, entry_worker, entry_reference, entry_slot, entry_at, callers_row, entry_rows, pinned_rows, bare_key, bare_stored, entry_done, EntryExamples}
 use Rattle.pagable_plain_world.proofs.Alone.{given-least}
@@ -263,17 +268,52 @@ releases-it = (
   refl,
 )
 
-runs : WorkerRun sample first_worker started (finals.Key bare_key) entry_done
-runs =
-    worker-goes-on _ _ _ (step (took.Claim nothing_identity (Ok claims.Claimed)) 1) _ claims-it refl
-    (worker-goes-on _ _ _ (step (took.Pin nothing_identity (Ok (pinsteps.Held (record { 0 = 4 })))) 2) _ pins-it refl
-    (worker-goes-on _ _ _ (step (took.Write nothing_identity (Ok nothing_written)) 3) _ writes-it refl
-    (worker-goes-on _ _ _ (step (took.Store (Some nothing_identity) (Ok bare_key)) 4) _ stores-it refl
-    (worker-goes-on _ _ _ (step (took.SetKey nothing_identity (Ok tt)) 5) _ keys-it refl
-    (worker-goes-on _ _ _ (step (took.Publish nothing_identity bare_key 0) 6) _ publishes-it refl
-    (worker-ends _ _ last_reply _ releases-it refl))))))
+-- its steps, from the write on
+abbrev later_steps : List (Took Written)
+later_steps = took.Store (Some nothing_identity) (Ok bare_key) ∷ took.SetKey nothing_identity (Ok tt) ∷ took.Publish nothing_identity bare_key 0 ∷ took.Release nothing_identity ∷ []
 
-entry-run : EntryRun sample listed_nothing 0 (finals.Key bare_key) entry_done
+abbrev entry_pin : Took Written
+entry_pin = took.Pin nothing_identity (Ok (pinsteps.Held (record { 0 = 4 })))
+
+abbrev entry_steps : List (Took Written)
+entry_steps = took.Claim nothing_identity (Ok claims.Claimed) ∷ entry_pin ∷ took.Write nothing_identity (Ok nothing_written) ∷ later_steps
+
+runs : WorkerRun sample first_worker started entry_steps (finals.Key bare_key) entry_done
+runs =
+    worker-goes-on _ _ _ (step (took.Claim nothing_identity (Ok claims.Claimed)) 1) _ _ _ claims-it refl
+    (worker-goes-on _ _ _ (step entry_pin 2) _ _ _ pins-it refl
+    (worker-goes-on _ _ _ (step (took.Write nothing_identity (Ok nothing_written)) 3) _ _ _ writes-it refl
+    (worker-goes-on _ _ _ (step (took.Store (Some nothing_identity) (Ok bare_key)) 4) _ _ _ stores-it refl
+    (worker-goes-on _ _ _ (step (took.SetKey nothing_identity (Ok tt)) 5) _ _ _ keys-it refl
+    (worker-goes-on _ _ _ (step (took.Publish nothing_identity bare_key 0) 6) _ _ _ publishes-it refl
+    (worker-ends _ _ last_reply _ _ releases-it refl refl) refl) refl) refl) refl) refl) refl
+
+walks-it : Walk sample entry_reference entry_steps
+walks-it = does entry_reference nothing_identity bare_key bare_key 0 nothing_written [] (entry_pin ∷ []) [] entry_steps refl no-wait (at-once (record { 0 = 4 })) no-walk refl
+
+no-refusal : (i : Identity) (e : Error) → Among entry_steps (took.Write i (Err e)) → ⊥
+no-refusal i e (zero, is) = absurd (cc)
+no-refusal i e (suc zero, is) = absurd (cc)
+no-refusal i e (suc (suc zero), is) = absurd (cc)
+no-refusal i e (suc (suc (suc zero)), is) = absurd (cc)
+no-refusal i e (suc (suc (suc (suc zero))), is) = absurd (cc)
+no-refusal i e (suc (suc (suc (suc (suc zero)))), is) = absurd (cc)
+no-refusal i e (suc (suc (suc (suc (suc (suc zero))))), is) = absurd (cc)
+no-refusal i e (suc (suc (suc (suc (suc (suc (suc n)))))), is) = absurd (cc)
+
+works : WholeWork sample (pages_of listed_nothing) first_worker started (finals.Key bare_key) entry_done
+works =
+    record {
+      worker = entry_worker 0 None;
+      steps = entry_steps;
+      starts = ((0, refl), refl);
+      run = runs;
+      order = inl (entry_steps, [], (entry_reference, entry_steps, refl, walks-it, inl refl), refl);
+      met = tt;
+      formless = λ i e among fault. absurd (no-refusal i e among);
+    }
+
+entry-run : EntryRun sample (pages_of listed_nothing) listed_nothing 0 (finals.Key bare_key) entry_done
 entry-run =
     inr (inr (
       first_table,
@@ -282,7 +322,7 @@ entry-run =
       started,
       (refl, refl),
       (second, 1, (omega arith, omega arith), refl, refl, omega arith, (row_of 2 first_node modes.LooseUnpinned owners.List, ((1, refl), refl), ((bare_cell optional.None, ((0, refl), refl), refl), refl))),
-      runs,
+      works,
     ))
 
 pub entries : EntryExamples
@@ -292,6 +332,6 @@ entries =
       list = (
         entry_done,
         pages 1 0 second bare_key (Ok tt) listed_nothing entry_done entry_done refl (row_of 2 first_node modes.LooseUnpinned owners.List, refl, ((1, refl), refl), (bare_cell optional.None, ((0, refl), refl), refl)) entry-run (no-more entry_done),
-        record { rows = refl; cells = refl; list = refl; cache = refl; stored = λ k. refl },
+        record { rows = refl; cells = refl; list = refl; cache = refl; stored = λ k. refl; closed = refl; failures = refl; refusals = refl; loads = refl; last = (refl, refl, refl) },
       );
     }

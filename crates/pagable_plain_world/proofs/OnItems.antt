@@ -83,12 +83,12 @@ tries w mid worker counted (took.Publish i key height) idle task (one_step, (slo
 tries w mid worker counted (took.Release i) idle task (one_step, ((key, height, (slot, (among, table, kind, node), known)), falls)) answers = absurd (no-slot w slot idle among)
 tries w mid worker counted took.Fail idle task does_it answers = absurd answers
 
-key-stored : (v : WorkerNumber) (answer : WorkerAnswer) (w w' : Whole) (key : ℕ) → Idle w → WorkerRun sample v w answer w' → answer ≡ finals.Key key → (b : Blob) × (w'.stored key ≡ Some b)
-key-stored v answer w w' key idle (worker-ends _ _ reply _ (worker, counted, mid, (among, is), silent, does_it, answers, count, same) ended) answer_is =
+key-stored : (v : WorkerNumber) (steps : List (Took Written)) (answer : WorkerAnswer) (w w' : Whole) (key : ℕ) → Idle w → WorkerRun sample v w steps answer w' → answer ≡ finals.Key key → (b : Blob) × (w'.stored key ≡ Some b)
+key-stored v steps answer w w' key idle (worker-ends _ _ reply _ _ (worker, counted, mid, (among, is), silent, does_it, answers, count, same) ended step) answer_is =
     let a = subst (λ x. AnswersWith w worker reply.took x) (ended ∙ ap Some answer_is) answers in
     let p = last-stores w mid worker counted reply.took key (idle.item worker among) does_it a in
     (p.0, ap (λ x. x.stored key) same ∙ p.1)
-key-stored v answer w w' key idle (worker-goes-on _ middle _ reply _ (worker, counted, mid, (among, is), silent, does_it, answers, count, same) ended run) answer_is =
+key-stored v steps answer w w' key idle (worker-goes-on _ middle _ reply rest _ _ (worker, counted, mid, (among, is), silent, does_it, answers, count, same) ended run step) answer_is =
     let a = subst (λ x. AnswersWith w worker reply.took x) ended answers in
     let k = tries w mid worker counted reply.took idle (idle.item worker among) does_it a in
     let next : Idle middle = record {
@@ -96,16 +96,16 @@ key-stored v answer w w' key idle (worker-goes-on _ middle _ reply _ (worker, co
       item = λ y there. (let moved : Among (changed (is_worker v.0) (λ x. record x { steps = reply.steps; answer = reply.answer }) mid.workers) y = subst (λ m. Among m.workers y) same there in
           changed-task (is_worker v.0) reply.steps reply.answer w.workers idle.item y (subst (λ ws. Among (changed (is_worker v.0) (λ x. record x { steps = reply.steps; answer = reply.answer }) ws) y) k.1 moved));
     } in
-    key-stored v answer middle w' key next run answer_is
+    key-stored v rest answer middle w' key next run answer_is
 
 pub item-is-stored : ItemIsStored
 item-is-stored key t' (w', parts, results, inr (e, refused, is)) = absurd (cc)
-item-is-stored key t' (w', parts, results, inl (mid, v, (there, number, same), run)) =
+item-is-stored key t' (w', parts, results, inl (mid, v, (there, number, same), work)) =
     let idle : Idle mid = record {
       none = ap (λ x. x.slots) same;
       item = λ x among. ap (λ o. o.task) (the-one _ x (subst (λ m. Among m.workers x) same among));
     } in
-    let p = key-stored v (finals.Key key) mid w' key idle run refl in
+    let p = key-stored v work.steps (finals.Key key) mid w' key idle work.run refl in
     let e = p.1 in
     let f = parts.stored key in
     absurd (cc)

@@ -1,7 +1,8 @@
 -- Of whole states, trees, runs and what holds along them, examples and near misses.
-use Rattle.std.proofs.Common.{◌≡◌, ℕ, suc, zero, ◌<◌, ◌≤◌, ◌==◌, Bool, true, false, List, [], ◌∷◌, refl, ap, sym, ◌∙◌, subst, inl, arith}
-use Rattle.std.specs.Prelude.{◌≢◌, Option, Some, Result, Ok, slice_get}
+use Rattle.std.proofs.Common.{◌≡◌, ℕ, suc, zero, ◌<◌, ◌≤◌, ◌==◌, Bool, true, false, List, [], ◌∷◌, refl, ap, sym, ◌∙◌, subst, inl, inr, arith}
+use Rattle.std.specs.Prelude.{◌≢◌, Option, Some, Result, Ok, Err, slice_get}
 use Rattle.std.proofs.lemmas.Bool.Decides.{nat_tests}
+use Rattle.pagable_model.specs.declared.error.Error.TheVariants as errors
 use Rattle.pagable_model.specs.declared.data_key.OptionalDataKey.TheVariants as optional
 use Rattle.pagable_model.specs.declared.numbers.HandleNumber.{HandleNumber}
 use Rattle.pagable_model.specs.declared.numbers.NodeNumber.{NodeNumber}
@@ -19,7 +20,7 @@ use Rattle.pagable_world.specs.Words.{Among}
 use Rattle.pagable_world.specs.Whole.{Whole, KeyIs, HasType}
 use Rattle.pagable_world.specs.Seen.{IsLawful, HasNoFollowed, IsSettled, digest}
 use Rattle.pagable_model.specs.References.{SameReferences, references_in}
-use Rattle.pagable_world.specs.Pages.{WellFormed, HasValue, IsWhole}
+use Rattle.pagable_world.specs.Pages.{Pages, WellFormed, HasValue, IsWhole}
 use Rattle.pagable_world.specs.Stands.{NodeStands, here, away, none-stands, ValueStands, Represents, TreeWorld}
 use Rattle.pagable_world.specs.Interleaved.{GivesTree, ClaimsAreDistinct, IsInterleaved}
 use Rattle.pagable_world.specs.Headline.{Headline}
@@ -108,7 +109,7 @@ not-other-type stored t one_is (away _ key _ none_is is fits) = omega arith
 pub at-one : (stored : ℕ → Option Blob) (n : ℕ) → 0 < held n (lone stored).rows → n ≡ 1
 at-one stored n some = grind (arith, nat_tests)
 
-lone-represents : (stored : ℕ → Option Blob) → Represents sample (lone_pages stored) (lone_trees stored 0)
+pub lone-represents : (stored : ℕ → Option Blob) → Represents sample (lone_pages stored) (lone_trees stored 0)
 lone-represents stored =
     record {
       same = refl;
@@ -275,24 +276,33 @@ not-without : (stored : ℕ → Option Blob) (answer : LoadAnswer ℕ) (w w' : W
 not-without stored answer w w' none_is (load-ends _ _ reply _ (load, t, mid, ((among, is), mine), rest, counted, does_it, same) ended) = let e : Among [] load = subst (λ ls. Among ls load) none_is among in absurd (cc)
 not-without stored answer w w' none_is (load-goes-on _ middle _ reply _ (load, t, mid, ((among, is), mine), rest, counted, does_it, same) ended run) = let e : Among [] load = subst (λ ls. Among ls load) none_is among in absurd (cc)
 
-not-of-none : (i : ℕ) (answer : Result (Unit {0}) WorkerAnswer) (w w' : Whole) → w.list ≡ [] → i ≡ 1 → ¬ ListRun sample i answer w w'
-not-of-none _ _ w _ empty_is one_is (no-more _) = omega arith
-not-of-none i answer w w' empty_is one_is (skips _ n h key r _ _ mid low _ e (row, at, live, has_key_is) takes releases run) = let f : slice_get [] n ≡ Some h = subst (λ hs. slice_get hs n ≡ Some h) empty_is at in absurd (cc)
-not-of-none i answer w w' empty_is one_is (pages _ n h key _ _ mid _ e (row, at, live, has_key_is) once run) = let f : slice_get [] n ≡ Some h = subst (λ hs. slice_get hs n ≡ Some h) empty_is at in absurd (cc)
-not-of-none i _ w w' empty_is one_is (fails _ n h error _ _ e (row, at, live, has_key_is) once) = let f : slice_get [] n ≡ Some h = subst (λ hs. slice_get hs n ≡ Some h) empty_is at in absurd (cc)
+not-of-none : (s : Pages ℕ) (i : ℕ) (answer : Result (Unit {0}) WorkerAnswer) (w w' : Whole) → w.list ≡ [] → i ≡ 1 → ¬ ListRun sample s i answer w w'
+not-of-none s _ _ w _ empty_is one_is (no-more _) = omega arith
+not-of-none s i answer w w' empty_is one_is (skips _ n h key r _ _ mid low _ e (row, at, live, has_key_is) takes releases run) = let f : slice_get [] n ≡ Some h = subst (λ hs. slice_get hs n ≡ Some h) empty_is at in absurd (cc)
+not-of-none s i answer w w' empty_is one_is (pages _ n h key _ _ mid _ e (row, at, live, has_key_is) once run) = let f : slice_get [] n ≡ Some h = subst (λ hs. slice_get hs n ≡ Some h) empty_is at in absurd (cc)
+not-of-none s i _ w w' empty_is one_is (fails _ n h error _ _ e (row, at, live, has_key_is) once) = let f : slice_get [] n ≡ Some h = subst (λ hs. slice_get hs n ≡ Some h) empty_is at in absurd (cc)
 
 not-unpinned : (stored : ℕ → Option Blob) (k : HandleNumber) (x : ℕ) → ¬ PinsOver sample (lone_pages stored) first (Ok (k, x)) (new_pages stored)
 not-unpinned stored k x (w', run, parts, (row, y, (among, is), has, same)) = absurd (cc)
+
+-- no growth was refused
+not-full : (stored : ℕ → Option Blob) → ¬ PinsOver sample (lone_pages stored) first (Err errors.OutOfMemory) (lone_pages stored)
+not-full stored (w', parts, inr (is, full, back)) = let e = parts.refusals in omega arith
+not-full stored (w', parts, inl (inr (inl (key, (row, own, (unpinned, away_is), same), begins)))) = no-key stored row.node key away_is
+not-full stored (w', parts, inl (inr (inr (mid, l, key, (row, own, (unpinned, away_is), same), begins, run)))) = no-key stored row.node key away_is
+not-full stored (w', parts, inl (inl (stays, (known, own, fit, typed, left, full)))) = let e = parts.refusals in omega arith
 
 pub overs : OverExamples
 overs =
     record {
       load = λ stored key. load-ends (reading stored key 1 bare) (dropped stored key) (record { ended = Some (ends.Read 1); steps = 2 }) (ends.Read 1) (answers-it stored key) refl;
       not_without = λ stored answer w'. not-without stored answer (empty stored) w' refl;
-      pin = λ stored. (pinned stored, inl (pin-examples.met stored), record { rows = refl; cells = refl; list = refl; cache = refl; stored = λ key. refl }, (row_of 2 first_node modes.Pinned owners.Caller, 0, ((1, refl), refl), (0, refl), λ a. (λ e. e, λ e. e)));
+      pin = λ stored. (pinned stored, inl (pin-examples.met stored), record { rows = refl; cells = refl; list = refl; cache = refl; stored = λ key. refl; closed = refl; failures = refl; refusals = refl; loads = refl; last = (refl, refl, refl) }, (row_of 2 first_node modes.Pinned owners.Caller, 0, ((1, refl), refl), (0, refl), λ a. (λ e. e, λ e. e)));
       not_unpinned = not-unpinned;
       list = λ stored. no-more (empty stored);
-      not_of_none = λ stored w'. not-of-none 1 (Ok tt) (empty stored) w' refl refl;
-      same = λ stored. record { rows = refl; cells = refl; list = refl; cache = refl; stored = λ key. refl };
+      not_of_none = λ stored w'. not-of-none (new_pages stored) 1 (Ok tt) (empty stored) w' refl refl;
+      same = λ stored. record { rows = refl; cells = refl; list = refl; cache = refl; stored = λ key. refl; closed = refl; failures = refl; refusals = refl; loads = refl; last = (refl, refl, refl) };
+      not_full = not-full;
+      not_counted = λ stored same. let e = same.failures in omega arith;
       not_same = λ stored same. let e = same.rows in absurd (cc);
     }

@@ -1,5 +1,5 @@
 -- Of what single steps of workers and loads do, and of what is said of them, examples and near misses.
-use Rattle.std.proofs.Common.{◌≡◌, ℕ, [], refl, ap, sym, ◌∙◌, subst, inl, inr, arith}
+use Rattle.std.proofs.Common.{◌≡◌, ℕ, List, [], ◌∷◌, refl, ap, sym, ◌∙◌, subst, inl, inr, arith}
 use Rattle.std.specs.Prelude.{◌≢◌, Option, Some, None, Ok, slice_get}
 use Rattle.std.proofs.lemmas.Bool.Decides.{nat_tests}
 use Rattle.pagable_model.specs.declared.error.Error.TheVariants as errors
@@ -10,12 +10,13 @@ use Rattle.pagable_model.specs.Reading.{read, read_with}
 use Rattle.pagable_model.specs.Trees.{tree, ReadsTree, none-followed}
 use Rattle.pagable_world.specs.declared.rows.Mode.TheVariants as modes
 use Rattle.pagable_world.specs.declared.rows.Owner.TheVariants as owners
+use Rattle.pagable_world.specs.declared.events.Took.{Took}
 use Rattle.pagable_world.specs.declared.events.Took.TheVariants as took
 use Rattle.pagable_world.specs.declared.events.WorkerAnswer.{WorkerAnswer}
 use Rattle.pagable_world.specs.declared.events.WorkerAnswer.TheVariants as finals
 use Rattle.pagable_world.specs.Words.{times}
 use Rattle.pagable_world.specs.Seen.{digest}
-use Rattle.pagable_world.specs.Whole.{Whole, SlotRow, no_result, published, failed, of_item, of_cell, HasSlot}
+use Rattle.pagable_world.specs.Whole.{Whole, Written, SlotRow, no_result, published, failed, of_item, of_cell, HasSlot}
 use Rattle.pagable_world.specs.Falls.{Falls, nobody}
 use Rattle.pagable_world.specs.Handles.{row_of}
 use Rattle.pagable_world.specs.LoadSteps.{LoadFails, root_frame}
@@ -73,9 +74,9 @@ not-left-open : (stored : ℕ → Option Blob) → ¬ FailDoes (slot_open stored
 not-left-open stored (inl (h, (i, task, live, none_held), goes)) = absurd (cc)
 not-left-open stored (inr (touched, (r, falls))) = let e : times (λ (s : SlotRow). is_open s.outcome) (slot_open stored).slots ≡ times (λ (s : SlotRow). is_open s.outcome) (failed_slot stored).slots = ap (λ w. times (λ (s : SlotRow). is_open s.outcome) w.slots) falls.rest in omega arith
 
-not-without : (answer : WorkerAnswer) (w w' : Whole) → w.workers ≡ [] → ¬ WorkerRun sample first_worker w answer w'
-not-without answer w w' none_is (worker-ends _ _ reply _ (worker, counted, mid, (among, is), silent, does_it, answers, count, same) ended) = let e : slice_get [] among.0 ≡ Some worker = subst (λ vs. slice_get vs among.0 ≡ Some worker) none_is among.1 in absurd (cc)
-not-without answer w w' none_is (worker-goes-on _ middle _ reply _ (worker, counted, mid, (among, is), silent, does_it, answers, count, same) ended run) = let e : slice_get [] among.0 ≡ Some worker = subst (λ vs. slice_get vs among.0 ≡ Some worker) none_is among.1 in absurd (cc)
+not-without : (steps : List (Took Written)) (answer : WorkerAnswer) (w w' : Whole) → w.workers ≡ [] → ¬ WorkerRun sample first_worker w steps answer w'
+not-without steps answer w w' none_is (worker-ends _ _ reply _ _ (worker, counted, mid, (among, is), silent, does_it, answers, count, same) ended step) = let e : slice_get [] among.0 ≡ Some worker = subst (λ vs. slice_get vs among.0 ≡ Some worker) none_is among.1 in absurd (cc)
+not-without steps answer w w' none_is (worker-goes-on _ middle _ reply rest _ _ (worker, counted, mid, (among, is), silent, does_it, answers, count, same) ended run step) = let e : slice_get [] among.0 ≡ Some worker = subst (λ vs. slice_get vs among.0 ≡ Some worker) none_is among.1 in absurd (cc)
 
 load-fails : (stored : ℕ → Option Blob) (key : ℕ) → LoadFails sample (reading stored key 0 bare) owners.Caller (faulty_load key) errors.NoMoreKeys (dropped stored key)
 load-fails stored key =
@@ -114,8 +115,8 @@ turns =
       not_unpinned = not-unpinned;
       fails = fail-it;
       not_left_open = not-left-open;
-      run = worker-ends (working none_of (of_item nothing_written)) (answered (digest sample bare)) (record { took = took.Store None (Ok (digest sample bare)); answer = Some (finals.Key (digest sample bare)); steps = 1 }) (finals.Key (digest sample bare)) worker-stores refl;
-      not_without = λ stored answer w'. not-without answer (empty stored) w' refl;
+      run = worker-ends (working none_of (of_item nothing_written)) (answered (digest sample bare)) (record { took = took.Store None (Ok (digest sample bare)); answer = Some (finals.Key (digest sample bare)); steps = 1 }) (took.Store None (Ok (digest sample bare)) ∷ []) (finals.Key (digest sample bare)) worker-stores refl refl;
+      not_without = λ stored steps answer w'. not-without steps answer (empty stored) w' refl;
       load_fails = load-fails;
       let_go = let-go;
       not_let_go = λ stored let_it_go. let_it_go.results open_slot (0, refl) refl refl;

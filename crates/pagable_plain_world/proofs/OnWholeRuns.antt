@@ -1,6 +1,6 @@
 -- Of whole operations over an access, and of whole walks, examples and near misses.
 use Rattle.std.proofs.Common.{◌≡◌, ℕ, zero, suc, true, false, List, [], ◌∷◌, ◌++◌, filter, map, refl, ap, sym, ◌∙◌, subst, inl, inr, arith}
-use Rattle.std.specs.Prelude.{not, Option, Some, None, Ok, Result, slice_get}
+use Rattle.std.specs.Prelude.{not, Option, Some, None, Ok, Err, Result, slice_get}
 use Rattle.std.specs.List.{remove}
 use Rattle.std.proofs.lemmas.Bool.Decides.{nat_tests}
 use Rattle.pagable_model.specs.declared.error.Error.{Error}
@@ -33,9 +33,9 @@ use Rattle.pagable_world.specs.Handles.{row_of, with_handle, with_mode, ReleaseC
 use Rattle.pagable_world.specs.LoadSteps.{root_frame, LoadDoes, LoadGoesOn, GetsRoot, LoadStepped}
 use Rattle.pagable_world.specs.Order.{no-wait, more-waits, PinsFirst, at-once, by-load, Walk, finds, does, Walks, no-walk, more-walks}
 use Rattle.pagable_world.specs.Pages.{Pages}
-use Rattle.pagable_world.specs.Over.{LoadRun, load-ends, load-goes-on, PinTakenBack, ReadsOver, PagesOutItemOver, EntryRun, ListRun, no-more, skips, pages, fails, PagesOutListOver}
+use Rattle.pagable_world.specs.Over.{LoadRun, load-ends, load-goes-on, PinTakenBack, ReadsOver, WholeWork, PagesOutItemOver, EntryRun, ListRun, no-more, skips, pages, fails, PagesOutListOver}
 use Rattle.pagable_plain_world.specs.Samples.{empty, new_pages, lone, away, scheduled, pinned, first, second, first_node, first_load, none_of, all_of, only_of, dropped}
-use Rattle.pagable_plain_world.specs.SampleSeen.{sample, bare, reading, first_table, first_worker, first_identity, nothing_written, one_reference, tabled, working, answered}
+use Rattle.pagable_plain_world.specs.SampleSeen.{sample, bare, reading, first_table, first_worker, first_identity, nothing_written, one_reference, item_worker, tabled, working, answered}
 use Rattle.pagable_plain_world.specs.SampleTurns.{pages_of}
 use Rattle.pagable_plain_world.specs.WholeRunExamples.{unread_load, unread, taken_back, unpinned_too, unlisted, last_steps, walk_with, WholeRunExamples}
 use Rattle.pagable_plain_world.proofs.Alone.{given-least}
@@ -131,7 +131,7 @@ root-got key = (
   refl,
 )
 
-reads-over : (key : ℕ) → ReadsOver sample (new_pages (all_of bare)) key 1 (Ok 1) (new_pages (all_of bare))
+reads-over : (key : ℕ) → ReadsOver sample (new_pages (all_of bare)) key 1 (Ok 1) (pages_of (dropped (all_of bare) key))
 reads-over key = (
   unread (all_of bare) key,
   dropped (all_of bare) key,
@@ -139,7 +139,7 @@ reads-over key = (
   (refl, (refl, omega arith), refl),
   load-goes-on (unread (all_of bare) key) (reading (all_of bare) key 1 bare) (dropped (all_of bare) key) (record { ended = None; steps = 1 }) (ends.Read 1) (root-got key) refl
       (load-ends (reading (all_of bare) key 1 bare) (dropped (all_of bare) key) (record { ended = Some (ends.Read 1); steps = 2 }) (ends.Read 1) (answers-it (all_of bare) key) refl),
-  record { rows = refl; cells = refl; list = refl; cache = refl; stored = λ k. refl },
+  record { rows = refl; cells = refl; list = refl; cache = refl; stored = λ k. refl; closed = refl; failures = refl; refusals = refl; loads = refl; last = (refl, refl, refl) },
 )
 
 -- a load that has got nothing reads nothing where nothing is stored
@@ -163,27 +163,46 @@ not-missing key x s' (mid, w', l, (kk, next, same), run, parts) =
 
 -- ---- page-outs
 
+abbrev item_steps : List (Took Written)
+item_steps = took.Store None (Ok (digest sample bare)) ∷ []
+
+no-write : (i : Identity) (e : Error) → Among item_steps (took.Write i (Err e)) → ⊥
+no-write i e (zero, is) = absurd (cc)
+no-write i e (suc n, is) = absurd (cc)
+
+item-work : WholeWork sample (pages_of (tabled none_of)) first_worker (working none_of (of_item nothing_written)) (finals.Key (digest sample bare)) (answered (digest sample bare))
+item-work =
+    record {
+      worker = item_worker nothing_written;
+      steps = took.Store None (Ok (digest sample bare)) ∷ [];
+      starts = ((0, refl), refl);
+      run = turns.run;
+      order = inl (took.Store None (Ok (digest sample bare)) ∷ [], [], ([], digest sample bare, no-walk, refl), refl);
+      met = tt;
+      formless = λ i e among fault. absurd (no-write i e among);
+    }
+
 item-over : PagesOutItemOver sample (pages_of (tabled none_of)) first_table nothing_written (finals.Key (digest sample bare)) (pages_of (tabled (only_of (digest sample bare) bare))) first_table
 item-over = (
   answered (digest sample bare),
-  record { rows = refl; cells = refl; list = refl; cache = refl; stored = λ k. refl },
+  record { rows = refl; cells = refl; list = refl; cache = refl; stored = λ k. refl; closed = refl; failures = refl; refusals = refl; loads = refl; last = (refl, refl, refl) },
   record {
     known = λ i key height. (λ p. absurd (not-published (answered (digest sample bare)) i key height refl p), λ p. absurd (not-published (tabled (only_of (digest sample bare) bare)) i key height refl p));
     failures = λ i. (λ p. absurd (not-failed (answered (digest sample bare)) i refl p), λ p. absurd (not-failed (tabled (only_of (digest sample bare) bare)) i refl p));
     ended = λ i slot has without. unclaimed (answered (digest sample bare)) i slot refl has;
     ended_too = λ i slot has without. unclaimed (tabled (only_of (digest sample bare) bare)) i slot refl has;
   },
-  inl (working none_of (of_item nothing_written), first_worker, starts.item none_of, turns.run),
+  inl (working none_of (of_item nothing_written), first_worker, starts.item none_of, item-work),
 )
 
 not-on-none : (stored : ℕ → Option Blob) (key : ℕ) (s' : Pages ℕ) (t' : TableNumber) → ¬ PagesOutItemOver sample (new_pages stored) first_table nothing_written (finals.Key key) s' t'
-not-on-none stored key s' t' (w', parts, results, inl (mid, v, started, run)) = let a = started.0.1 in absurd (omega arith)
+not-on-none stored key s' t' (w', parts, results, inl (mid, v, started, work)) = let a = started.0.1 in absurd (omega arith)
 not-on-none stored key s' t' (w', parts, results, inr (e, refused, is)) = absurd (cc)
 
-not-past : (stored : ℕ → Option Blob) (key : ℕ) (w' : Whole) → ¬ EntryRun sample (empty stored) 0 (finals.Key key) w'
-not-past stored key w' (inl (e, refused, is)) = absurd (cc)
-not-past stored key w' (inr (inl (t, mid, e, made, refused, is))) = absurd (cc)
-not-past stored key w' (inr (inr (t, v, mid, low, (number, made), (h, node_type, table, next, there, kinds, row_is), run))) = let e : slice_get (empty stored).list 0 ≡ Some h = subst (λ w. slice_get w.list 0 ≡ Some h) made there in absurd (cc)
+not-past : (s : Pages ℕ) (stored : ℕ → Option Blob) (key : ℕ) (w' : Whole) → ¬ EntryRun sample s (empty stored) 0 (finals.Key key) w'
+not-past s stored key w' (inl (e, refused, is)) = absurd (cc)
+not-past s stored key w' (inr (inl (t, mid, e, made, refused, is))) = absurd (cc)
+not-past s stored key w' (inr (inr (t, v, mid, low, (number, made), (h, node_type, table, next, there, kinds, row_is), run))) = let e : slice_get (empty stored).list 0 ≡ Some h = subst (λ w. slice_get w.list 0 ≡ Some h) made there in absurd (cc)
 
 -- the entry of the list, taken and released
 entry-gone : (stored : ℕ → Option Blob) (key : ℕ) → ReleaseCall (away stored key) owners.Caller first (Ok tt) (unlisted stored key)
@@ -214,14 +233,14 @@ list-over stored key = (
   skips 1 0 first key (Ok tt) (Ok tt) (scheduled stored key) (away stored key) (unlisted stored key) (unlisted stored key) refl
       (row_of 1 first_node modes.LooseUnpinned owners.List, refl, ((0, refl), refl), (record { number = 1; node_type = 0; key = optional.Some key }, ((0, refl), refl), refl))
       (refl, refl) (entry-gone stored key) (no-more (unlisted stored key)),
-  record { rows = refl; cells = refl; list = refl; cache = refl; stored = λ k. refl },
+  record { rows = refl; cells = refl; list = refl; cache = refl; stored = λ k. refl; closed = refl; failures = refl; refusals = refl; loads = refl; last = (refl, refl, refl) },
 )
 
-none-left : (i : ℕ) (answer : Result (Unit {0}) WorkerAnswer) (w w' : Whole) → ListRun sample i answer w w' → i ≡ 0 → w' ≡ w
-none-left _ _ w _ (no-more _) zero_is = refl
-none-left i _ w w' (skips _ n h key r answer _ mid low _ e has takes releases run) zero_is = absurd (omega arith)
-none-left i _ w w' (pages _ n h key answer _ mid _ e has once run) zero_is = absurd (omega arith)
-none-left i _ w w' (fails _ n h error _ _ e has once) zero_is = absurd (omega arith)
+none-left : (s : Pages ℕ) (i : ℕ) (answer : Result (Unit {0}) WorkerAnswer) (w w' : Whole) → ListRun sample s i answer w w' → i ≡ 0 → w' ≡ w
+none-left s _ _ w _ (no-more _) zero_is = refl
+none-left s i _ w w' (skips _ n h key r answer _ mid low _ e has takes releases run) zero_is = absurd (omega arith)
+none-left s i _ w w' (pages _ n h key answer _ mid _ e has once run) zero_is = absurd (omega arith)
+none-left s i _ w w' (fails _ n h error _ _ e has once) zero_is = absurd (omega arith)
 
 -- after a release of a handle whose list is empty, the first handle isn't in the list
 not-relisted : (h : HandleNumber) (r : Result (Unit {0}) Error) (w w' : Whole) → w.list ≡ [] → w.last.handle ≡ 1 → ReleaseCall w owners.Caller h r w' → w'.list ≡ first ∷ [] → ⊥
@@ -235,24 +254,24 @@ not-relisted h r w w' empty_is last_is (inr (row, own, falls)) still =
     part [] new e = absurd (cc)
     part (x ∷ xs) (number, mode, owner, more) e = let f : x.number ≡ first = cc in let g : x.number.0 ≡ 1 = ap (λ y. y.0) f in omega arith
 
-overlooked : (stored : ℕ → Option Blob) (key i : ℕ) (answer : Result (Unit {0}) WorkerAnswer) (w w' : Whole) → ListRun sample i answer w w' → i ≡ 1 → answer ≡ Ok tt → w ≡ scheduled stored key → w'.list ≡ first ∷ [] → ⊥
-overlooked stored key _ _ w _ (no-more _) one_is ok is still = absurd (omega arith)
-overlooked stored key i _ w w' (skips _ n h k r answer _ mid low _ e has (there, takes) releases run) one_is ok is still =
+overlooked : (s : Pages ℕ) (stored : ℕ → Option Blob) (key i : ℕ) (answer : Result (Unit {0}) WorkerAnswer) (w w' : Whole) → ListRun sample s i answer w w' → i ≡ 1 → answer ≡ Ok tt → w ≡ scheduled stored key → w'.list ≡ first ∷ [] → ⊥
+overlooked s stored key _ _ w _ (no-more _) one_is ok is still = absurd (omega arith)
+overlooked s stored key i _ w w' (skips _ n h k r answer _ mid low _ e has (there, takes) releases run) one_is ok is still =
     let zero_is : n ≡ 0 = omega arith in
-    let same : w' ≡ low = none-left n answer low w' run zero_is in
+    let same : w' ≡ low = none-left s n answer low w' run zero_is in
     let list : mid.list ≡ remove w.list n = ap (λ x. x.list) takes in
     let none : remove w.list n ≡ [] = subst (λ x. remove x.list n ≡ []) (sym is) (subst (λ j. remove (scheduled stored key).list j ≡ []) (sym zero_is) refl) in
     let last : mid.last.handle ≡ 1 = ap (λ x. x.last.handle) takes ∙ ap (λ x. x.last.handle) is in
     not-relisted h r mid low (list ∙ none) last releases (sym (ap (λ x. x.list) same) ∙ still)
-overlooked stored key i _ w w' (pages _ n h k answer _ mid _ e (row, at, live, (cell, (among, number), none)) once run) one_is ok is still =
+overlooked s stored key i _ w w' (pages _ n h k answer _ mid _ e (row, at, live, (cell, (among, number), none)) once run) one_is ok is still =
     let there : Among (scheduled stored key).cells cell = subst (λ x. Among x.cells cell) is among in
     let a : has_key cell.key ≡ true = ap (λ c. has_key c.key) (the-one _ cell there) in
     let b : has_key cell.key ≡ false = ap has_key none in
     absurd (grind (arith, nat_tests))
-overlooked stored key i _ w w' (fails _ n h error _ _ e has once) one_is ok is still = absurd (cc)
+overlooked s stored key i _ w w' (fails _ n h error _ _ e has once) one_is ok is still = absurd (cc)
 
 not-overlooked : (stored : ℕ → Option Blob) (key : ℕ) → ¬ PagesOutListOver sample (pages_of (scheduled stored key)) (Ok tt) (pages_of (scheduled stored key))
-not-overlooked stored key (w', run, parts) = overlooked stored key 1 (Ok tt) (scheduled stored key) w' run refl refl refl parts.list
+not-overlooked stored key (w', run, parts) = overlooked (pages_of (scheduled stored key)) stored key 1 (Ok tt) (scheduled stored key) w' run refl refl refl parts.list
 
 -- ---- a walk
 

@@ -127,13 +127,13 @@ workers-do =
 not-claimed : ¬ Waits {W = Written} first_identity (took.Claim first_identity (Ok claims.Claimed) ∷ [])
 not-claimed w = elim w [ ]
 
-no-steps : (walks : List (Took Written)) → Walks sample [] walks → walks ≡ []
+pub no-steps : (walks : List (Took Written)) → Walks sample [] walks → walks ≡ []
 no-steps _ no-walk = refl
 
 not-nothing : ¬ AllSteps sample (of_item nothing_written) []
 not-nothing (walks, key, w, is) = not-push walks [] (took.Store None (Ok key)) is
 
-not-empty : (r : ArcRef) → ¬ Walk sample r []
+pub not-empty : (r : ArcRef) → ¬ Walk sample r []
 not-empty r walk = by walk refl
   where
     by : {xs : List (Took Written)} → Walk sample r xs → xs ≡ [] → ⊥

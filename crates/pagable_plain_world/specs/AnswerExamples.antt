@@ -20,7 +20,7 @@ use Rattle.pagable_plain_world.specs.Samples.{new_pages, lone, first, all_of, no
 use Rattle.pagable_plain_world.specs.SampleSeen.{sample, sample_types, bare, referring, reading, one_reference, claiming}
 use Rattle.pagable_plain_world.specs.SampleRuns.{unsettled, lone_pages, empty_trees}
 use Rattle.pagable_plain_world.specs.SampleTurns.{faulty_load, pages_of, load_event, wait_event, fail_reply}
-use Rattle.pagable_plain_world.specs.SampleAnswers.{nothing_reference, paged, nothing_trees, deep_trees, read_reply, answer_reply, publish_reply, referring_steps, run_types, choosy, write_reply, nothing_pages, two_stored, nothing_row, ringing, ring_paged}
+use Rattle.pagable_plain_world.specs.SampleAnswers.{shapeless, nothing_reference, paged, nothing_trees, deep_trees, read_reply, answer_reply, publish_reply, referring_steps, run_types, choosy, write_reply, nothing_pages, two_stored, nothing_row, ringing, ring_paged}
 
 -- What a load of a key answers is what its blob reads as, with the reference in it.
 pub record ReadExamples : Type 0 where
@@ -48,6 +48,7 @@ pub record PageOutExamples : Type 0 where
   pub of_writing : (w w' : Whole) → IsOfWriting choosy 0 w errors.Unregistered w'
   pub not_of_writing : (w w' : Whole) → ¬ IsOfWriting sample 0 w errors.Unregistered w'
   pub refuses : (stored : ℕ → Option Blob) → RefusesFormless sample (lone_pages stored) (empty_trees stored) wait_event (write_reply errors.TooLong) (lone_pages stored) (empty_trees stored)
+  pub not_shapeless : (stored : ℕ → Option Blob) → ¬ RefusesFormless shapeless (lone_pages stored) (empty_trees stored) wait_event (write_reply errors.TooLong) (lone_pages stored) (empty_trees stored)
   pub not_of_form : (stored : ℕ → Option Blob) → ¬ RefusesFormless sample (nothing_pages stored) (empty_trees stored) wait_event (write_reply errors.TooLong) (nothing_pages stored) (empty_trees stored)
   pub over_results : IsOverResults sample [] (nothing_reference ∷ []) (digest sample bare)
   pub not_formless : (key : ℕ) → ¬ IsOverResults sample [] (one_reference ∷ []) key

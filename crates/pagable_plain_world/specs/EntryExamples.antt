@@ -65,5 +65,5 @@ entry_done = entry_at bare_stored (callers_row ∷ []) 4 (optional.Some bare_key
 
 -- A listed cell is claimed, pinned, written, stored, keyed, published and released; so is a list of one.
 pub record EntryExamples : Type 0 where
-  pub entry : EntryRun sample listed_nothing 0 (finals.Key bare_key) entry_done
+  pub entry : EntryRun sample (pages_of listed_nothing) listed_nothing 0 (finals.Key bare_key) entry_done
   pub list : PagesOutListOver sample (pages_of listed_nothing) (Ok tt) (pages_of entry_done)

@@ -29,3 +29,4 @@ pub mod WholeRunExamples
 pub mod IdentityExamples
 pub mod EntryExamples
 pub mod ItemExamples
+pub mod TreeExamples

@@ -1,5 +1,5 @@
 -- Of whole states, trees, runs and what holds along them, examples and near misses.
-use Rattle.std.specs.Prelude.{ℕ, ◌≢◌, [], ◌∷◌, Option, Ok}
+use Rattle.std.specs.Prelude.{ℕ, ◌≢◌, [], ◌∷◌, Option, Ok, Err}
 use Rattle.pagable_model.specs.declared.error.Error.TheVariants as errors
 use Rattle.pagable_model.specs.declared.numbers.HandleNumber.{HandleNumber}
 use Rattle.pagable_model.specs.Blob.{Blob}
@@ -80,7 +80,9 @@ pub record OverExamples : Type 0 where
   pub not_without : (stored : ℕ → Option Blob) (answer : LoadAnswer ℕ) (w' : Whole) → ¬ LoadRun sample first_load (empty stored) answer w'
   pub pin : (stored : ℕ → Option Blob) → PinsOver sample (lone_pages stored) first (Ok (second, 0)) (pinned_pages stored)
   pub not_unpinned : (stored : ℕ → Option Blob) (k : HandleNumber) (x : ℕ) → ¬ PinsOver sample (lone_pages stored) first (Ok (k, x)) (new_pages stored)
-  pub list : (stored : ℕ → Option Blob) → ListRun sample 0 (Ok tt) (empty stored) (empty stored)
-  pub not_of_none : (stored : ℕ → Option Blob) (w' : Whole) → ¬ ListRun sample 1 (Ok tt) (empty stored) w'
+  pub not_full : (stored : ℕ → Option Blob) → ¬ PinsOver sample (lone_pages stored) first (Err errors.OutOfMemory) (lone_pages stored)
+  pub list : (stored : ℕ → Option Blob) → ListRun sample (new_pages stored) 0 (Ok tt) (empty stored) (empty stored)
+  pub not_of_none : (stored : ℕ → Option Blob) (w' : Whole) → ¬ ListRun sample (new_pages stored) 1 (Ok tt) (empty stored) w'
   pub same : (stored : ℕ → Option Blob) → SameParts (empty stored) (tabled stored)
+  pub not_counted : (stored : ℕ → Option Blob) → ¬ SameParts (record (empty stored) { failures = 1 }) (empty stored)
   pub not_same : (stored : ℕ → Option Blob) → ¬ SameParts (empty stored) (lone stored)

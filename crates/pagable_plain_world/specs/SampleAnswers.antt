@@ -27,6 +27,10 @@ use Rattle.pagable_plain_world.specs.Samples.{lone, first, first_node, all_of}
 use Rattle.pagable_plain_world.specs.SampleSeen.{sample, ring_types, bare, referring, reading, first_table, first_worker, first_identity, nothing_written, item_worker}
 use Rattle.pagable_plain_world.specs.SampleParts.{referring_load}
 
+-- an environment whose types have no shape
+abbrev pub shapeless : Seen ℕ Blob Written
+shapeless = record sample { types = record { nodes = λ t. None; parts = λ n. shapes.nothing } }
+
 -- a loose reference to a cell of the type 1, and an item of it
 abbrev pub nothing_reference : ArcRef
 nothing_reference = record { kind = record { 0 = 4 }; node = first_node; handle = first }

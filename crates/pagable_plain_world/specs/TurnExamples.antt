@@ -1,5 +1,5 @@
 -- Of what single steps of workers and loads do, and of what is said of them, examples and near misses.
-use Rattle.std.specs.Prelude.{ℕ, true, false, Option, Some, None, Ok}
+use Rattle.std.specs.Prelude.{ℕ, [], ◌∷◌, true, false, List, Option, Some, None, Ok}
 use Rattle.pagable_model.specs.declared.error.Error.TheVariants as errors
 use Rattle.pagable_model.specs.declared.numbers.Kind.{Kind}
 use Rattle.pagable_model.specs.Blob.{Blob}
@@ -7,11 +7,13 @@ use Rattle.pagable_world.specs.declared.rows.Mode.TheVariants as modes
 use Rattle.pagable_world.specs.declared.rows.Owner.TheVariants as owners
 use Rattle.pagable_world.specs.declared.events.PinStep.TheVariants as pinsteps
 use Rattle.pagable_world.specs.declared.events.LoadAnswer.TheVariants as ends
+use Rattle.pagable_world.specs.declared.events.Took.{Took}
+use Rattle.pagable_world.specs.declared.events.Took.TheVariants as took
 use Rattle.pagable_world.specs.declared.events.WorkerAnswer.{WorkerAnswer}
 use Rattle.pagable_world.specs.declared.events.WorkerAnswer.TheVariants as finals
 use Rattle.pagable_world.specs.Kinds.{FitsMode, IsModeOf}
 use Rattle.pagable_world.specs.Seen.{digest}
-use Rattle.pagable_world.specs.Whole.{Whole, of_item}
+use Rattle.pagable_world.specs.Whole.{Whole, Written, of_item}
 use Rattle.pagable_world.specs.LoadSteps.{LoadFails}
 use Rattle.pagable_world.specs.WorkerSteps.{PinDoes, WriteDoes, FailDoes}
 use Rattle.pagable_world.specs.Bounds.{IsWithinBound}
@@ -39,8 +41,8 @@ pub record TurnExamples : Type 0 where
   pub not_unpinned : (stored : ℕ → Option Blob) (w' : Whole) → ¬ WriteDoes sample (claimed stored) (item_worker one_written) first_identity (Ok nothing_written) w'
   pub fails : (stored : ℕ → Option Blob) → FailDoes (slot_open stored) (item_worker one_written) (failed_slot stored)
   pub not_left_open : (stored : ℕ → Option Blob) → ¬ FailDoes (slot_open stored) (item_worker one_written) (slot_open stored)
-  pub run : WorkerRun sample first_worker (working none_of (of_item nothing_written)) (finals.Key (digest sample bare)) (answered (digest sample bare))
-  pub not_without : (stored : ℕ → Option Blob) (answer : WorkerAnswer) (w' : Whole) → ¬ WorkerRun sample first_worker (empty stored) answer w'
+  pub run : WorkerRun sample first_worker (working none_of (of_item nothing_written)) (took.Store None (Ok (digest sample bare)) ∷ []) (finals.Key (digest sample bare)) (answered (digest sample bare))
+  pub not_without : (stored : ℕ → Option Blob) (steps : List (Took Written)) (answer : WorkerAnswer) (w' : Whole) → ¬ WorkerRun sample first_worker (empty stored) steps answer w'
   pub load_fails : (stored : ℕ → Option Blob) (key : ℕ) → LoadFails sample (reading stored key 0 bare) owners.Caller (faulty_load key) errors.NoMoreKeys (dropped stored key)
   pub let_go : (stored : ℕ → Option Blob) → HasLetGo (failed_slot stored) (item_worker one_written)
   pub not_let_go : (stored : ℕ → Option Blob) → ¬ HasLetGo (slot_open stored) (item_worker one_written)

@@ -13,7 +13,7 @@ use Rattle.pagable_world.specs.Seen.{digest}
 use Rattle.pagable_world.specs.Order.{Walk}
 use Rattle.pagable_world.specs.Pages.{Pages}
 use Rattle.pagable_world.specs.Over.{PinTakenBack, ReadsOver, PagesOutItemOver, EntryRun, PagesOutListOver}
-use Rattle.pagable_plain_world.specs.Samples.{empty, new_pages, lone, lone_listed, lone_unlisted, scheduled, first, none_of, all_of, only_of, key_begun}
+use Rattle.pagable_plain_world.specs.Samples.{empty, new_pages, lone, lone_listed, lone_unlisted, scheduled, first, none_of, all_of, only_of, key_begun, dropped}
 use Rattle.pagable_plain_world.specs.SampleSeen.{sample, bare, first_table, first_identity, nothing_written, one_reference, tabled}
 use Rattle.pagable_plain_world.specs.SampleTurns.{load_of, pages_of}
 
@@ -47,12 +47,12 @@ walk_with rest = took.Claim first_identity (Ok claims.Claimed) ∷ took.Pin firs
 pub record WholeRunExamples : Type 0 where
   pub taken_back : (stored : ℕ → Option Blob) → PinTakenBack sample (lone stored) first (taken_back stored)
   pub not_unpinned : (stored : ℕ → Option Blob) → ¬ PinTakenBack sample (lone stored) first (unpinned_too stored)
-  pub reads : (key : ℕ) → ReadsOver sample (new_pages (all_of bare)) key 1 (Ok 1) (new_pages (all_of bare))
+  pub reads : (key : ℕ) → ReadsOver sample (new_pages (all_of bare)) key 1 (Ok 1) (pages_of (dropped (all_of bare) key))
   pub not_missing : (key x : ℕ) (s' : Pages ℕ) → ¬ ReadsOver sample (new_pages none_of) key 1 (Ok x) s'
   pub item : PagesOutItemOver sample (pages_of (tabled none_of)) first_table nothing_written (finals.Key (digest sample bare)) (pages_of (tabled (only_of (digest sample bare) bare))) first_table
   pub not_on_none : (stored : ℕ → Option Blob) (key : ℕ) (s' : Pages ℕ) (t' : TableNumber) → ¬ PagesOutItemOver sample (new_pages stored) first_table nothing_written (finals.Key key) s' t'
-  pub entry_refused : (stored : ℕ → Option Blob) → EntryRun sample (lone_listed stored) 0 (finals.Failed errors.OutOfMemory) (record (lone_listed stored) { refusals = 1 })
-  pub not_past : (stored : ℕ → Option Blob) (key : ℕ) (w' : Whole) → ¬ EntryRun sample (empty stored) 0 (finals.Key key) w'
+  pub entry_refused : (stored : ℕ → Option Blob) → EntryRun sample (pages_of (lone_listed stored)) (lone_listed stored) 0 (finals.Failed errors.OutOfMemory) (record (lone_listed stored) { refusals = 1 })
+  pub not_past : (s : Pages ℕ) (stored : ℕ → Option Blob) (key : ℕ) (w' : Whole) → ¬ EntryRun sample s (empty stored) 0 (finals.Key key) w'
   pub list : (stored : ℕ → Option Blob) (key : ℕ) → PagesOutListOver sample (pages_of (scheduled stored key)) (Ok tt) (pages_of (unlisted stored key))
   pub not_overlooked : (stored : ℕ → Option Blob) (key : ℕ) → ¬ PagesOutListOver sample (pages_of (scheduled stored key)) (Ok tt) (pages_of (scheduled stored key))
   pub walk : (key : ℕ) → Walk sample one_reference (walk_with (took.Store (Some first_identity) (Ok key) ∷ last_steps key))

@@ -13,7 +13,8 @@ ghost use Rattle.pagable_plain_world.specs.HeadlineExamples.{HeadlineExamples};
 ghost use Rattle.pagable_plain_world.specs.WholeRunExamples.{WholeRunExamples};
 ghost use Rattle.pagable_plain_world.specs.IdentityExamples.{IdentityExamples};
 ghost use Rattle.pagable_plain_world.specs.EntryExamples.{EntryExamples};
-ghost use Rattle.pagable_plain_world.specs.ItemExamples.{ItemIsStored};
+ghost use Rattle.pagable_plain_world.specs.ItemExamples.{ItemIsStored, FailureExamples};
+ghost use Rattle.pagable_plain_world.specs.TreeExamples.{TreeExamples};
 ghost use Rattle.pagable_plain_world.specs.PartExamples.{LoadPartExamples, WorkerPartExamples};
 
 /// The calls on handles and nodes.
@@ -58,6 +59,7 @@ pub fn runs()
     ensures runs { RunExamples }
     ensures facts { FactExamples }
     ensures overs { OverExamples }
+    ensures trees { TreeExamples }
 {}
 
 /// Single steps of workers and loads, and what is said of them.
@@ -100,7 +102,8 @@ pub fn entries()
     ensures { EntryExamples }
 {}
 
-/// A page-out of an item that answers a key and stores nothing.
+/// Page-outs that answer a key and store nothing, or fail at will.
 pub fn items()
-    ensures { ItemIsStored }
+    ensures stored { ItemIsStored }
+    ensures failures { FailureExamples }
 {}

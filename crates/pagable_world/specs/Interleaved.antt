@@ -62,9 +62,13 @@ PinGives m s u (events.Call (calls.LoadEnd l x)) (answers.CallReply (replies.Loa
 PinGives m s u (events.WorkerStep v) (answers.WorkerMoved (Ok reply)) s' u' = (i : Identity) (k : HandleNumber) → reply.took ≡ took.Pin i (Ok (pinsteps.Held k)) → GivesTree m s' u' k
 PinGives m s u event reply s' u' = Unit {0}
 
--- the node's value means something that has no form
+-- the value's type has a shape, and it means something that has no form of it
+abbrev pub IsFormless : {N B W : Type 0} → Seen N B W → N → Type 0
+IsFormless m x = (shape : Shape) × (m.types.nodes (m.node_type x) ≡ Some shape) × NoFormOfSome (m.means x) (nesting 0 m.types.parts) shape
+
+-- the node's value is such a one
 abbrev pub HasFormlessValue : {N B W : Type 0} → Seen N B W → Pages N → NodeNumber → Type 0
-HasFormlessValue {N} m s n = (x : N) × HasValue s n.0 x × ((shape : Shape) → m.types.nodes (m.node_type x) ≡ Some shape → NoFormOfSome (m.means x) (nesting 0 m.types.parts) shape)
+HasFormlessValue {N} m s n = (x : N) × HasValue s n.0 x × IsFormless m x
 
 -- a write is refused by a name that says that a value has no form only where that is so
 abbrev pub RefusesFormless : {N B W : Type 0} → Seen N B W → Fact N B W

@@ -1,4 +1,5 @@
 use Rattle.pagable_plain_world.proofs.OnRuns.{wholes, run-examples, facts, overs}
+use Rattle.pagable_plain_world.proofs.OnTrees.{trees}
 use Rattle.pagable_plain_world.proofs.examples.runs.Goals as goal
 
 pub returns-clause-wholes : goal.returns-clause-wholes
@@ -12,3 +13,6 @@ returns-clause-facts c = facts
 
 pub returns-clause-overs : goal.returns-clause-overs
 returns-clause-overs c = overs
+
+pub returns-clause-trees : goal.returns-clause-trees
+returns-clause-trees c = trees
