@@ -89,11 +89,12 @@ def is_of(told, function):
     """Whether a name that the prover tells is that of a function."""
     module, subject, trait, name = function
     path = told.split("::")[1:]
+    if subject and not trait:
+        # (a type's own functions are told by the type's module, wherever their impl stands)
+        return path[-2:] == [subject, name]
     modules = [] if module == "lib" else module.split("::")
-    if path[: len(modules)] != modules or path[-1] != name:
-        return False
-    owner = "::".join(path[len(modules) : -1])
-    return subject.lower() in owner.lower() and trait.lower() in owner.lower()
+    owner = "::".join(path[len(modules) : -1]).lower()
+    return path[: len(modules)] == modules and path[-1] == name and subject.lower() in owner and trait.lower() in owner
 
 
 class Copy:
