@@ -1,10 +1,9 @@
 -- A tree of canonical types has one key, a stored tree has the key that it stands under, and keys tell trees apart.
-use Rattle.std.proofs.Common.{◌≡◌, ℕ, List, [], ◌∷◌, map, Option, Result, Ok, refl, sym, ap, ◌∙◌, subst}
+use Rattle.std.proofs.Common.{◌≡◌, ℕ, List, [], ◌∷◌, map, Option, Ok, refl, sym, ap, ◌∙◌, subst}
 use Rattle.std.proofs.lemmas.List.{append-nil}
-use Rattle.pagable_model.specs.declared.error.Error.{Error}
 use Rattle.pagable_model.specs.Meaning.{Meaning, number, integer, text, pattern, none, pair, variant, reference, followed}
 use Rattle.pagable_model.specs.Shape.{Shape}
-use Rattle.pagable_model.specs.Reading.{Rest, read, read_typed}
+use Rattle.pagable_model.specs.Reading.{read, read_typed}
 use Rattle.pagable_model.specs.Blob.{Blob, key_of}
 use Rattle.pagable_model.specs.Trees.{Tree, KeyRef, Types, tree, key_ref, type_of, ReadsAs, IsFollowed, number-followed, integer-followed, text-followed, pattern-followed, none-followed, pair-followed, variant-followed, reference-followed, blob_context, rest_of}
 use Rattle.pagable_model.specs.Deep.{Kid, kind_of_kid, tree_of_kid}
@@ -15,7 +14,7 @@ use Rattle.pagable_laws.specs.TreeLaws.{IsOneKey, IsOneItemKey, IsStoredKey, IsT
 use Rattle.pagable_laws.proofs.Again.{form-again}
 use Rattle.pagable_laws.proofs.OneForm.{one-form}
 use Rattle.pagable_laws.proofs.Along.{Along, number-along, integer-along, text-along, pattern-along, none-along, pair-along, variant-along, reference-along, AllTwo, no-two, more-two, form-along}
-use Rattle.pagable_laws.proofs.Trees.{same_some, tree_is}
+use Rattle.pagable_laws.proofs.Trees.{same_some, same_result, tree_is}
 
 -- ---- what a tree's references are
 
@@ -140,12 +139,6 @@ pub stored_key : IsStoredKey
 stored_key hash store types t key own_keys h = node-key own_keys t.type key h.own t.meaning h.stands (keys-along own_keys h.follows)
 
 -- ---- keys tell trees apart
-
-same_result : {X : Type 0} (r : Result (X × Rest ℕ) Error) (m n : X) (x y : Rest ℕ) → r ≡ Ok (m, x) → r ≡ Ok (n, y) → m ≡ n
-same_result {X} r m n x y e f =
-    let both : (let z : Result (X × Rest ℕ) Error = Ok (m, x) in z) ≡ Ok (n, y) = sym e ∙ f in
-    let pairs : (m, x) ≡ (n, y) = cc in
-    ap (λ (p : X × Rest ℕ). p.0) pairs
 
 module _ {store other : ℕ → Option Blob} {types : Types} (shares : SharesNoKey store other) where
   same-stored : {type key : ℕ} {m n : Meaning KeyRef} → IsReadableType types type → StoredAs store types type key m → StoredAs other types type key n → m ≡ n

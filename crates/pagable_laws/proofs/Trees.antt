@@ -10,11 +10,11 @@ use Rattle.pagable_laws.specs.TreeLaws.{IsOneTree}
 pub same_some : {X : Type 0} (x y : X) → Some x ≡ Some y → x ≡ y
 same_some x y e = cc
 
-same_read : (r : Result (Meaning KeyRef × Rest ℕ) Error) (m n : Meaning KeyRef) (x y : Rest ℕ) → r ≡ Ok (m, x) → r ≡ Ok (n, y) → m ≡ n
-same_read r m n x y e f =
-    let both : (let z : Result (Meaning KeyRef × Rest ℕ) Error = Ok (m, x) in z) ≡ Ok (n, y) = sym e ∙ f in
+pub same_result : {X : Type 0} (r : Result (X × Rest ℕ) Error) (m n : X) (x y : Rest ℕ) → r ≡ Ok (m, x) → r ≡ Ok (n, y) → m ≡ n
+same_result {X} r m n x y e f =
+    let both : (let z : Result (X × Rest ℕ) Error = Ok (m, x) in z) ≡ Ok (n, y) = sym e ∙ f in
     let pairs : (m, x) ≡ (n, y) = cc in
-    ap (λ (p : Meaning KeyRef × Rest ℕ). p.0) pairs
+    ap (λ (p : X × Rest ℕ). p.0) pairs
 
 pub tree_is : (x y : ℕ) (a b : Meaning ⊥) → x ≡ y → a ≡ b → tree x a ≡ tree y b
 tree_is x y a b e1 e2 = rw (e1, e2) refl
@@ -24,7 +24,7 @@ module _ {store : ℕ → Option Blob} {types : Types} where
   same-reading {type} {key} {m} {n} h g =
       let blobs : h.blob ≡ g.blob = same_some _ _ (sym h.stored ∙ g.stored) in
       let moved = ap (λ (b : Blob). read_typed (blob_context types) (types.nodes type) (rest_of b)) blobs in
-      same_read _ m n h.rest g.rest h.reads (moved ∙ g.reads)
+      same_result _ m n h.rest g.rest h.reads (moved ∙ g.reads)
 
   same-followed : {m n : Meaning KeyRef} {a b : Meaning ⊥} → IsFollowed (ReadsAs store types) m a → IsFollowed (ReadsAs store types) n b → m ≡ n → a ≡ b
   same-followed (number-followed x) (number-followed y) e = let same : x ≡ y = cc in rw same refl
