@@ -20,8 +20,6 @@ mod eager;
 #[cfg(test)]
 mod equal;
 #[cfg(test)]
-mod json;
-#[cfg(test)]
 mod json_values;
 #[cfg(test)]
 mod keys;
