@@ -5,9 +5,9 @@ use crate::outcome::{Outcome, Reading};
 use crate::sums::{Sum, add_text};
 use anyhow::Context;
 use pagable::{
-    DataKey, HandleNumber, InMemoryBlobs, OptionalDataKey, PagableData, Pager, WeighHash,
+    DataKey, HandleNumber, InMemoryBlobs, OptionalDataKey, PagableData, Pager, WeighHash, paging,
 };
-use pagable_samples::{TextEnv, TextNode, paging};
+use pagable_examples::{TextEnv, TextNode};
 use std::alloc::{AllocError, Global};
 use std::time::{Clock, Instant};
 

@@ -6,7 +6,7 @@ use pagable::{
     Error, NoReferences, PagableDeserialize, PagableDeserializerImpl, PagableSerialize,
     PagableSerializerImpl, SessionContext, WeighHash,
 };
-use pagable_samples::TextEnv;
+use pagable_examples::TextEnv;
 use std::alloc::Global;
 use std::time::{Clock, Duration, Instant};
 

@@ -5,7 +5,7 @@ use pagable::{
     Error, NoReferences, PagableDeserializer, PagableDeserializerImpl, SessionContext, WeighHash,
     read_twice,
 };
-use pagable_samples::TextEnv;
+use pagable_examples::TextEnv;
 use std::alloc::Global;
 
 type AnyEnv = TextEnv<WeighHash>;

@@ -4,7 +4,7 @@ use crate::equal::equal;
 use pagable::{
     Error, NoReferences, PagableBoxDeserialize, PagableDeserializerImpl, SessionContext, WeighHash,
 };
-use pagable_samples::TextEnv;
+use pagable_examples::TextEnv;
 use std::alloc::Global;
 
 type AnyEnv = TextEnv<WeighHash>;

@@ -3,9 +3,9 @@
 use either::Either;
 use pagable::{
     Beginning, DataKey, Error, HandleNumber, InMemoryBlobs, LoadNumber, NodeNumber,
-    OptionalDataKey, PagableData, Pager, Pinning, Want, WeighHash,
+    OptionalDataKey, PagableData, Pager, Pinning, Want, WeighHash, paging,
 };
-use pagable_samples::{FailingStorage, TextEnv, TextNode, paging};
+use pagable_examples::{FailingStorage, TextEnv, TextNode};
 use std::alloc::Global;
 
 pub type TextStorage = FailingStorage<InMemoryBlobs<TextEnv<WeighHash>>>;
@@ -32,7 +32,7 @@ pub enum Call {
     SetDataKey(HandleNumber, u128),
     Pending,
     TakePending(usize),
-    /// Page-out of all that waits, by the calls of `pagable_samples`.
+    /// Page-out of all that waits, by the calls of `paging`.
     PageOut,
     Fetch(u128),
     LoadBegin(HandleNumber),

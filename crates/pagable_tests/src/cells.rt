@@ -3,7 +3,7 @@
 
 use crate::equal::equal;
 use pagable::{Error, PagableSerialize, PagableSerializerImpl, WeighHash};
-use pagable_samples::TextEnv;
+use pagable_examples::TextEnv;
 use std::alloc::Global;
 use std::sync::OnceLock;
 use std::sync::atomic::{AtomicI64, Ordering};

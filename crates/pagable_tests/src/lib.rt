@@ -1,6 +1,6 @@
 //! Tests of the crates below that are no data: cursors of readers and writers, byte arrays, slices, second readings, boxes,
 //! cells, references, registries, types of one's own, an eager one among them, sessions, JSON values that are written, regular
-//! expressions, laws, the pager's calls, lines that fail, and lists of events on the machine.
+//! expressions, laws, the pager's calls, and lists of events on the machine.
 #![tactic(auto)]
 
 #[cfg(test)]
@@ -28,8 +28,6 @@ mod laws;
 #[cfg(test)]
 mod lent;
 #[cfg(test)]
-mod levels;
-#[cfg(test)]
 mod machine;
 #[cfg(test)]
 mod own_types;
@@ -41,8 +39,6 @@ mod patterns;
 mod references;
 #[cfg(test)]
 mod registries;
-#[cfg(test)]
-mod serve;
 #[cfg(test)]
 mod session;
 #[cfg(test)]

@@ -4,9 +4,9 @@
 use crate::calls::{HELLO, Refusal, TextPager, TextStorage, empty, refusal_of};
 use pagable::{
     Beginning, Error, EventReply, HandleNumber, LoadAnswer, LoadNumber, LoadReply, Machine,
-    MachineCall, MachineEvent, PagableData, Reply, WeighHash,
+    MachineCall, MachineEvent, PagableData, Reply, WeighHash, paging,
 };
-use pagable_samples::{TextEnv, TextNode, paging};
+use pagable_examples::{TextEnv, TextNode};
 use std::alloc::Global;
 use std::process::Abort;
 use std::sync::Arc;

@@ -6,7 +6,7 @@ use pagable::{
     Env, Error, NoReferences, PagableDeserialize, PagableDeserializerImpl, PagableSerialize,
     PagableSerializerImpl, SessionContext, StaticStr, StaticValue, StaticValueEntry,
 };
-use registry_samples::{Animal, AnimalReader, Sighting, Zoo};
+use pagable_examples::{Animal, AnimalReader, Sighting, Zoo};
 use std::alloc::Global;
 use std::test::Fail;
 

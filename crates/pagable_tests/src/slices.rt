@@ -2,7 +2,7 @@
 
 use crate::equal::equal;
 use pagable::{Error, PagableSerializerImpl, WeighHash, serialize_slice};
-use pagable_samples::TextEnv;
+use pagable_examples::TextEnv;
 use std::alloc::Global;
 use std::test::Fail;
 

@@ -7,7 +7,7 @@ use pagable::{
     MachineCall, MachineEvent, NodeSet, PagableData, Pager, Reply, SerializerForPaging,
     SessionContext, read_value,
 };
-use pagable_samples::FailingStorage;
+use pagable_examples::FailingStorage;
 use std::alloc::Global;
 use std::sync::Arc;
 

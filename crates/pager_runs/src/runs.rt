@@ -12,8 +12,8 @@ use crate::nodes::RunEnv;
 use crate::plain_machine::PlainMachine;
 use crate::plan::Plan;
 use pagable::{DataKey, Error, HandleNumber, InMemoryBlobs, Machine, PagableStorage, Pager};
+use pagable_examples::FailingStorage;
 use pagable_plain_world::{PlainFailure, PlainPager, PlainStore};
-use pagable_samples::FailingStorage;
 use std::alloc::Global;
 
 /// Both machines, what the next calls are drawn by, and what was done.

@@ -8,7 +8,7 @@ use pagable::{
     Env, Error, NoReferences, PagableDeserialize, PagableDeserializer, PagableDeserializerImpl,
     PagableSerialize, PagableSerializerImpl, PathText, SavedRegex, SessionContext, Thin, WeighHash,
 };
-use pagable_samples::{Nested, NestedEnv, TextEnv};
+use pagable_examples::{Expression, Sheet, TextEnv};
 use serde_json::Value;
 use smallvec::SmallVec;
 use std::alloc::Global;
@@ -259,7 +259,7 @@ fn holder(alloc: Global, name: &str, input: &[u8]) -> anyhow::Result<Option<Answ
         "Box<u16>" => replay_as::<Box<u16>>(alloc, input),
         "(u8,u8)" => replay_as::<(u8, u8)>(alloc, input),
         "(bool,String)" => replay_as::<(bool, String)>(alloc, input),
-        "Nested" => replay_in::<NestedEnv, Nested>(alloc, &NestedEnv, input),
+        "Expression" => replay_in::<Sheet, Expression>(alloc, &Sheet, input),
         _ => small(alloc, name, input),
     }
 }
