@@ -35,9 +35,9 @@ use Rattle.pagable_world.specs.Bounds.{Unfolds, unfolds, ends-here}
 use Rattle.pagable_world.specs.Premises.{ReadsItsTypes, AsksWell}
 use Rattle.pagable_world.specs.Interleaved.{GivesTree, IsFormless, RefusesFormless, AnswerLeavesAll}
 use Rattle.pagable_world.specs.Alone.{StandTogether, IsFilledByReading, DeepIsRefused, LoadIsSound}
-use Rattle.pagable_laws.specs.SmallWorlds.{empty, new_pages, first, first_node, first_table, first_identity, lone, twice_cached, all_of, none_of, only_of, bare, bare_load, one_reference, nothing_identity, nothing_reference, nothing_written, paged_item, item_worker, working, slot_of, cell_load, second, sound_world, paged, pages_of, trees_of}
+use Rattle.pagable_laws.specs.SmallWorlds.{new_pages, first, first_node, first_table, first_identity, lone, twice_cached, all_of, none_of, only_of, bare, bare_load, one_reference, nothing_identity, nothing_reference, nothing_written, paged_item, item_worker, working, slot_of, cell_load, second, sound_world, paged, pages_of, trees_of}
 use Rattle.pagable_laws.specs.SmallMoments.{sample, sample_types, run_types, unsettled, following, misnaming, lone_pages, worker_event, write_reply, answer_reply, deep_reply, load_event, refused_reply, load_moment, call_moment}
-use Rattle.pagable_laws.specs.Refused.{PremisesRefuse, FactsRefuse}
+use Rattle.pagable_laws.specs.Refused.{PremisesRefuse, Passes, FactsRefuse}
 use Rattle.pagable_laws.proofs.Lone.{the-one, no-key}
 
 -- ---- premises
@@ -126,7 +126,7 @@ has-a-form x one_is (shape, is, none_has) =
     let without = subst (NoFormOfSome (sample.means x) (nesting 0 sample_types.parts)) same none_has in
     without.no_form [] [] (subst (λ a. FormAt (nesting 0 sample_types.parts) shapes.nothing a [] []) (sym without.is) (nothing-form deepest))
 
-not-of-form : (stored : ℕ → Option Blob) → ¬ RefusesFormless sample (lone_pages stored 1) (trees_of (lone stored) 1) worker_event write_reply (lone_pages stored 1) (trees_of (lone stored) 1)
+not-of-form : (stored : ℕ → Option Blob) → ¬ Passes (RefusesFormless sample) (lone_pages stored 1) (trees_of (lone stored) 1) worker_event write_reply
 not-of-form stored all =
     let given = all first_identity errors.TooLong refl refl in
     has-a-form given.0 (ap (λ v. v.1) (the-one _ (1, given.0) given.1)) given.2
@@ -139,7 +139,7 @@ reads-bare-tree key = record { own = none; reads = record { blob = bare; stored 
 key-is : (t : Tree) (key : ℕ) → KeyOf sample.hash sample_types t key → key ≡ digest sample bare
 key-is _ _ (key-of t s bytes kids keys is form each) = refl
 
-not-unstored : (key : ℕ) → ¬ AnswerLeavesAll sample (new_pages none_of) (trees_of (paged none_of key) 1) worker_event (answer_reply key) (new_pages none_of) (trees_of (paged none_of key) 1)
+not-unstored : (key : ℕ) → ¬ Passes (AnswerLeavesAll sample) (new_pages none_of) (trees_of (paged none_of key) 1) worker_event (answer_reply key)
 not-unstored key all =
     let left = (all (item_worker paged_item) key ((0, refl), refl) refl).blobs nothing_identity (meets-of-item paged_item nothing_reference refl (0, refl)) in
     let e = left.stored in
@@ -158,10 +158,10 @@ not-met w _ (meets-of-item written r task among) = let e : written ≡ nothing_w
 not-met w _ (meets-entry h i task) = absurd (cc)
 not-met w _ (meets-below i slot written r meets has is among) = not-met w i meets
 
-not-deep : (stored : ℕ → Option Blob) → ¬ DeepIsRefused sample (pages_of (working stored)) (trees_of (working stored) 0) worker_event deep_reply (pages_of (empty stored)) (trees_of (empty stored) 0)
+not-deep : (stored : ℕ → Option Blob) → ¬ Passes (DeepIsRefused sample) (pages_of (working stored)) (trees_of (working stored) 0) worker_event deep_reply
 not-deep stored all = elim ((all (item_worker nothing_written) ((0, refl), refl)).0 refl) [ inl (r, among, deep) ↦ absurd (cc) | inr (inl (r, among, none_is)) ↦ absurd (cc) | inr (inr (i, key, meets, is, deep)) ↦ not-met (working stored) i meets ]
 
-not-lost : (stored : ℕ → Option Blob) (key : ℕ) → ¬ LoadIsSound (pages_of (sound_world stored key)) (trees_of (sound_world stored key) 0) load_event (refused_reply (errors.NoData key)) (pages_of (empty stored)) (trees_of (empty stored) 0)
+not-lost : (stored : ℕ → Option Blob) (key : ℕ) → ¬ Passes LoadIsSound (pages_of (sound_world stored key)) (trees_of (sound_world stored key) 0) load_event (refused_reply (errors.NoData key))
 not-lost stored key all = all (cell_load key) first_node 0 first (errors.NoData key) ((0, refl), refl) (second, refl) (first_table, first_identity, 0, refl, (slot_of one_reference (published key 0), ((0, refl), refl, refl, refl), refl)) refl
 
 pub facts_refuse : FactsRefuse

@@ -1,10 +1,9 @@
 -- What the definitions refuse beside what wrong bodies of contracts try: premises, which stand left of an arrow; facts that end in a
 -- catch-all, and so would hold of an event that they missed; and grammars under an existential.
-use Rattle.std.specs.Prelude.{ℕ, ◌≢◌, List, [], ◌∷◌, Option, None, Ok}
+use Rattle.std.specs.Prelude.{ℕ, ◌≢◌, List, [], ◌∷◌, Option, Ok}
 use Rattle.pagable_model.specs.declared.error.Error.TheVariants as errors
 use Rattle.pagable_model.specs.declared.numbers.ArcRef.{ArcRef}
 use Rattle.pagable_model.specs.Blob.{Blob}
-use Rattle.pagable_world.specs.declared.answers.Pinning.TheVariants as pinnings
 use Rattle.pagable_world.specs.declared.calls.Call.TheVariants as calls
 use Rattle.pagable_world.specs.declared.calls.Reply.TheVariants as replies
 use Rattle.pagable_world.specs.declared.events.Claim.TheVariants as claims
@@ -13,11 +12,15 @@ use Rattle.pagable_world.specs.declared.events.PinStep.TheVariants as pinsteps
 use Rattle.pagable_world.specs.declared.events.Took.{Took}
 use Rattle.pagable_world.specs.declared.events.Took.TheVariants as took
 use Rattle.pagable_world.specs.declared.events.WorkerAnswer.{WorkerAnswer}
+use Rattle.pagable_world.specs.declared.events.Event.{Event}
 use Rattle.pagable_world.specs.declared.events.Event.TheVariants as events
+use Rattle.pagable_world.specs.declared.events.EventReply.{EventReply}
 use Rattle.pagable_world.specs.declared.events.EventReply.TheVariants as answers
 use Rattle.pagable_world.specs.Whole.{Whole, Written, of_item}
 use Rattle.pagable_world.specs.Seen.{IsLawful, IsSettled, digest}
-use Rattle.pagable_world.specs.Stands.{Represents}
+use Rattle.pagable_world.specs.Pages.{Pages}
+use Rattle.pagable_world.specs.Stands.{TreeWorld, Represents}
+use Rattle.pagable_world.specs.Runs.{Fact}
 use Rattle.pagable_world.specs.Premises.{ReadsItsTypes, HandsInSettled, ReadsSettled, HoldsSettled, KeepsOpen, AsksWell}
 use Rattle.pagable_world.specs.Order.{Waits, LoadRuns, PinsFirst, Walk, AllSteps, InOrder, OnceEach}
 use Rattle.pagable_world.specs.Bounds.{Unfolds, ReadsTooDeep}
@@ -25,8 +28,8 @@ use Rattle.pagable_world.specs.Interleaved.{CountIsPins, PinGives, RefusesFormle
 use Rattle.pagable_world.specs.Alone.{StandTogether, DeepIsRefused, LoadIsSound, LeavesCache, IsFilledByReading}
 use Rattle.pagable_world.specs.Over.{LoadRun, WorkerRun, ListRun}
 use Rattle.pagable_world.specs.Results.{IsOverResults}
-use Rattle.pagable_laws.specs.SmallWorlds.{empty, new_pages, first, first_load, first_worker, first_identity, lone, twice_cached, all_of, none_of, only_of, bare, dropped, reading, nothing_written, working, sound_world, paged, pages_of, trees_of}
-use Rattle.pagable_laws.specs.SmallMoments.{sample, sample_types, run_types, unsettled, meaningless, following, misnaming, lone_pages, new_event, pin_event, count_event, count_reply, load_event, read_reply, refused_reply, worker_event, claim_reply, wait_reply, write_reply, publish_reply, answer_reply, deep_reply, load_moment, call_moment}
+use Rattle.pagable_laws.specs.SmallWorlds.{empty, new_pages, first, first_load, first_worker, first_identity, lone, twice_cached, all_of, none_of, only_of, bare, reading, nothing_written, working, sound_world, paged, pages_of, trees_of}
+use Rattle.pagable_laws.specs.SmallMoments.{sample, sample_types, run_types, unsettled, meaningless, following, misnaming, lone_pages, new_event, pin_event, pin_reply, count_event, count_reply, load_event, read_reply, long_reply, refused_reply, worker_event, claim_reply, wait_reply, write_reply, publish_reply, answer_reply, deep_reply, load_moment, call_moment}
 
 -- Premises: types that aren't read, values under no law, values that mean more than one thing, calls that close the storage or
 -- touch the cache, keys that don't read as what they are given for, trees of another type, turns that don't stand together, and a
@@ -48,21 +51,25 @@ pub record PremisesRefuse : Type 0 where
   pub not_apart : (stored : ℕ → Option Blob) → ¬ StandTogether (load_moment stored ∷ call_moment stored ∷ load_moment stored ∷ [])
   pub not_filled : (stored : ℕ → Option Blob) (key other : ℕ) → other ≢ key → ¬ IsFilledByReading (twice_cached stored key other)
 
+-- the event and its reply pass the fact, where pager and world stay as they are
+abbrev pub Passes : Fact ℕ Blob Written → Pages ℕ → TreeWorld → Event ℕ Blob Written → EventReply ℕ Blob Written → Type 0
+Passes P s u event reply = P s u event reply s u
+
 -- Facts: of each an event that it doesn't let pass.
 pub record FactsRefuse : Type 0 where
-  pub not_two : (stored : ℕ → Option Blob) → ¬ CountIsPins (lone_pages stored 0) (trees_of (lone stored) 0) count_event (count_reply 2) (lone_pages stored 0) (trees_of (lone stored) 0)
-  pub not_other_tree : (stored : ℕ → Option Blob) → ¬ PinGives sample (lone_pages stored 0) (trees_of (lone stored) 1) pin_event (answers.CallReply (replies.Pin (Ok (pinnings.Pinned first)))) (lone_pages stored 0) (trees_of (lone stored) 1)
-  pub not_of_form : (stored : ℕ → Option Blob) → ¬ RefusesFormless sample (lone_pages stored 1) (trees_of (lone stored) 1) worker_event write_reply (lone_pages stored 1) (trees_of (lone stored) 1)
-  pub not_meaningless : (key : ℕ) → ¬ ReadGives meaningless (pages_of (reading key)) (trees_of (reading key) 1) load_event (read_reply 1) (pages_of (dropped (all_of bare))) (trees_of (dropped (all_of bare)) 1)
-  pub not_for_none : (stored : ℕ → Option Blob) → ¬ WaitsRightly (pages_of (working stored)) (trees_of (working stored) 0) worker_event wait_reply (pages_of (working stored)) (trees_of (working stored) 0)
+  pub not_two : (stored : ℕ → Option Blob) → ¬ Passes CountIsPins (lone_pages stored 0) (trees_of (lone stored) 0) count_event (count_reply 2)
+  pub not_other_tree : (stored : ℕ → Option Blob) → ¬ Passes (PinGives sample) (lone_pages stored 0) (trees_of (lone stored) 1) pin_event pin_reply
+  pub not_of_form : (stored : ℕ → Option Blob) → ¬ Passes (RefusesFormless sample) (lone_pages stored 1) (trees_of (lone stored) 1) worker_event write_reply
+  pub not_meaningless : (key : ℕ) → ¬ Passes (ReadGives meaningless) (pages_of (reading key)) (trees_of (reading key) 1) load_event (read_reply 1)
+  pub not_for_none : (stored : ℕ → Option Blob) → ¬ Passes WaitsRightly (pages_of (working stored)) (trees_of (working stored) 0) worker_event wait_reply
   pub not_twice : (stored : ℕ → Option Blob) → ¬ ClaimsAreDistinct (working stored) (worker_event ∷ worker_event ∷ []) (claim_reply ∷ claim_reply ∷ [])
-  pub not_unstored : (key : ℕ) → ¬ AnswerLeavesAll sample (new_pages none_of) (trees_of (paged none_of key) 1) worker_event (answer_reply key) (new_pages none_of) (trees_of (paged none_of key) 1)
-  pub not_invented : (stored : ℕ → Option Blob) (key : ℕ) → key ≢ digest sample bare → ¬ PublishIsKey sample (new_pages stored) (trees_of (paged stored key) 1) worker_event (publish_reply key) (new_pages stored) (trees_of (paged stored key) 1)
-  pub not_keyless : (stored : ℕ → Option Blob) → ¬ PublishIsKey sample (new_pages stored) (trees_of (lone stored) 1) worker_event (publish_reply (digest sample bare)) (new_pages stored) (trees_of (lone stored) 1)
-  pub not_other_key : (stored : ℕ → Option Blob) (key : ℕ) → key ≢ digest sample bare → ¬ AnswerIsKey sample (new_pages stored) (trees_of (paged stored key) 1) worker_event (answer_reply key) (new_pages stored) (trees_of (paged stored key) 1)
-  pub not_longer : (key : ℕ) → ¬ LoadIsWithin sample (pages_of (reading key)) (trees_of (reading key) 1) load_event (answers.LoadMoved (Ok (record { ended = None; steps = 3 }))) (pages_of (reading key)) (trees_of (reading key) 1)
-  pub not_deep : (stored : ℕ → Option Blob) → ¬ DeepIsRefused sample (pages_of (working stored)) (trees_of (working stored) 0) worker_event deep_reply (pages_of (empty stored)) (trees_of (empty stored) 0)
-  pub not_lost : (stored : ℕ → Option Blob) (key : ℕ) → ¬ LoadIsSound (pages_of (sound_world stored key)) (trees_of (sound_world stored key) 0) load_event (refused_reply (errors.NoData key)) (pages_of (empty stored)) (trees_of (empty stored) 0)
+  pub not_unstored : (key : ℕ) → ¬ Passes (AnswerLeavesAll sample) (new_pages none_of) (trees_of (paged none_of key) 1) worker_event (answer_reply key)
+  pub not_invented : (stored : ℕ → Option Blob) (key : ℕ) → key ≢ digest sample bare → ¬ Passes (PublishIsKey sample) (new_pages stored) (trees_of (paged stored key) 1) worker_event (publish_reply key)
+  pub not_keyless : (stored : ℕ → Option Blob) → ¬ Passes (PublishIsKey sample) (new_pages stored) (trees_of (lone stored) 1) worker_event (publish_reply (digest sample bare))
+  pub not_other_key : (stored : ℕ → Option Blob) (key : ℕ) → key ≢ digest sample bare → ¬ Passes (AnswerIsKey sample) (new_pages stored) (trees_of (paged stored key) 1) worker_event (answer_reply key)
+  pub not_longer : (key : ℕ) → ¬ Passes (LoadIsWithin sample) (pages_of (reading key)) (trees_of (reading key) 1) load_event long_reply
+  pub not_deep : (stored : ℕ → Option Blob) → ¬ Passes (DeepIsRefused sample) (pages_of (working stored)) (trees_of (working stored) 0) worker_event deep_reply
+  pub not_lost : (stored : ℕ → Option Blob) (key : ℕ) → ¬ Passes LoadIsSound (pages_of (sound_world stored key)) (trees_of (sound_world stored key) 0) load_event (refused_reply (errors.NoData key))
 
 -- Grammars: waiting comes before a claim, a load ends in a pin, a walk is never empty, an item's steps end in its store, nothing is
 -- claimed twice, what isn't stored has no references and what takes none isn't too deep, no operation goes on without its load,

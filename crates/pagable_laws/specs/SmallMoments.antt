@@ -8,6 +8,7 @@ use Rattle.pagable_model.specs.Blob.{Blob}
 use Rattle.pagable_model.specs.Meaning.{none, reference, followed}
 use Rattle.pagable_model.specs.Shape as shapes
 use Rattle.pagable_model.specs.Trees.{Types}
+use Rattle.pagable_world.specs.declared.answers.Pinning.TheVariants as pinnings
 use Rattle.pagable_world.specs.declared.calls.Call.TheVariants as calls
 use Rattle.pagable_world.specs.declared.calls.Reply.TheVariants as replies
 use Rattle.pagable_world.specs.declared.events.Claim.TheVariants as claims
@@ -60,12 +61,15 @@ lone_pages stored x = record { world = lone stored; counts = (1, 1) ∷ []; valu
 
 -- ---- events and what they answer
 
--- a new value, a pin of the first handle, and a count of it, which answers this
+-- a new value, a pin of the first handle, which gives it again, and a count of it, which answers this
 abbrev pub new_event : Event ℕ Blob Written
 new_event = events.Call (calls.NewLoose 0)
 
 abbrev pub pin_event : Event ℕ Blob Written
 pin_event = events.Call (calls.Pin first)
+
+abbrev pub pin_reply : EventReply ℕ Blob Written
+pin_reply = answers.CallReply (replies.Pin (Ok (pinnings.Pinned first)))
 
 abbrev pub count_event : Event ℕ Blob Written
 count_event = events.Call (calls.Count first)
@@ -73,12 +77,15 @@ count_event = events.Call (calls.Count first)
 abbrev pub count_reply : ℕ → EventReply ℕ Blob Written
 count_reply n = answers.CallReply (replies.Count (Ok n))
 
--- the load's step, which answers a value, or a refusal
+-- the load's step, which answers a value, goes on for too long, or is refused
 abbrev pub load_event : Event ℕ Blob Written
 load_event = events.LoadStep first_load
 
 abbrev pub read_reply : ℕ → EventReply ℕ Blob Written
 read_reply x = answers.LoadMoved (Ok (record { ended = Some (ends.Read x); steps = 2 }))
+
+abbrev pub long_reply : EventReply ℕ Blob Written
+long_reply = answers.LoadMoved (Ok (record { ended = None; steps = 3 }))
 
 abbrev pub refused_reply : Error → EventReply ℕ Blob Written
 refused_reply e = answers.LoadMoved (Ok (record { ended = Some (ends.Refused e); steps = 1 }))
