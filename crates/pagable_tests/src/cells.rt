@@ -1,5 +1,5 @@
 //! Cells are written as what they hold when they are looked at, which no contract can say. What is read into one stands in the
-//! data of `replay`.
+//! data of `rows`.
 
 use crate::equal::equal;
 use pagable::{Error, PagableSerialize, PagableSerializerImpl, WeighHash};

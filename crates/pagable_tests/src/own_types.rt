@@ -133,34 +133,16 @@ fn plus_one(alloc: Global, left: Expression) -> Result<Expression, AllocError> {
 }
 
 #[test]
-fn a_tree_is_its_case_and_its_parts(rt: HostRuntime) -> Result<(), Fail> {
-    let alloc = rt.alloc();
-    let sum = plus_one(alloc, Expression::Number(300))?;
-    carried(&rt, alloc, &Sheet, sum, b"\x00\x01\xac\x02\x01\x01")
-}
-
-#[test]
-fn a_tree_has_at_most_128_levels(rt: HostRuntime) -> Result<(), Fail> {
+fn a_tree_of_129_levels_is_not_written(rt: HostRuntime) -> Result<(), Fail> {
     let alloc = rt.alloc();
     let mut tree = Expression::Number(1);
     for _ in 1..128 {
         tree = plus_one(alloc, tree)?;
     }
     // 127 sums of a byte each, and 128 numbers of two.
-    let bytes = written(alloc, &Sheet, &tree).ok().ok_or("not written")?;
-    equal(&rt, bytes.len(), 383, "128 levels, written");
-    let found = read(alloc, &Sheet, bytes.as_slice());
-    equal(&rt, found.as_ref(), Ok(&tree), "128 levels, read");
+    let bytes = written(alloc, &Sheet, &tree).map(|bytes| bytes.len());
+    equal(&rt, bytes, Ok(383), "128 levels");
     let deeper = written(alloc, &Sheet, &plus_one(alloc, tree)?).err();
-    equal(&rt, deeper, Some(Error::TooDeep), "129 levels, written");
+    equal(&rt, deeper, Some(Error::TooDeep), "129 levels");
     Ok(())
-}
-
-#[test]
-fn no_tree_of_129_levels_is_read(rt: HostRuntime) {
-    // The left part of the last sum is looked for on the next level.
-    let deep = read::<Sheet, Expression>(rt.alloc(), &Sheet, &[0; 127]);
-    equal(&rt, deep.err(), Some(Error::UnexpectedEnd), "128 levels");
-    let deeper = read::<Sheet, Expression>(rt.alloc(), &Sheet, &[0; 128]);
-    equal(&rt, deeper.err(), Some(Error::TooDeep), "129 levels");
 }
