@@ -1,6 +1,6 @@
 //! Tests of the crates below that are no data: cursors of readers and writers, byte arrays, slices, second readings, boxes,
 //! cells, references, registries, types of one's own, an eager one among them, sessions, JSON values that are written, regular
-//! expressions, laws, the pager's calls, lines that fail, and lists of events on the machine.
+//! expressions, laws, and lines that fail.
 #![tactic(auto)]
 
 #[cfg(test)]
@@ -9,8 +9,6 @@ mod again;
 mod boxes;
 #[cfg(test)]
 mod byte_arrays;
-#[cfg(test)]
-mod calls;
 #[cfg(test)]
 mod cells;
 #[cfg(test)]
@@ -32,11 +30,7 @@ mod lent;
 #[cfg(test)]
 mod levels;
 #[cfg(test)]
-mod machine;
-#[cfg(test)]
 mod own_types;
-#[cfg(test)]
-mod pager;
 #[cfg(test)]
 mod patterns;
 #[cfg(test)]

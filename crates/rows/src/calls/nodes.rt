@@ -1,5 +1,6 @@
-//! The values of the runs: texts of two types.
+//! The values of the rows: texts of two types.
 
+use anyhow::bail;
 use pagable::{
     ArcRef, Env, Error, NodeSet, PagableDeserialize, PagableDeserializer, PagableSerialize,
     PagableSerializer, WeighHash,
@@ -15,10 +16,10 @@ pub const NOTES: u32 = 1;
 
 /// The environment of names and notes.
 #[derive(Drop)]
-pub struct RunEnv;
+pub struct CellEnv;
 
-impl Env for RunEnv {
-    type Node = RunNode;
+impl Env for CellEnv {
+    type Node = CellNode;
 
     type Hash = WeighHash;
 
@@ -33,37 +34,39 @@ impl Env for RunEnv {
 
 /// A text as a node's value.
 #[derive(Drop)]
-pub enum RunNode {
+pub enum CellNode {
     /// Of the type 0.
     Name(Arc<String>),
     /// Of the type 1.
     Note(Arc<String>),
 }
 
-impl RunNode {
-    /// A node of this type, or a name where there is no such type, that holds a copy of the text.
-    pub fn new(alloc: Global, node_type: u32, text: &str) -> Result<RunNode, Error> {
-        let text = Arc::new(alloc, String::from_str(alloc, text)?)?;
-        if node_type == NOTES {
-            return Ok(RunNode::Note(text));
-        }
-        Ok(RunNode::Name(text))
-    }
-
+impl CellNode {
     /// The text.
     pub fn as_str(&self) -> &str {
         match self {
-            RunNode::Name(text) | RunNode::Note(text) => text.as_ref().as_str(),
+            CellNode::Name(text) | CellNode::Note(text) => text.as_ref().as_str(),
         }
     }
 }
 
-impl NodeSet<RunEnv> for RunNode {
+/// The value that a row spells, as `0 hello world`: its type, and all after the first space, or the empty text.
+pub fn node(alloc: Global, spelled: &str) -> anyhow::Result<CellNode> {
+    let (node_type, text) = spelled.split_once(' ').unwrap_or((spelled, ""));
+    let text = Arc::new(alloc, String::from_str(alloc, text)?)?;
+    match node_type {
+        "0" => Ok(CellNode::Name(text)),
+        "1" => Ok(CellNode::Note(text)),
+        _ => bail!("no type of texts"),
+    }
+}
+
+impl NodeSet<CellEnv> for CellNode {
     ghost use Rattle.std.specs.Prelude.{◌≡◌, []};
     ghost use Rattle.pagable_model.specs.Gives.{memory, long_or};
     ghost use Rattle.pagable_model.specs.Shape.{text as text_shape};
     ghost use Rattle.pagable_model.specs.Causes.{memory_is_own_reading, text_may_refuse_writing};
-    ghost use Rattle.pager_runs.specs.Nodes.{has_meaning, has_shape, refers_to_nothing, shape_of, text_of, type_of};
+    ghost use Rattle.rows.specs.Cells.{has_meaning, has_shape, refers_to_nothing, shape_of, text_of, type_of};
 
     ghost type_of = { type_of };
 
@@ -91,8 +94,8 @@ impl NodeSet<RunEnv> for RunNode {
 
     fn node_type(&self) -> u32 {
         match self {
-            RunNode::Name(_) => NAMES,
-            RunNode::Note(_) => NOTES,
+            CellNode::Name(_) => NAMES,
+            CellNode::Note(_) => NOTES,
         }
     }
 
@@ -100,26 +103,26 @@ impl NodeSet<RunEnv> for RunNode {
         Ok(Vec::new(alloc))
     }
 
-    fn write<S: PagableSerializer<RunEnv>>(&self, serializer: &mut S) -> Result<(), Error> {
+    fn write<S: PagableSerializer<CellEnv>>(&self, serializer: &mut S) -> Result<(), Error> {
         match self {
-            RunNode::Name(text) => text.as_ref().pagable_serialize(serializer),
-            RunNode::Note(text) => text.as_ref().pagable_serialize(serializer),
+            CellNode::Name(text) => text.as_ref().pagable_serialize(serializer),
+            CellNode::Note(text) => text.as_ref().pagable_serialize(serializer),
         }
     }
 
-    fn read<D: PagableDeserializer<RunEnv>>(
+    fn read<D: PagableDeserializer<CellEnv>>(
         node_type: u32,
         alloc: Global,
         deserializer: &mut D,
-    ) -> Result<RunNode, Error> {
+    ) -> Result<CellNode, Error> {
         if node_type != NAMES && node_type != NOTES {
             return Err(Error::WrongKind);
         }
         let text = String::pagable_deserialize(alloc, deserializer)?;
         let text = Arc::new(alloc, text)?;
         if node_type == NAMES {
-            return Ok(RunNode::Name(text));
+            return Ok(CellNode::Name(text));
         }
-        Ok(RunNode::Note(text))
+        Ok(CellNode::Note(text))
     }
 }
