@@ -1,9 +1,7 @@
 //! Tests of the crates below that are no data of `rows`: cells that change, references, registries, types of one's own, sessions,
-//! storages, regular expressions, laws, the pager's calls, lines that fail, and lists of events on the machine.
+//! storages, regular expressions, and laws.
 #![tactic(auto)]
 
-#[cfg(test)]
-mod calls;
 #[cfg(test)]
 mod cells;
 #[cfg(test)]
@@ -13,11 +11,7 @@ mod laws;
 #[cfg(test)]
 mod lent;
 #[cfg(test)]
-mod machine;
-#[cfg(test)]
 mod own_types;
-#[cfg(test)]
-mod pager;
 #[cfg(test)]
 mod patterns;
 #[cfg(test)]

@@ -5,7 +5,7 @@ use pagable::{
     Env, Error, NoReferences, PagableDeserialize, PagableDeserializer, PagableDeserializerImpl,
     PagableSerialize, PagableSerializerImpl, SessionContext, WeighHash, read_twice,
 };
-use pagable_samples::TextEnv;
+use pagable_examples::TextEnv;
 use std::alloc::Global;
 use std::fmt::Display;
 

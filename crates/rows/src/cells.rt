@@ -3,7 +3,8 @@
 use crate::draws::{Draws, Sum};
 use anyhow::{Context, bail, ensure};
 use pagable::{HandleNumber, InMemoryBlobs, OptionalDataKey, Pager, WeighHash};
-use pagable_samples::{TextEnv, TextNode, paging};
+use pagable::paging;
+use pagable_examples::{TextEnv, TextNode};
 use std::alloc::{AllocError, Global};
 use std::collections::BTreeSet;
 

@@ -9,7 +9,7 @@ use pagable::{
     WeighHash,
 };
 use pagable_examples::{Expression, Menu, Sheet, Ticket};
-use registry_samples::{Animal, AnimalReader, Sighting, Zoo};
+use pagable_examples::{Animal, AnimalReader, Sighting, Zoo};
 use std::alloc::Global;
 
 type Card = Menu<WeighHash>;
