@@ -1,5 +1,5 @@
 -- Entries of maps: what they mean as pairs, and what putting in, writing and reading them gives.
-use Rattle.std.proofs.Common.{◌≡◌, ℕ, zero, suc, ◌-◌, ◌<◌, ◌≤◌, subst, List, [], ◌∷◌, ◌++◌, length, map, arith, refl, sym, ap, ◌∙◌, append_assoc, Result, Ok, Err, inl, inr}
+use Rattle.std.proofs.Common.{◌≡◌, ℕ, zero, suc, ◌-◌, ◌<◌, ◌≤◌, List, [], ◌∷◌, ◌++◌, length, map, arith, refl, sym, ap, ◌∙◌, append_assoc, Result, Ok, Err, inl, inr}
 use Rattle.std.proofs.lemmas.List.{length-map, append-nil}
 use Rattle.std.specs.Prelude.{◌⊎◌}
 use Rattle.std.specs.List.{AllByRecursion}
@@ -26,7 +26,7 @@ use Rattle.pagable_model.specs.Standing.{Gave, GivesSome, SomeMeaning}
 use Rattle.pagable_model.specs.Collected.{Collected}
 use Rattle.pagable_model.specs.Lifted.{MeanAll, mean-none, mean-more, MeansList, MeansPair, items_have_meanings}
 use Rattle.pagable_codec.proofs.Writing.{then, memory_refuses}
-use Rattle.pagable_traits.proofs.Items.{mean-length, mean_last, sequence-same, forms-last, writes_no_items, grows_some_all}
+use Rattle.pagable_traits.proofs.Items.{mean-length, mean_last, split-same, forms-last, writes_no_items, grows_some_all}
 use Rattle.pagable_traits.proofs.Parts.{writes_pair}
 use Rattle.pagable_traits.proofs.Collecting.{put-in-turn}
 use Rattle.pagable_traits.proofs.Walks.{Splits, Wraps, wraps-sequence, writes-counted, refuses-among}
@@ -243,12 +243,7 @@ refuse-count M has xs n whole item e split count all (inr h) = memory_refuses e 
 -- ---- sorted maps
 
 sorted-map-parts : (n : Nesting) {order : KeyOrder} {s t : Shape} {m : Meaning ArcRef} {b : List ℕ} {k : List ArcRef} (ms : List (Meaning ArcRef)) → FormAt n (sorted_map order s t) m b k → m ≡ sequence ms → (length ms ≤ longest) × ((c : List ℕ) × FormsAt n (both s t) ms c k)
-sorted-map-parts n {order} {s} {t} {m} {b} {k} ms (sorted-map-form l o s' t' es c k' le asc f) e =
-    let same : map entry es ≡ ms = sequence-same (map entry es) ms e in
-    let short : length (map entry es) ≤ longest = rw (length-map es entry) le in (
-      let P : List (Meaning ArcRef) → Type 0 = λ x. length x ≤ longest in subst P same short,
-      (c, let Q : List (Meaning ArcRef) → Type 0 = λ x. FormsAt n (both s' t') x c k' in subst Q same (forms-of-entries f)),
-    )
+sorted-map-parts n ms (sorted-map-form l o s t es c k le asc f) e = let short : length (map entry es) ≤ longest = rw (length-map es entry) le in split-same n e short (forms-of-entries f)
 
 pub sorted-map-splits : (n : Nesting) (order : KeyOrder) (s t : Shape) → Splits n (sorted_map order s t) (both s t)
 sorted-map-splits n order s t = record { parts = λ ms b k f. sorted-map-parts n ms f refl }
