@@ -68,8 +68,8 @@ module _ (c : Context Answer ArcRef) (rest : Rest Answer) where
   unfolding read read_with
   case-unknown n mid e lt = rw (e, no-case n lt) refl
 
-  pub float-seen : (mid : Rest Answer) → bytes_of bool_at (λ b. b) rest ≡ Ok (true, mid) → part_of number_case c rest ≡ Err errors.JsonNumber
-  float-seen mid e = rw e refl
+  pub float-seen : (float : Bool) (mid : Rest Answer) → float ≡ true → bytes_of bool_at (λ b. b) rest ≡ Ok (float, mid) → part_of number_case c rest ≡ Err errors.JsonNumber
+  float-seen float mid is e = rw (e, is) refl
 
   pub float-unread : (e : Error) → bytes_of bool_at (λ b. b) rest ≡ Err e → part_of number_case c rest ≡ Err e
   float-unread e h = rw h refl
@@ -91,9 +91,9 @@ module _ (levels : ℕ) (parts : ℕ → Shape) (rest : Rest Answer) where
   unfolding read read_with
   text-seen = twice-seen text_at (λ t. meanings.text t) (λ m. variant 3 m) rest
 
-  pub whole-seen : (mid : Rest Answer) → bytes_of bool_at (λ b. b) rest ≡ Ok (false, mid) → part_at levels parts number_case rest ≡ viewed (λ m. variant 2 m) (read (handles_at levels parts) (signed w64) mid)
+  pub whole-seen : (float : Bool) (mid : Rest Answer) → float ≡ false → bytes_of bool_at (λ b. b) rest ≡ Ok (float, mid) → part_at levels parts number_case rest ≡ viewed (λ m. variant 2 m) (read (handles_at levels parts) (signed w64) mid)
   unfolding read read_with
-  whole-seen mid e = rw e (twice-seen (signed_at w64) (λ z. integer z) (λ m. variant 2 m) mid)
+  whole-seen float mid is e = rw (e, is) (twice-seen (signed_at w64) (λ z. integer z) (λ m. variant 2 m) mid)
 
   pub array-unread : (e : Error) → bytes_of length_at (λ n. n) rest ≡ Err e → part_at levels parts array_case rest ≡ Err e
   array-unread e h = rw h refl

@@ -70,12 +70,6 @@ module _ {S E N H K V : Type 0} (env : Environments E N H K V) (s : Serializers 
       let h = err_from_is_err_and r is in
       rw (h.1, h.2) (record { ok = tt; refused = lacks _ _ _ p.ok (rw (p.same_levels, p.same_env) at q.refused) q.only; only = only q.only; err = grows_trans _ _ _ p.err q.err; same_env = q.same_env ∙ p.same_env; same_levels = q.same_levels ∙ p.same_levels })
 
-  -- the same, seen as another
-  pub wrote-as : {X : Type 0} {P W : Piece} {first causes : Error → Type 0} {a b : S} (r : Result X Error) → Wrote env s P first a b r → ((n : Nesting) (old new : Out) → P.wrote n old new → W.wrote n old new) → ((n : Nesting) (e : Error) → P.lacks n e → first e → W.lacks n e)
-      → ((e : Error) → first e → causes e) → Wrote env s W causes a b r
-  wrote-as (Ok y) p same lacks only = record { ok = same _ _ _ p.ok; refused = tt; only = tt; err = p.err; same_env = p.same_env; same_levels = p.same_levels }
-  wrote-as (Err e) p same lacks only = record { ok = tt; refused = lacks _ e p.refused p.only; only = only e p.only; err = p.err; same_env = p.same_env; same_levels = p.same_levels }
-
   -- a refusal that is handed on
   pub wrote-err : {X Y : Type 0} {P W : Piece} {first causes : Error → Type 0} {a b : S} {e : Error} (r : Result Y Error) → IsErrAnd r (λ f. f ≡ e) → Wrote env s P first a b (let p : Result X Error = Err e in p) → ((n : Nesting) → P.lacks n e → first e → W.lacks n e)
       → (first e → causes e) → Wrote env s W causes a b r

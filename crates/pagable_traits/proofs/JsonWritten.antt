@@ -38,7 +38,7 @@ use Rattle.pagable_model.specs.Writing.{Out, Nesting, FormAt, WritesSome, added,
 use Rattle.pagable_codec.proofs.Writing.{then, memory_refuses, grows_trans}
 use Rattle.pagable_traits.proofs.Maps.{IsOrderOf, key-order, sorted-map-splits, writes_sorted_map, refuse-count, refuses-items, Written}
 use Rattle.pagable_traits.proofs.Items.{writes_list, refused_items, refuses-count}
-use Rattle.pagable_traits.proofs.JsonSteps.{deeper, below, wrote-as, wrote-then, wrote-err}
+use Rattle.pagable_traits.proofs.JsonSteps.{deeper, below, wrote-then, wrote-err}
 use Rattle.pagable_traits.specs.JsonData.{json_items, json_members, of_data, of_value, of_key, long_or_no_memory}
 use Rattle.pagable_traits.specs.JsonSteps.{Piece, Wrote, bytes, front, value as form, all}
 
@@ -286,8 +286,9 @@ module _ {S E N H K V : Type 0} (env : Environments E N H K V) (s : Serializers 
   as-value {x = x} {y = y} v d r e h = let P : Data → Type 0 = λ z. Wrote env s (form (Is of_data z) json) json_causes x y r in subst P (sym e) h
 
   pub null-value : {Y : Type 0} {x y : S} (v : Value) (r : Result Y Error) → v ≡ values.Null → Wrote env s (bytes (unsigned_form w64 0)) memory x y r → Wrote env s (form (Is of_value v) json) json_causes x y r
-  null-value v r is p =
-      wrote-as env s r p (λ n old new e. record { m = variant 0 none; is = ap of_data (sym (seen-null v is)); wrote = record { bytes = 0 ∷ []; refs = []; form = json-null-form _; grown = rw (case-byte 0 refl) at e } }) (λ n e l h. memory_refuses e _ n json h) json-memory
+  null-value v (Ok u) is p =
+      record { ok = record { m = variant 0 none; is = ap of_data (sym (seen-null v is)); wrote = record { bytes = 0 ∷ []; refs = []; form = json-null-form _; grown = rw (case-byte 0 refl) at p.ok } }; refused = tt; only = tt; err = p.err; same_env = p.same_env; same_levels = p.same_levels }
+  null-value v (Err e) is p = record { ok = tt; refused = memory_refuses e _ _ json p.only; only = json-memory e p.only; err = p.err; same_env = p.same_env; same_levels = p.same_levels }
 
   pub flag-wrote : {X Y : Type 0} {x y z : S} {u : X} (b : Bool) (r : Result Y Error) → Wrote env s (bytes (unsigned_form w64 1)) memory x y (Ok u) → Wrote env s (form (Is meanings.flag b) flag) memory y z r → Wrote env s (form (Is of_data (boolean b)) json) json_causes x z r
   flag-wrote b r p q =

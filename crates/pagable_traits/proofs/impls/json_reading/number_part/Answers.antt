@@ -1,9 +1,8 @@
-use Rattle.std.proofs.Common.{◌≡◌, true, false, Ok, arith, rules, refl, inl}
+use Rattle.std.proofs.Common.{rules, refl, inl}
 use Rattle.std.specs.Int.{w64}
 use Rattle.std.proofs.lemmas.Int.{to_z-of_z}
-use Rattle.pagable_model.specs.Basic.{bool_at}
 use Rattle.pagable_model.specs.Meaning.{variant}
-use Rattle.pagable_model.specs.Reading.{bytes_of, read, seen}
+use Rattle.pagable_model.specs.Reading.{read, seen}
 use Rattle.pagable_model.specs.Shape.{signed}
 use Rattle.pagable_traits.specs.JsonSteps.{context_in}
 use Rattle.pagable_traits.proofs.JsonSteps.{read-as, read-err, read-then}
@@ -17,26 +16,20 @@ returns-in_err-float g c =
 
 pub returns-then-float : goal.returns-then-float
 returns-then-float g c =
-    let rest = g.D.PagableDeserializer.rest in
     let told = c.in_ok-float.ensures in
-    let float : bytes_of bool_at (λ b. b) (rest c.args.deserializer.now) ≡ Ok (true, rest c.read_flag.new.deserializer) = grind (arith, told.gives, c.if-float.true) in
-    record { gives = inl (float-seen (context_in g.E.Env g.D.PagableDeserializer c.args.deserializer.now) _ _ float); moves = told.moves; same_env = told.same_env; same_levels = told.same_levels }
+    record { gives = inl (float-seen (context_in g.E.Env g.D.PagableDeserializer c.args.deserializer.now) _ _ _ c.if-float.true told.gives); moves = told.moves; same_env = told.same_env; same_levels = told.same_levels }
 
 pub returns-in_err-whole : goal.returns-in_err-whole
 returns-in_err-whole g c =
-    let rest = g.D.PagableDeserializer.rest in
     let told = c.in_ok-float.ensures in
-    let flag : bytes_of bool_at (λ b. b) (rest c.args.deserializer.now) ≡ Ok (false, rest c.read_flag.new.deserializer) = grind (arith, told.gives, c.if-float.false) in
     let w = c.in_err-whole.ensures in
     read-then g.E.Env g.D.PagableDeserializer told.moves told.same_env told.same_levels
-    (read-err g.E.Env g.D.PagableDeserializer c.from_residual-in_err-whole.result {whole = λ x. seen (λ m. variant 2 m) (read x (signed w64))} c.from_residual-in_err-whole.ensures.1 w.gives w.moves w.same_env w.same_levels (λ h. absurd h) (λ h. rw h refl)) (whole-seen _ _ _ _ flag)
+    (read-err g.E.Env g.D.PagableDeserializer c.from_residual-in_err-whole.result {whole = λ x. seen (λ m. variant 2 m) (read x (signed w64))} c.from_residual-in_err-whole.ensures.1 w.gives w.moves w.same_env w.same_levels (λ h. absurd h) (λ h. rw h refl)) (whole-seen _ _ _ _ _ c.if-float.false told.gives)
 
 pub returns : goal.returns
 returns g c =
-    let rest = g.D.PagableDeserializer.rest in
     let told = c.in_ok-float.ensures in
-    let flag : bytes_of bool_at (λ b. b) (rest c.args.deserializer.now) ≡ Ok (false, rest c.read_flag.new.deserializer) = grind (arith, told.gives, c.if-float.false) in
     let is = rw (to_z-of_z w64 c.in_ok-whole.whole (search rules)) at c.from.ensures in
     let w = c.in_ok-whole.ensures in
     read-then g.E.Env g.D.PagableDeserializer told.moves told.same_env told.same_levels
-    (read-as g.E.Env g.D.PagableDeserializer c.from.result (λ m. variant 2 m) {whole = λ x. seen (λ m. variant 2 m) (read x (signed w64))} w.gives w.moves w.same_env w.same_levels (λ m means. is-whole c.from.result c.in_ok-whole.whole m is means) refl) (whole-seen _ _ _ _ flag)
+    (read-as g.E.Env g.D.PagableDeserializer c.from.result (λ m. variant 2 m) {whole = λ x. seen (λ m. variant 2 m) (read x (signed w64))} w.gives w.moves w.same_env w.same_levels (λ m means. is-whole c.from.result c.in_ok-whole.whole m is means) refl) (whole-seen _ _ _ _ _ c.if-float.false told.gives)
