@@ -1,22 +1,27 @@
-//! `rows FILE..` prints the answer to each row of the files. An empty line and one that begins with # are skipped.
+//! `rows FILE..` prints the answer to each row of the files. A comment and an empty line are their own answers.
 #![tactic(auto)]
 
 pub mod calls;
 
 use crate::calls::Calls;
 use anyhow::Context;
+use std::alloc::Global;
 use std::{env, fs};
 
+/// The answer to a line. A comment and an empty line are their own answers.
+fn answer(alloc: Global, calls: &mut Calls, line: &str) -> anyhow::Result<String> {
+    if line.is_empty() || line.starts_with('#') {
+        return Ok(String::from_str(alloc, line)?);
+    }
+    calls.answer(alloc, line)
+}
+
 /// Prints the answers to a file's rows.
-fn answer(rt: &HostRuntime, path: &str, calls: &mut Calls) -> anyhow::Result<()> {
+fn print(rt: &HostRuntime, path: &str, calls: &mut Calls) -> anyhow::Result<()> {
     let text = fs::read_to_string(rt, path)?;
     for line in text.lines() {
-        if !line.is_empty() && !line.starts_with('#') {
-            let answer = calls
-                .answer(rt.alloc(), line)
-                .context(format_args!("{line}"))?;
-            println!(rt; "{answer}")?;
-        }
+        let answer = answer(rt.alloc(), calls, line).context(format_args!("{path}: {line}"))?;
+        println!(rt; "{answer}")?;
     }
     Ok(())
 }
@@ -26,7 +31,7 @@ fn main(rt: HostRuntime) -> anyhow::Result<()> {
     let mut words = env::args(&rt)?;
     let _program = words.next();
     for path in words {
-        answer(&rt, path.as_str(), &mut calls)?;
+        print(&rt, path.as_str(), &mut calls)?;
     }
     Ok(())
 }
