@@ -1,6 +1,6 @@
 #!/usr/bin/env python3
-"""Prints the check sums of large values that are drawn, and of many cells: their forms and keys, worked out from the rules of
-docs/SPEED.md, of the wire format and of keys. It shares no code with the crates.
+"""Prints the check sums of large values that are drawn, whose forms are worked out from the rules of docs/PROOFS.md and of the wire
+format. It shares no code with the crates.
 
     tools/speed_sums.py     # the part of crates/rows/stdout that answers crates/rows/data/drawn.txt
 """
@@ -103,26 +103,9 @@ def ordered_row():
     line("ordered", list_form([text_form(k) + varint(v) for k, v in entries.items()]))
 
 
-def weighed_key(form):
-    """The key of a blob without children: the sum of each byte of its preimage times its place."""
-    return sum(place * byte for place, byte in enumerate(bytes(8) + form, 1)) % (1 << 128) or 1
-
-
-def cells_row():
-    draws = Draws(7)
-    texts = {}
-    while len(texts) < 10_000:
-        text = draws.text(100)
-        texts.setdefault(weighed_key(text_form(text)), text)
-    keys = [half for key in texts for half in (key & WORD, key >> 64)]
-    size = sum(len(text) for text in texts.values())
-    print(f"cells {size} bytes wrote {sum_of(keys):016x}")
-
-
 if __name__ == "__main__":
     numbers_row()
     bytes_row()
     texts_row()
     maps_row()
     ordered_row()
-    cells_row()

@@ -2,7 +2,6 @@
 
 pub mod answers;
 pub mod asked;
-pub mod blobs;
 pub mod looks;
 pub mod nodes;
 pub mod pure;

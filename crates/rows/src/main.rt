@@ -5,7 +5,6 @@
 pub mod blobs;
 pub mod calls;
 pub mod carried;
-pub mod cells;
 pub mod drawn;
 pub mod draws;
 pub mod lines;

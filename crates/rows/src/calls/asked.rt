@@ -1,6 +1,6 @@
 //! What a row asks for: calls and events, parted by semicolons.
 
-use crate::calls::blobs::blob;
+use crate::blobs::blob;
 use crate::calls::nodes::node;
 use crate::calls::{CellCall, CellEvent};
 use anyhow::bail;
