@@ -4,7 +4,6 @@
 #![tactic(auto)]
 
 #[cfg(test)]
-mod again;
 #[cfg(test)]
 mod boxes;
 #[cfg(test)]
