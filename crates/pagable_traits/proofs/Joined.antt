@@ -141,13 +141,19 @@ pub pair_along : {A B C D : Type 0} (M : A → Meaning ArcRef → Type 0) (N : B
     → ((m : Meaning ArcRef) → M p.0 m → M' q.0 m) → ((m : Meaning ArcRef) → N p.1 m → N' q.1 m) → (m : Meaning ArcRef) → MeansPair M N p m → MeansPair M' N' q m
 pair_along M N M' N' p q f g m h = record { first = h.first; second = h.second; is_first = f h.first h.is_first; is_second = g h.second h.is_second; is = h.is }
 
-pub writes_along : {Y : Type 0} (r : Result Y Error) (P Q : Meaning ArcRef → Type 0) (n : Nesting) (s : Shape) (old new : Out) → OnOk r (WritesSome P n s old new) → ((m : Meaning ArcRef) → P m → Q m) → OnOk r (WritesSome Q n s old new)
-writes_along (Ok y) P Q n s old new w f = record { m = w.m; is = f w.m w.is; wrote = w.wrote }
-writes_along (Err y) P Q n s old new w f = tt
-
-pub refused_along : {Y : Type 0} (r : Result Y Error) (P Q : Meaning ArcRef → Type 0) (n : Nesting) (s : Shape) → IfErr r (Refused P n s) → ((m : Meaning ArcRef) → P m → Q m) → IfErr r (Refused Q n s)
-refused_along (Ok y) P Q n s h f = tt
-refused_along (Err e) P Q n s h f = λ fault. let no = h fault in record { m = no.m; is = f no.m no.is; no_form = no.no_form }
+-- all that the writer of the one owes, by what the writer of the other tells
+pub written_along : {Y E : Type 0} (r : Result Y Error) (P Q : Meaning ArcRef → Type 0) (n : Nesting) (s : Shape) (causes : Error → Type 0) {old new : Out} {env env_after : E} {levels levels_after : ℕ}
+    → record { ok : OnOk r (WritesSome P n s old new); refused : IfErr r (Refused P n s); only : IfErr r causes; err : Grows old new; same_env : env_after ≡ env; same_levels : levels_after ≡ levels } → ((m : Meaning ArcRef) → P m → Q m)
+    → record { ok : OnOk r (WritesSome Q n s old new); refused : IfErr r (Refused Q n s); only : IfErr r causes; err : Grows old new; same_env : env_after ≡ env; same_levels : levels_after ≡ levels }
+written_along (Ok y) P Q n s causes told f = record { ok = record { m = told.ok.m; is = f told.ok.m told.ok.is; wrote = told.ok.wrote }; refused = tt; only = tt; err = told.err; same_env = told.same_env; same_levels = told.same_levels }
+written_along (Err e) P Q n s causes told f = record {
+  ok = tt;
+  refused = λ fault. let no = told.refused fault in record { m = no.m; is = f no.m no.is; no_form = no.no_form };
+  only = told.only;
+  err = told.err;
+  same_env = told.same_env;
+  same_levels = told.same_levels;
+}
 
 pub gave_along : {R : Type 0} (P Q : Meaning ArcRef → Type 0) (after : R) (read : Result (Meaning ArcRef × R) Error) → Gave P after read → ((m : Meaning ArcRef) → P m → Q m) → Gave Q after read
 gave_along P Q after read g f = record { m = g.m; is = f g.m g.is; gave = g.gave }

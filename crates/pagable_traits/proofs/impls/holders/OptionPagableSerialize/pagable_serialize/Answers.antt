@@ -1,4 +1,4 @@
-use Rattle.std.proofs.Common.{◌∙◌, inl}
+use Rattle.std.proofs.Common.{inl}
 use Rattle.std.proofs.lemmas.Result.{err_from_is_err_and}
 use Rattle.pagable_model.specs.Writing.{nesting}
 use Rattle.pagable_model.specs.Shape.{optional}
@@ -6,9 +6,6 @@ use Rattle.pagable_model.specs.Lifted.{MeansOption}
 use Rattle.pagable_codec.proofs.Writing.{grows_trans, memory_refuses, refused_memory}
 use Rattle.pagable_traits.proofs.Parts.{where_ok, writes_absent, writes_present, refused_present, only_memory_or, only_part}
 use Rattle.pagable_traits.proofs.impls.holders.OptionPagableSerialize.pagable_serialize.Goals as goal
-
-pub returns-in_err-write_flag-in-Some-clause-ok : goal.returns-in_err-write_flag-in-Some-clause-ok
-returns-in_err-write_flag-in-Some-clause-ok g c = rw (err_from_is_err_and c.from_residual.result c.from_residual.ensures.1).1 tt
 
 pub returns-in_err-write_flag-in-Some-clause-refused : goal.returns-in_err-write_flag-in-Some-clause-refused
 returns-in_err-write_flag-in-Some-clause-refused g c =
@@ -19,15 +16,6 @@ pub returns-in_err-write_flag-in-Some-clause-only : goal.returns-in_err-write_fl
 returns-in_err-write_flag-in-Some-clause-only g c =
     let p = err_from_is_err_and c.from_residual.result c.from_residual.ensures.1 in
     rw (p.1, p.2) (inl c.in_err-write_flag-in-Some.ensures.only)
-
-pub returns-in_err-write_flag-in-Some-clause-err : goal.returns-in_err-write_flag-in-Some-clause-err
-returns-in_err-write_flag-in-Some-clause-err g c = c.in_err-write_flag-in-Some.ensures.err
-
-pub returns-in_err-write_flag-in-Some-clause-same_env : goal.returns-in_err-write_flag-in-Some-clause-same_env
-returns-in_err-write_flag-in-Some-clause-same_env g c = c.in_err-write_flag-in-Some.ensures.same_env
-
-pub returns-in_err-write_flag-in-Some-clause-same_levels : goal.returns-in_err-write_flag-in-Some-clause-same_levels
-returns-in_err-write_flag-in-Some-clause-same_levels g c = c.in_err-write_flag-in-Some.ensures.same_levels
 
 pub returns-in-None-clause-ok : goal.returns-in-None-clause-ok
 returns-in-None-clause-ok g c =
@@ -43,15 +31,6 @@ returns-in-None-clause-refused g c =
 
 pub returns-in-None-clause-only : goal.returns-in-None-clause-only
 returns-in-None-clause-only g c = only_memory_or c.write_flag.result g.T.PagableSerialize.write_causes c.write_flag.ensures.only
-
-pub returns-in-None-clause-err : goal.returns-in-None-clause-err
-returns-in-None-clause-err g c = c.write_flag.ensures.err
-
-pub returns-in-None-clause-same_env : goal.returns-in-None-clause-same_env
-returns-in-None-clause-same_env g c = c.write_flag.ensures.same_env
-
-pub returns-in-None-clause-same_levels : goal.returns-in-None-clause-same_levels
-returns-in-None-clause-same_levels g c = c.write_flag.ensures.same_levels
 
 pub returns-in_ok-write_flag-in-Some-clause-ok : goal.returns-in_ok-write_flag-in-Some-clause-ok
 returns-in_ok-write_flag-in-Some-clause-ok g c =
@@ -72,9 +51,3 @@ returns-in_ok-write_flag-in-Some-clause-only g c = only_part c.pagable_serialize
 
 pub returns-in_ok-write_flag-in-Some-clause-err : goal.returns-in_ok-write_flag-in-Some-clause-err
 returns-in_ok-write_flag-in-Some-clause-err g c = grows_trans _ _ _ c.in_ok-write_flag-in-Some.ensures.err c.pagable_serialize.ensures.err
-
-pub returns-in_ok-write_flag-in-Some-clause-same_env : goal.returns-in_ok-write_flag-in-Some-clause-same_env
-returns-in_ok-write_flag-in-Some-clause-same_env g c = c.pagable_serialize.ensures.same_env ∙ c.in_ok-write_flag-in-Some.ensures.same_env
-
-pub returns-in_ok-write_flag-in-Some-clause-same_levels : goal.returns-in_ok-write_flag-in-Some-clause-same_levels
-returns-in_ok-write_flag-in-Some-clause-same_levels g c = c.pagable_serialize.ensures.same_levels ∙ c.in_ok-write_flag-in-Some.ensures.same_levels
