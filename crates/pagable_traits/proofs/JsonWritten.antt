@@ -27,7 +27,7 @@ use Rattle.pagable_model.specs.Gives.{memory, long_or, json_causes}
 use Rattle.pagable_model.specs.Keys.{text_order}
 use Rattle.pagable_model.specs.Lengths.{long_or_memory}
 use Rattle.pagable_model.specs.Lifted.{MeanAll, MeansList, MeansPair, list_single, pair_single, pair_has_meaning}
-use Rattle.pagable_model.specs.Meaning.{Meaning, integer, pair, variant, sequence, entry, none}
+use Rattle.pagable_model.specs.Meaning.{Meaning, integer, pair, variant, sequence, none}
 use Rattle.pagable_model.specs.Meaning as meanings
 use Rattle.pagable_model.specs.Reading.{deepest}
 use Rattle.pagable_model.specs.Shape.{Shape, json, list, both, sorted_map, signed, flag, text}

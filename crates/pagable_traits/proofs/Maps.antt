@@ -21,12 +21,12 @@ use Rattle.pagable_model.specs.Shape.{Shape, both, sorted_map}
 use Rattle.pagable_model.specs.Carried.{of_entries}
 use Rattle.pagable_model.specs.Form.{Forms, Entries, no-forms, more-forms, no-entries, more-entries, both-form, sorted-map-form}
 use Rattle.pagable_model.specs.Reading.{Rest, Gets, Context, deepest, items, bytes_of, counted, seen, two, read, read_with}
-use Rattle.pagable_model.specs.Writing.{Out, Nesting, FormAt, FormsAt, WritesSome, WritesSomeAll, added, kind_of_arc, Refused, RefusedAll, Grows}
+use Rattle.pagable_model.specs.Writing.{Out, Nesting, FormAt, FormsAt, WritesSome, WritesSomeAll, added, kind_of_arc, Refused, RefusedAll}
 use Rattle.pagable_model.specs.Standing.{Gave, GivesSome, SomeMeaning}
 use Rattle.pagable_model.specs.Collected.{Collected}
 use Rattle.pagable_model.specs.Lifted.{MeanAll, mean-none, mean-more, MeansList, MeansPair, items_have_meanings}
 use Rattle.pagable_codec.proofs.Writing.{then, memory_refuses}
-use Rattle.pagable_traits.proofs.Items.{mean-length, mean_last, split-same, forms-last, writes_no_items, grows_some_all}
+use Rattle.pagable_traits.proofs.Items.{mean-length, mean_last, split-same, forms-last, writes_no_items}
 use Rattle.pagable_traits.proofs.Parts.{writes_pair}
 use Rattle.pagable_traits.proofs.Collecting.{put-in-turn}
 use Rattle.pagable_traits.proofs.Walks.{Splits, Wraps, wraps-sequence, writes-counted, refuses-among}
@@ -222,9 +222,6 @@ pub written-refused : {T : Type 0} (M : T → Meaning ArcRef → Type 0) (has : 
 written-refused {T} M has n s all left rest x a b e v f h =
     let same : all ≡ v.front ++ x ∷ rest = v.is ∙ ap (λ (ys : List T). v.front ++ ys) f in
     rw same (refuses-among M has v.front x rest n s e h)
-
-pub written-grows : {T : Type 0} (M : T → Meaning ArcRef → Type 0) (n : Nesting) (s : Shape) (all left : List T) (a b : Out) → Written M n s all left a b → Grows a b
-written-grows M n s all left a b v = grows_some_all (MeanAll M v.front) n s a b v.wrote
 
 -- ---- refusals, for each shape that is a length and items
 
