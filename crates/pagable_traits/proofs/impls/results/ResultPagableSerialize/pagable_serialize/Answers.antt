@@ -9,25 +9,17 @@ use Rattle.pagable_codec.proofs.Writing.{memory_refuses}
 use Rattle.pagable_traits.proofs.Joined.{flagged, no-success, no-failure}
 use Rattle.pagable_traits.proofs.impls.results.ResultPagableSerialize.pagable_serialize.Goals as goal
 
-pub returns-in_err-write_flag-in-Ok-clause-refused : goal.returns-in_err-write_flag-in-Ok-clause-refused
-returns-in_err-write_flag-in-Ok-clause-refused g c =
+pub returns-in_err-write_flag-in-Ok : goal.returns-in_err-write_flag-in-Ok
+returns-in_err-write_flag-in-Ok g c =
     let p = err_from_is_err_and c.from_residual.result c.from_residual.ensures.1 in
-    rw (p.1, p.2) (memory_refuses _ _ _ _ c.in_err-write_flag-in-Ok.ensures.only)
+    let told = c.in_err-write_flag-in-Ok.ensures in
+    rw (p.1, p.2) (record { ok = tt; refused = memory_refuses _ _ _ _ told.only; only = inl told.only; err = told.err; same_env = told.same_env; same_levels = told.same_levels })
 
-pub returns-in_err-write_flag-in-Ok-clause-only : goal.returns-in_err-write_flag-in-Ok-clause-only
-returns-in_err-write_flag-in-Ok-clause-only g c =
-    let p = err_from_is_err_and c.from_residual.result c.from_residual.ensures.1 in
-    rw (p.1, p.2) (inl c.in_err-write_flag-in-Ok.ensures.only)
-
-pub returns-in_err-write_flag-in-Err-clause-refused : goal.returns-in_err-write_flag-in-Err-clause-refused
-returns-in_err-write_flag-in-Err-clause-refused g c =
+pub returns-in_err-write_flag-in-Err : goal.returns-in_err-write_flag-in-Err
+returns-in_err-write_flag-in-Err g c =
     let p = err_from_is_err_and c.from_residual-in_err-write_flag-in-Err.result c.from_residual-in_err-write_flag-in-Err.ensures.1 in
-    rw (p.1, p.2) (memory_refuses _ _ _ _ c.in_err-write_flag-in-Err.ensures.only)
-
-pub returns-in_err-write_flag-in-Err-clause-only : goal.returns-in_err-write_flag-in-Err-clause-only
-returns-in_err-write_flag-in-Err-clause-only g c =
-    let p = err_from_is_err_and c.from_residual-in_err-write_flag-in-Err.result c.from_residual-in_err-write_flag-in-Err.ensures.1 in
-    rw (p.1, p.2) (inl c.in_err-write_flag-in-Err.ensures.only)
+    let told = c.in_err-write_flag-in-Err.ensures in
+    rw (p.1, p.2) (record { ok = tt; refused = memory_refuses _ _ _ _ told.only; only = inl told.only; err = told.err; same_env = told.same_env; same_levels = told.same_levels })
 
 pub returns-in_ok-write_flag-in-Ok : goal.returns-in_ok-write_flag-in-Ok
 returns-in_ok-write_flag-in-Ok g c =
