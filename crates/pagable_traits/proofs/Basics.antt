@@ -1,6 +1,6 @@
 -- How a basic value is read and written: all that its reader and its writer owe, from what the reader or the writer of its bytes tells.
-use Rattle.std.proofs.Common.{◌≡◌, ℕ, ◌++◌, Bool, List, [], refl, ◌∙◌, Result, Ok, Err, inl, inr}
-use Rattle.std.specs.Prelude.{ℤ, OnOk, IfErr}
+use Rattle.std.proofs.Common.{◌≡◌, ℕ, ◌++◌, List, [], refl, Result, Ok, Err, inl, inr}
+use Rattle.std.specs.Prelude.{OnOk, IfErr}
 use Rattle.std.specs.Int.{Width}
 use Rattle.pagable_model.specs.declared.error.Error.{Error}
 use Rattle.pagable_model.specs.declared.numbers.ArcRef.{ArcRef}

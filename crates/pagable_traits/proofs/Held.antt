@@ -1,5 +1,5 @@
 -- Values that hold one or two others: what reading their parts one after another gives, by a lemma for each way that it ends.
-use Rattle.std.proofs.Common.{◌≡◌, Bool, true, false, refl, Result, Ok, Err, Some, None, inl, inr}
+use Rattle.std.proofs.Common.{◌≡◌, Bool, true, false, refl, Ok, Err, Some, None, inl, inr}
 use Rattle.std.specs.Prelude.{◌⊎◌}
 use Rattle.pagable_model.specs.declared.error.Error.{Error}
 use Rattle.pagable_model.specs.declared.numbers.ArcRef.{ArcRef}
