@@ -1,26 +1,19 @@
 -- Of grammars, what they refuse.
 use Rattle.std.proofs.Common.{◌≡◌, ℕ, ◌≤◌, List, [], ◌∷◌, ◌++◌, length, refl, ap, sym, ◌∙◌, subst, inl, inr, arith}
-use Rattle.std.specs.Prelude.{◌≢◌, Option, Some, None, Ok, Result, slice_get}
+use Rattle.std.specs.Prelude.{Some, None, Ok, slice_get}
 use Rattle.pagable_model.specs.declared.error.Error.TheVariants as errors
 use Rattle.pagable_model.specs.declared.numbers.ArcRef.{ArcRef}
 use Rattle.pagable_model.specs.Blob.{Blob}
 use Rattle.pagable_model.specs.Reading.{read, read_with}
 use Rattle.pagable_world.specs.declared.events.Claim.TheVariants as claims
-use Rattle.pagable_world.specs.declared.events.LoadAnswer.{LoadAnswer}
 use Rattle.pagable_world.specs.declared.events.PinStep.TheVariants as pinsteps
 use Rattle.pagable_world.specs.declared.events.Took.{Took}
 use Rattle.pagable_world.specs.declared.events.Took.TheVariants as took
-use Rattle.pagable_world.specs.declared.events.WorkerAnswer.{WorkerAnswer}
-use Rattle.pagable_world.specs.Words.{Among}
-use Rattle.pagable_world.specs.Seen.{digest}
-use Rattle.pagable_world.specs.Pages.{Pages}
-use Rattle.pagable_world.specs.Whole.{Whole, Written, of_item}
+use Rattle.pagable_world.specs.Whole.{Written, of_item}
 use Rattle.pagable_world.specs.LoadSteps.{IsFault, root_frame}
 use Rattle.pagable_world.specs.Order.{Waits, LoadRuns, load-goes, Walk, Walks, finds, does, no-walk, AllSteps, InOrder, OnceEach, IsBroken}
 use Rattle.pagable_world.specs.Bounds.{Unfolds, unfolds, LeadsDown, is-there, goes-down, ReadsTooDeep}
-use Rattle.pagable_world.specs.Over.{LoadRun, load-ends, load-goes-on, WorkerRun, worker-ends, worker-goes-on, ListRun, no-more, skips, pages, fails}
-use Rattle.pagable_world.specs.Results.{ResultsStand, no-results, IsOverResults}
-use Rattle.pagable_laws.specs.SmallWorlds.{empty, new_pages, none_of, all_of, first_load, first_worker, first_identity, bare, nothing_written}
+use Rattle.pagable_laws.specs.SmallWorlds.{empty, none_of, all_of, first_identity, bare, nothing_written}
 use Rattle.pagable_laws.specs.SmallMoments.{sample, sample_types}
 use Rattle.pagable_laws.specs.Refused.{GrammarsRefuse}
 
@@ -99,26 +92,6 @@ not-too-deep key (n, t, last, blob, leads, is, inr (got, within, refused)) =
 
 -- ---- whole operations
 
-not-loadless : (stored : ℕ → Option Blob) (answer : LoadAnswer ℕ) (w w' : Whole) → w.loads ≡ [] → ¬ LoadRun sample first_load w answer w'
-not-loadless stored answer w w' none_is (load-ends _ _ reply _ (load, t, mid, ((among, is), mine), rest, counted, does_it, same) ended) = let e : Among [] load = subst (λ ls. Among ls load) none_is among in absurd (cc)
-not-loadless stored answer w w' none_is (load-goes-on _ middle _ reply _ (load, t, mid, ((among, is), mine), rest, counted, does_it, same) ended run) = let e : Among [] load = subst (λ ls. Among ls load) none_is among in absurd (cc)
-
-not-workerless : (steps : List (Took Written)) (answer : WorkerAnswer) (w w' : Whole) → w.workers ≡ [] → ¬ WorkerRun sample first_worker w steps answer w'
-not-workerless steps answer w w' none_is (worker-ends _ _ reply _ _ (worker, counted, mid, (among, is), silent, does_it, answers, count, same) ended step) = let e : slice_get [] among.0 ≡ Some worker = subst (λ vs. slice_get vs among.0 ≡ Some worker) none_is among.1 in absurd (cc)
-not-workerless steps answer w w' none_is (worker-goes-on _ middle _ reply rest _ _ (worker, counted, mid, (among, is), silent, does_it, answers, count, same) ended run step) = let e : slice_get [] among.0 ≡ Some worker = subst (λ vs. slice_get vs among.0 ≡ Some worker) none_is among.1 in absurd (cc)
-
-not-of-none : (s : Pages ℕ) (i : ℕ) (answer : Result (Unit {0}) WorkerAnswer) (w w' : Whole) → w.list ≡ [] → i ≡ 1 → ¬ ListRun sample s i answer w w'
-not-of-none s _ _ w _ empty_is one_is (no-more _) = omega arith
-not-of-none s i answer w w' empty_is one_is (skips _ n h key r _ _ mid low _ e (row, at, live, has_key_is) takes releases run) = let f : slice_get [] n ≡ Some h = subst (λ hs. slice_get hs n ≡ Some h) empty_is at in absurd (cc)
-not-of-none s i answer w w' empty_is one_is (pages _ n h key _ _ mid _ e (row, at, live, has_key_is) once run) = let f : slice_get [] n ≡ Some h = subst (λ hs. slice_get hs n ≡ Some h) empty_is at in absurd (cc)
-not-of-none s i _ w w' empty_is one_is (fails _ n h error _ _ e (row, at, live, has_key_is) once) = let f : slice_get [] n ≡ Some h = subst (λ hs. slice_get hs n ≡ Some h) empty_is at in absurd (cc)
-
-not-invented : (key : ℕ) → key ≢ digest sample bare → ¬ IsOverResults sample [] [] key
-not-invented key other (keys, stand, is) = by keys stand is
-  where
-    by : (keys : List ℕ) → ResultsStand sample [] keys → key ≡ digest sample (record { bytes = []; keys = keys }) → ⊥
-    by _ no-results same = other same
-
 pub grammars_refuse : GrammarsRefuse
 grammars_refuse =
     record {
@@ -131,8 +104,4 @@ grammars_refuse =
       not_twice = not-twice;
       not_missing = not-missing;
       not_too_deep = not-too-deep;
-      not_loadless = λ stored answer w'. not-loadless stored answer (empty stored) w' refl;
-      not_workerless = λ stored steps answer w'. not-workerless steps answer (empty stored) w' refl;
-      not_of_none = λ stored w'. not-of-none (new_pages stored) 1 (Ok tt) (empty stored) w' refl refl;
-      not_invented = not-invented;
     }

@@ -1,22 +1,19 @@
 -- What the definitions refuse beside what wrong bodies of contracts try: premises, which stand left of an arrow; facts that end in a
 -- catch-all, and so would hold of an event that they missed; and grammars under an existential.
-use Rattle.std.specs.Prelude.{ℕ, ◌≢◌, List, [], ◌∷◌, Option, Ok}
+use Rattle.std.specs.Prelude.{ℕ, ◌≢◌, [], ◌∷◌, Option, Ok}
 use Rattle.pagable_model.specs.declared.error.Error.TheVariants as errors
 use Rattle.pagable_model.specs.declared.numbers.ArcRef.{ArcRef}
 use Rattle.pagable_model.specs.Blob.{Blob}
 use Rattle.pagable_world.specs.declared.calls.Call.TheVariants as calls
 use Rattle.pagable_world.specs.declared.calls.Reply.TheVariants as replies
 use Rattle.pagable_world.specs.declared.events.Claim.TheVariants as claims
-use Rattle.pagable_world.specs.declared.events.LoadAnswer.{LoadAnswer}
 use Rattle.pagable_world.specs.declared.events.PinStep.TheVariants as pinsteps
-use Rattle.pagable_world.specs.declared.events.Took.{Took}
 use Rattle.pagable_world.specs.declared.events.Took.TheVariants as took
-use Rattle.pagable_world.specs.declared.events.WorkerAnswer.{WorkerAnswer}
 use Rattle.pagable_world.specs.declared.events.Event.{Event}
 use Rattle.pagable_world.specs.declared.events.Event.TheVariants as events
 use Rattle.pagable_world.specs.declared.events.EventReply.{EventReply}
 use Rattle.pagable_world.specs.declared.events.EventReply.TheVariants as answers
-use Rattle.pagable_world.specs.Whole.{Whole, Written, of_item}
+use Rattle.pagable_world.specs.Whole.{Written, of_item}
 use Rattle.pagable_world.specs.Seen.{IsLawful, IsSettled, digest}
 use Rattle.pagable_world.specs.Pages.{Pages}
 use Rattle.pagable_world.specs.Stands.{TreeWorld, Represents}
@@ -26,9 +23,7 @@ use Rattle.pagable_world.specs.Order.{Waits, LoadRuns, PinsFirst, Walk, AllSteps
 use Rattle.pagable_world.specs.Bounds.{Unfolds, ReadsTooDeep}
 use Rattle.pagable_world.specs.Interleaved.{CountIsPins, PinGives, RefusesFormless, ReadGives, WaitsRightly, ClaimsAreDistinct, AnswerLeavesAll, PublishIsKey, AnswerIsKey, LoadIsWithin}
 use Rattle.pagable_world.specs.Alone.{StandTogether, DeepIsRefused, LoadIsSound, LeavesCache, IsFilledByReading}
-use Rattle.pagable_world.specs.Over.{LoadRun, WorkerRun, ListRun}
-use Rattle.pagable_world.specs.Results.{IsOverResults}
-use Rattle.pagable_laws.specs.SmallWorlds.{empty, new_pages, first, first_load, first_worker, first_identity, lone, twice_cached, all_of, none_of, only_of, bare, reading, nothing_written, working, sound_world, paged, pages_of, trees_of}
+use Rattle.pagable_laws.specs.SmallWorlds.{empty, new_pages, first, first_identity, lone, twice_cached, all_of, none_of, only_of, bare, reading, nothing_written, working, sound_world, paged, pages_of, trees_of}
 use Rattle.pagable_laws.specs.SmallMoments.{sample, sample_types, run_types, unsettled, meaningless, following, misnaming, lone_pages, new_event, pin_event, pin_reply, count_event, count_reply, load_event, read_reply, long_reply, refused_reply, worker_event, claim_reply, wait_reply, write_reply, publish_reply, answer_reply, deep_reply, load_moment, call_moment}
 
 -- Premises: types that aren't read, values under no law, values that mean more than one thing, calls that close the storage or
@@ -72,8 +67,7 @@ pub record FactsRefuse : Type 0 where
   pub not_lost : (stored : ℕ → Option Blob) (key : ℕ) → ¬ Passes LoadIsSound (pages_of (sound_world stored key)) (trees_of (sound_world stored key) 0) load_event (refused_reply (errors.NoData key))
 
 -- Grammars: waiting comes before a claim, a load ends in a pin, a walk is never empty, an item's steps end in its store, nothing is
--- claimed twice, what isn't stored has no references and what takes none isn't too deep, no operation goes on without its load,
--- worker or entry, and an item's key is that of its results.
+-- claimed twice, what isn't stored has no references, and what takes none isn't too deep.
 pub record GrammarsRefuse : Type 0 where
   pub not_claimed : ¬ Waits {W = Written} first_identity (took.Claim first_identity (Ok claims.Claimed) ∷ [])
   pub not_endless : ¬ LoadRuns {W = Written} first_identity (took.Pin first_identity (Ok pinsteps.LoadWent) ∷ [])
@@ -84,7 +78,3 @@ pub record GrammarsRefuse : Type 0 where
   pub not_twice : ¬ OnceEach {W = Written} (took.Claim first_identity (Ok claims.Claimed) ∷ took.Claim first_identity (Ok claims.Claimed) ∷ [])
   pub not_missing : (t key many longest : ℕ) → ¬ Unfolds sample_types none_of t key many longest
   pub not_too_deep : (key : ℕ) → ¬ ReadsTooDeep sample_types (all_of bare) 1 key
-  pub not_loadless : (stored : ℕ → Option Blob) (answer : LoadAnswer ℕ) (w' : Whole) → ¬ LoadRun sample first_load (empty stored) answer w'
-  pub not_workerless : (stored : ℕ → Option Blob) (steps : List (Took Written)) (answer : WorkerAnswer) (w' : Whole) → ¬ WorkerRun sample first_worker (empty stored) steps answer w'
-  pub not_of_none : (stored : ℕ → Option Blob) (w' : Whole) → ¬ ListRun sample (new_pages stored) 1 (Ok tt) (empty stored) w'
-  pub not_invented : (key : ℕ) → key ≢ digest sample bare → ¬ IsOverResults sample [] [] key

@@ -1,18 +1,15 @@
 -- What holds where each load's and each worker's steps stand together, and of one cache and one store.
-use Rattle.std.specs.Prelude.{ℕ, ◌≡◌, ◌≢◌, ◌+◌, ◌<◌, ◌⊎◌, ◌↔◌, false, List, Some, Ok, slice_get}
+use Rattle.std.specs.Prelude.{ℕ, ◌≡◌, ◌≢◌, ◌+◌, ◌<◌, ◌⊎◌, ◌↔◌, List, Some, Ok, slice_get}
 use Rattle.pagable_model.specs.declared.error.Error.{Error}
 use Rattle.pagable_model.specs.declared.error.Error.TheVariants as errors
 use Rattle.pagable_model.specs.declared.numbers.ArcRef.{ArcRef}
 use Rattle.pagable_model.specs.declared.numbers.HandleNumber.{HandleNumber}
 use Rattle.pagable_model.specs.declared.numbers.Identity.{Identity}
-use Rattle.pagable_model.specs.declared.numbers.Kind.{Kind}
-use Rattle.pagable_model.specs.declared.numbers.LoadNumber.{LoadNumber}
 use Rattle.pagable_model.specs.declared.numbers.NodeNumber.{NodeNumber}
 use Rattle.pagable_model.specs.Trees.{Tree, type_of, height}
 use Rattle.pagable_model.specs.Deep.{longest_path}
 use Rattle.pagable_model.specs.Merkle.{KeyOf, StoredTree, HasOwnKeys}
 use Rattle.pagable_model.specs.Canonical.{IsCanonicalTree, IsReadableTree}
-use Rattle.pagable_world.specs.declared.rows.Owner.{Owner}
 use Rattle.pagable_world.specs.declared.rows.HandleRow.{HandleRow}
 use Rattle.pagable_world.specs.declared.cached.CacheRow.{CacheRow}
 use Rattle.pagable_world.specs.declared.answers.Beginning.TheVariants as beginnings
@@ -30,13 +27,12 @@ use Rattle.pagable_world.specs.Words.{Among}
 use Rattle.pagable_world.specs.Whole.{Whole, Task, of_item, of_entry, OpenLoad, WorkerRow, HasRowOf, HasWorker, HasOpenLoad}
 use Rattle.pagable_world.specs.Seen.{Seen, IsLawful}
 use Rattle.pagable_world.specs.Handles.{IsPagedOut}
-use Rattle.pagable_world.specs.Loads.{from_cache, AskCall, AdoptCall, IsOfCell}
+use Rattle.pagable_world.specs.Loads.{IsOfCell}
 use Rattle.pagable_world.specs.Pages.{Pages}
 use Rattle.pagable_world.specs.Stands.{TreeWorld}
 use Rattle.pagable_world.specs.Met.{Meets}
 use Rattle.pagable_world.specs.WorkerSteps.{IsPublished}
 use Rattle.pagable_world.specs.Bounds.{ReadsTooDeep}
-use Rattle.pagable_world.specs.Events.{Run}
 use Rattle.pagable_world.specs.Premises.{ReadsItsTypes}
 use Rattle.pagable_world.specs.Runs.{Moment, Fact, Along, ArePremised}
 use Rattle.pagable_world.specs.Interleaved.{AnswerLeavesAll, AnswerIsKey, ReadGives}
@@ -109,17 +105,6 @@ LoadIsSound s u (events.LoadStep l) (answers.LoadMoved (Ok reply)) s' u' =
     → HasOpenLoad u.plain l load → IsOfCell load node t h → IsPagedOutAs u.plain node load.key → reply.ended ≡ Some (ends.Refused e) → IsOfChance e
 LoadIsSound s u event reply s' u' = Unit {0}
 
--- a load gets a reference of this kind and key, and it is of this node
-abbrev pub GetsReference : Whole → Kind → ℕ → NodeNumber → Whole → Type 0
-GetsReference w kind key node w' =
-    (me : Owner)
-    × (l : LoadNumber)
-    × (k : HandleNumber)
-    × (row : HandleRow)
-    × HasRowOf w' k row
-    × (row.node ≡ node)
-    × (AskCall w me l (wants.Nested kind key) (Ok (from_cache k)) w' ⊎ ((t : ℕ) × (references : List ArcRef) × (gives : Unit {0}) × AdoptCall w me l kind key gives t references (Ok k) w'))
-
 -- the cache has each node once: so it is where reading alone has filled it
 abbrev pub IsFilledByReading : Whole → Type 0
 IsFilledByReading w =
@@ -131,20 +116,6 @@ LeavesCache (events.Call calls.CacheClear) = ⊥
 LeavesCache (events.Call (calls.OnArcDeserialized kind key h)) = ⊥
 LeavesCache (events.Call calls.Close) = ⊥
 LeavesCache _ = Unit {0}
-
--- Two references that are got through one cache, which reading alone has filled and whose storage is open, have one identity
--- exactly if kind and key are equal.
--- To be carried by: a law on whole worlds, beside the machine's run.
-abbrev pub HasOneIdentity : {N B W : Type 0} → Seen N B W → Whole → Type 0
-HasOneIdentity {N} {B} {W} m w =
-    (kind other_kind : Kind) (key other_key : ℕ) (node other_node : NodeNumber) (w1 w2 w3 : Whole) (happened : List (Event N B W)) (replied : List (EventReply N B W))
-    → IsFilledByReading w
-    → w.closed ≡ false
-    → GetsReference w kind key node w1
-    → ((event : Event N B W) → Among happened event → LeavesCache event)
-    → Run m w1 happened replied w2
-    → GetsReference w2 other_kind other_key other_node w3
-    → ((other_kind ≡ kind) × (other_node ≡ node)) ↔ ((other_kind ≡ kind) × (other_key ≡ key))
 
 -- Of two trees of one type that are stored with all that they reach, the first of canonical types that are read, the keys are
 -- equal exactly if the trees are. The law of values says it; a page-out leaves such trees.

@@ -35,8 +35,6 @@ pub mod Bounds
 pub mod Interleaved
 pub mod Headline
 pub mod Alone
-pub mod Over
-pub mod Results
 pub mod MachineSteps
 pub mod LoadMoves
 pub mod MachineEvents

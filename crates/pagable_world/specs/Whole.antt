@@ -137,9 +137,6 @@ is_slot t i s = (s.table.0 == t) && (s.reference.kind.0 == i.kind.0) && (s.refer
 abbrev pub is_cached_as : Kind → ℕ → CacheRow → Bool
 is_cached_as kind key c = (c.kind.0 == kind.0) && (c.key == key)
 
-abbrev pub is_owned_by : Owner → HandleRow → Bool
-is_owned_by o h = is_owner o h.owner
-
 -- the handle has this row
 abbrev pub HasRowOf : Whole → HandleNumber → HandleRow → Type 0
 HasRowOf w h row = Among w.rows row × (row.number ≡ h)
