@@ -3,7 +3,7 @@ use Rattle.std.specs.Prelude.{◌≡◌, ◌≢◌, ◌⊎◌, List, []}
 use Rattle.pagable_model.specs.declared.error.Error.{Error}
 use Rattle.pagable_model.specs.declared.error.Error.TheVariants as errors
 use Rattle.pagable_model.specs.declared.numbers.ArcRef.{ArcRef}
-use Rattle.pagable_world.specs.World.{World, CannotBear}
+use Rattle.pagable_world.specs.today.World.{World, CannotBear}
 
 -- Why a cell of a value with these references isn't made: it has some; or it has none, and no node can be made. Memory may be
 -- wanting before the references are known.

@@ -2,7 +2,7 @@
 use Rattle.std.specs.Prelude.{ℕ, ◌≡◌, ◌+◌, ◌<◌, List, map, sum_by, Some, slice_get}
 use Rattle.std.specs.List.{AllPairs, remove}
 use Rattle.pagable_model.specs.declared.data_key.OptionalDataKey.{OptionalDataKey}
-use Rattle.pagable_world.specs.State.{is_node, count_at, held, IsNodeBefore}
+use Rattle.pagable_world.specs.today.State.{is_node, count_at, held, IsNodeBefore}
 use Rattle.pagable_world.specs.declared.rows.NodeRow.{NodeRow}
 use Rattle.pagable_world.specs.declared.rows.HandleRow.{HandleRow}
 

@@ -10,16 +10,16 @@ use Rattle.pagable_model.specs.declared.numbers.HandleNumber.{HandleNumber}
 use Rattle.pagable_model.specs.declared.numbers.LoadNumber.{LoadNumber}
 use Rattle.pagable_model.specs.declared.numbers.NodeNumber.{NodeNumber}
 use Rattle.pagable_model.specs.Stored.{RefusesFetch}
-use Rattle.pagable_world.specs.State.{State}
-use Rattle.pagable_world.specs.Values.{value_of_node}
-use Rattle.pagable_world.specs.Cells.{Cell}
-use Rattle.pagable_world.specs.World.{World, plain, greatest, HasCell}
-use Rattle.pagable_world.specs.Calls.{HasLoad, IsNoLoad, Ended}
-use Rattle.pagable_world.specs.Refusals.{IsOwn}
+use Rattle.pagable_world.specs.today.State.{State}
+use Rattle.pagable_world.specs.today.Values.{value_of_node}
+use Rattle.pagable_world.specs.today.Cells.{Cell}
+use Rattle.pagable_world.specs.today.World.{World, plain, greatest, HasCell}
+use Rattle.pagable_world.specs.today.Calls.{HasLoad, IsNoLoad, Ended}
+use Rattle.pagable_world.specs.today.Refusals.{IsOwn}
 use Rattle.pagable_world.specs.declared.rows.HandleRow.{HandleRow}
 use Rattle.pagable_world.specs.declared.rows.LoadRow.{LoadRow}
-use Rattle.pagable_world.specs.InStep.{kept}
-use Rattle.pagable_world.specs.Shown.{Shown}
+use Rattle.pagable_world.specs.today.InStep.{kept}
+use Rattle.pagable_world.specs.today.Shown.{Shown}
 
 -- the load is open, for this node, whose value is of the handed value's type
 abbrev pub FitsLoad : {N : Type 0} → (N → ℕ) → LoadNumber → N → State → NodeNumber → Type 0

@@ -1,11 +1,11 @@
 -- The value that a handle of today's pager lends.
 use Rattle.std.specs.Prelude.{◌≡◌, ℕ, Some, slice_get, true, false}
 use Rattle.pagable_model.specs.declared.numbers.HandleNumber.{HandleNumber}
-use Rattle.pagable_world.specs.State.{is_pinning}
-use Rattle.pagable_world.specs.World.{plain}
-use Rattle.pagable_world.specs.Refusals.{HasRow}
+use Rattle.pagable_world.specs.today.State.{is_pinning}
+use Rattle.pagable_world.specs.today.World.{plain}
+use Rattle.pagable_world.specs.today.Refusals.{HasRow}
 use Rattle.pagable_world.specs.declared.rows.HandleRow.{HandleRow}
-use Rattle.pagable_world.specs.Shown.{Shown}
+use Rattle.pagable_world.specs.today.Shown.{Shown}
 
 -- the handle pins its node, whose value this is
 abbrev pub IsLent : {N S E : Type 0} → Shown N S E → HandleNumber → N → Type 0

@@ -7,10 +7,10 @@ use Rattle.pagable_world.specs.declared.machine.MachineCall.{MachineCall}
 use Rattle.pagable_world.specs.declared.machine.MachineCall.TheVariants as calls
 use Rattle.pagable_world.specs.declared.machine.MachineEvent.{MachineEvent}
 use Rattle.pagable_world.specs.declared.machine.MachineEvent.TheVariants as events
-use Rattle.pagable_world.specs.Calls.{Begun}
-use Rattle.pagable_world.specs.Events.{RepliesCall, RepliesStart, RepliesLoad}
-use Rattle.pagable_world.specs.MachineSteps.{OnlyTables, CallDoes}
-use Rattle.pagable_world.specs.LoadMoves.{FetchedRoot, EventSight, EventWorld, without_load, LoadStepped}
+use Rattle.pagable_world.specs.today.Calls.{Begun}
+use Rattle.pagable_world.specs.Replies.{RepliesCall, RepliesStart, RepliesLoad}
+use Rattle.pagable_world.specs.today.MachineSteps.{OnlyTables, CallDoes}
+use Rattle.pagable_world.specs.today.LoadMoves.{FetchedRoot, EventSight, EventWorld, without_load, LoadStepped}
 
 -- the loads that have got their root's blob after a call: one that the call closed is none of them
 abbrev pub fetched_after : {N B C : Type 0} → MachineCall N B → Reply N C → List FetchedRoot → List FetchedRoot

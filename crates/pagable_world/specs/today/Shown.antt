@@ -1,7 +1,7 @@
 -- What contracts see of today's pager, and what stays the same.
 use Rattle.std.specs.Prelude.{◌≡◌, ℕ, List}
-use Rattle.pagable_world.specs.State.{State}
-use Rattle.pagable_world.specs.World.{plain}
+use Rattle.pagable_world.specs.today.State.{State}
+use Rattle.pagable_world.specs.today.World.{plain}
 
 -- the tables, the values in memory by node, the storage and the environment
 pub record Shown (N S E : Type 0) : Type 0 where

@@ -17,14 +17,14 @@ use Rattle.pagable_world.specs.declared.calls.Found.TheVariants as founds
 use Rattle.pagable_world.specs.declared.calls.Reply.{Reply}
 use Rattle.pagable_world.specs.declared.machine.MachineCall.{MachineCall}
 use Rattle.pagable_world.specs.declared.machine.MachineCall.TheVariants as calls
-use Rattle.pagable_world.specs.Cells.{Cell}
-use Rattle.pagable_world.specs.World.{World, plain, HasCell}
-use Rattle.pagable_world.specs.Calls.{Born, BornAway, Cloned, Loosened, PinnedBy, Unpinned, Released, Counts, KeyIs, AwayIs, NodeIs, Took, KeySet, Begun, HasLoad, IsNoLoad, Ended, Dropped}
-use Rattle.pagable_world.specs.Births.{RefusesNew}
-use Rattle.pagable_world.specs.LoadEnds.{StaysOpen}
-use Rattle.pagable_world.specs.Shown.{Shown}
-use Rattle.pagable_world.specs.TodayTrees.{Sight}
-use Rattle.pagable_world.specs.Steps.{AnswersMade, AnswersHandle, AnswersPin, AnswersDone, AnswersCount, AnswersKey, AnswersAway, AnswersNode, AnswersType, AnswersLength, AnswersTaken, AnswersBlob, AnswersStored, AnswersBegun, AnswersFound, AnswersEnded}
+use Rattle.pagable_world.specs.today.Cells.{Cell}
+use Rattle.pagable_world.specs.today.World.{World, plain, HasCell}
+use Rattle.pagable_world.specs.today.Calls.{Born, BornAway, Cloned, Loosened, PinnedBy, Unpinned, Released, Counts, KeyIs, AwayIs, NodeIs, Took, KeySet, Begun, HasLoad, IsNoLoad, Ended, Dropped}
+use Rattle.pagable_world.specs.today.Births.{RefusesNew}
+use Rattle.pagable_world.specs.today.LoadEnds.{StaysOpen}
+use Rattle.pagable_world.specs.today.Shown.{Shown}
+use Rattle.pagable_world.specs.today.TodayTrees.{Sight}
+use Rattle.pagable_world.specs.Replies.{AnswersMade, AnswersHandle, AnswersPin, AnswersDone, AnswersCount, AnswersKey, AnswersAway, AnswersNode, AnswersType, AnswersLength, AnswersTaken, AnswersBlob, AnswersStored, AnswersBegun, AnswersFound, AnswersEnded}
 
 pub record MachineWorld : Type 0 where
   pub tables : World

@@ -10,16 +10,16 @@ use Rattle.pagable_world.specs.declared.machine.MachineCall.TheVariants as calls
 use Rattle.pagable_world.specs.declared.machine.MachineEvent.{MachineEvent}
 use Rattle.pagable_world.specs.declared.machine.MachineEvent.TheVariants as events
 use Rattle.pagable_world.specs.declared.rows.LoadRow.{LoadRow}
-use Rattle.pagable_world.specs.World.{plain}
-use Rattle.pagable_world.specs.Calls.{HasLoad}
-use Rattle.pagable_world.specs.State.{WellFormed}
-use Rattle.pagable_world.specs.InStep.{InStep}
-use Rattle.pagable_world.specs.Shown.{Shown}
-use Rattle.pagable_world.specs.Stands.{SameTrees}
-use Rattle.pagable_world.specs.TodayTrees.{MeansTree, KeyReads, TodayWorld, RepresentsToday, SetKeyFits, ReadFits}
-use Rattle.pagable_world.specs.MachineSteps.{MachineSight}
-use Rattle.pagable_world.specs.LoadMoves.{FetchedRoot, Driven, EventSight, event_world_of}
-use Rattle.pagable_world.specs.MachineEvents.{EventDoes}
+use Rattle.pagable_world.specs.today.World.{plain}
+use Rattle.pagable_world.specs.today.Calls.{HasLoad}
+use Rattle.pagable_world.specs.today.State.{WellFormed}
+use Rattle.pagable_world.specs.today.InStep.{InStep}
+use Rattle.pagable_world.specs.today.Shown.{Shown}
+use Rattle.pagable_world.specs.Trees.{SameTrees}
+use Rattle.pagable_world.specs.today.TodayTrees.{MeansTree, KeyReads, TodayWorld, RepresentsToday, SetKeyFits, ReadFits}
+use Rattle.pagable_world.specs.today.MachineSteps.{MachineSight}
+use Rattle.pagable_world.specs.today.LoadMoves.{FetchedRoot, Driven, EventSight, event_world_of}
+use Rattle.pagable_world.specs.today.MachineEvents.{EventDoes}
 
 -- an event, its reply and the machine after it
 pub record MachineMoment (N S E B C : Type 0) : Type 0 where

@@ -4,7 +4,7 @@ use Rattle.pagable_model.specs.declared.numbers.ArcRef.{ArcRef}
 use Rattle.pagable_model.specs.Blob.{Blob}
 use Rattle.pagable_model.specs.Meaning.{Meaning}
 use Rattle.pagable_model.specs.Shape.{Shape}
-use Rattle.pagable_world.specs.TodayTrees.{Sight}
+use Rattle.pagable_world.specs.today.TodayTrees.{Sight}
 
 -- what values are: their types, what they mean, the shapes of types, and what is stored
 abbrev pub values_by : {N S E : Type 0} → (N → ℕ) → (N → Meaning ArcRef → Type 0) → (E → ℕ → Option Shape) → (E → ℕ → Shape) → (S → ℕ → Option Blob) → Sight N S E

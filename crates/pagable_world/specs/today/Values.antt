@@ -2,10 +2,10 @@
 -- what is said holds of all values, and of those of every type.
 use Rattle.std.specs.Prelude.{ℕ, ◌≡◌, ◌≢◌, ◌==◌, ◌&&◌, ◌||◌, ◌⊎◌, Bool, true, not, sum_by, nat_lt}
 use Rattle.pagable_model.specs.declared.numbers.HandleNumber.{HandleNumber}
-use Rattle.pagable_world.specs.State.{State, one, has_key, pins}
-use Rattle.pagable_world.specs.Cells.{Cell}
-use Rattle.pagable_world.specs.World.{World, plain}
-use Rattle.pagable_world.specs.Refusals.{HasRow}
+use Rattle.pagable_world.specs.today.State.{State, one, has_key, pins}
+use Rattle.pagable_world.specs.today.Cells.{Cell}
+use Rattle.pagable_world.specs.today.World.{World, plain}
+use Rattle.pagable_world.specs.today.Refusals.{HasRow}
 use Rattle.pagable_world.specs.declared.rows.NodeRow.{NodeRow}
 use Rattle.pagable_world.specs.declared.rows.HandleRow.{HandleRow}
 

@@ -11,10 +11,10 @@ use Rattle.pagable_model.specs.declared.numbers.NodeNumber.{NodeNumber}
 use Rattle.pagable_world.specs.declared.rows.Mode.{Mode}
 use Rattle.pagable_world.specs.declared.rows.Mode.TheVariants as modes
 use Rattle.pagable_world.specs.declared.rows.Owner.TheVariants as owners
-use Rattle.pagable_world.specs.State.{is_pinning, is_loose, is_load, pins, has_key}
-use Rattle.pagable_world.specs.Cells.{Cell}
-use Rattle.pagable_world.specs.World.{World, joined, turned, born, born_with, rekeyed, opened, HasCell, IsHere, IsAway, Leaves, Closes, Prepared, CannotMake, CannotBear, CannotOpen}
-use Rattle.pagable_world.specs.Refusals.{HasRow, IsUnknown, IsOwn, RefusesOwn, RefusesLoose, RefusesPinned}
+use Rattle.pagable_world.specs.today.State.{is_pinning, is_loose, is_load, pins, has_key}
+use Rattle.pagable_world.specs.today.Cells.{Cell}
+use Rattle.pagable_world.specs.today.World.{World, joined, turned, born, born_with, rekeyed, opened, HasCell, IsHere, IsAway, Leaves, Closes, Prepared, CannotMake, CannotBear, CannotOpen}
+use Rattle.pagable_world.specs.today.Refusals.{HasRow, IsUnknown, IsOwn, RefusesOwn, RefusesLoose, RefusesPinned}
 use Rattle.pagable_world.specs.declared.answers.Pinning.{Pinning}
 use Rattle.pagable_world.specs.declared.answers.Pinning.TheVariants as pinnings
 use Rattle.pagable_world.specs.declared.answers.Beginning.{Beginning}

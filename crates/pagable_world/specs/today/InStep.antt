@@ -1,7 +1,7 @@
 -- Values in step with the tables.
 use Rattle.std.specs.Prelude.{◌≡◌, ◌==◌, ◌&&◌, ℕ, Bool, List, filter, sum_by, nat_lt}
-use Rattle.pagable_world.specs.State.{State, one, value_at}
-use Rattle.pagable_world.specs.Values.{values_of}
+use Rattle.pagable_world.specs.today.State.{State, one, value_at}
+use Rattle.pagable_world.specs.today.Values.{values_of}
 
 -- 1 for a value of the node with this number, of a type that fits
 abbrev pub is_value : {N : Type 0} → (N → ℕ) → (ℕ → Bool) → ℕ → ℕ × N → ℕ

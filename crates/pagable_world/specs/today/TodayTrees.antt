@@ -11,15 +11,15 @@ use Rattle.pagable_model.specs.Meaning.{Meaning, lifted}
 use Rattle.pagable_model.specs.Trees.{Tree, ReadsTree}
 use Rattle.pagable_world.specs.declared.rows.Mode.{Mode}
 use Rattle.pagable_world.specs.declared.rows.Mode.TheVariants as modes
-use Rattle.pagable_world.specs.State.{is_loose}
-use Rattle.pagable_world.specs.Cells.{Cell}
-use Rattle.pagable_world.specs.World.{World, plain, born, born_with}
-use Rattle.pagable_world.specs.Refusals.{HasRow, IsOwn}
-use Rattle.pagable_world.specs.Calls.{HasLoad}
+use Rattle.pagable_world.specs.today.State.{is_loose}
+use Rattle.pagable_world.specs.today.Cells.{Cell}
+use Rattle.pagable_world.specs.today.World.{World, plain, born, born_with}
+use Rattle.pagable_world.specs.today.Refusals.{HasRow, IsOwn}
+use Rattle.pagable_world.specs.today.Calls.{HasLoad}
 use Rattle.pagable_world.specs.declared.rows.HandleRow.{HandleRow}
 use Rattle.pagable_world.specs.declared.rows.LoadRow.{LoadRow}
-use Rattle.pagable_world.specs.Shown.{Shown}
-use Rattle.pagable_world.specs.Stands.{SameTrees}
+use Rattle.pagable_world.specs.today.Shown.{Shown}
+use Rattle.pagable_world.specs.Trees.{SameTrees}
 
 -- How values and blobs are seen: the type of a value and what it may mean, how values are spelled, and what is stored.
 pub record Sight (N S E : Type 0) : Type 1 where

@@ -6,8 +6,8 @@ use Rattle.pagable_model.specs.declared.error.Error.TheVariants as errors
 use Rattle.pagable_model.specs.declared.numbers.HandleNumber.{HandleNumber}
 use Rattle.pagable_world.specs.declared.rows.Mode.TheVariants as modes
 use Rattle.pagable_world.specs.declared.rows.Owner.TheVariants as owners
-use Rattle.pagable_world.specs.State.{is_number, is_loose}
-use Rattle.pagable_world.specs.World.{World}
+use Rattle.pagable_world.specs.today.State.{is_number, is_loose}
+use Rattle.pagable_world.specs.today.World.{World}
 use Rattle.pagable_world.specs.declared.rows.HandleRow.{HandleRow}
 
 -- the handle has this row, at this place

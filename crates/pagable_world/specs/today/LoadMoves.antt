@@ -15,13 +15,13 @@ use Rattle.pagable_world.specs.declared.rows.LoadRow.{LoadRow}
 use Rattle.pagable_world.specs.declared.events.LoadAnswer.{LoadAnswer}
 use Rattle.pagable_world.specs.declared.events.LoadAnswer.TheVariants as ends
 use Rattle.pagable_world.specs.declared.events.LoadReply.{LoadReply}
-use Rattle.pagable_world.specs.Cells.{Cell}
-use Rattle.pagable_world.specs.World.{World, greatest, HasCell, Closes}
-use Rattle.pagable_world.specs.Refusals.{IsOwn, RefusesOwn}
-use Rattle.pagable_world.specs.Calls.{HasLoad, IsNoLoad, Ended}
-use Rattle.pagable_world.specs.Shown.{Shown}
-use Rattle.pagable_world.specs.LoadSteps.{one_more}
-use Rattle.pagable_world.specs.MachineSteps.{MachineWorld, MachineSight, world_of, OnlyTables, OnlyFailures}
+use Rattle.pagable_world.specs.today.Cells.{Cell}
+use Rattle.pagable_world.specs.today.World.{World, greatest, HasCell, Closes}
+use Rattle.pagable_world.specs.today.Refusals.{IsOwn, RefusesOwn}
+use Rattle.pagable_world.specs.today.Calls.{HasLoad, IsNoLoad, Ended}
+use Rattle.pagable_world.specs.today.Shown.{Shown}
+use Rattle.pagable_world.specs.World.{one_more}
+use Rattle.pagable_world.specs.today.MachineSteps.{MachineWorld, MachineSight, world_of, OnlyTables, OnlyFailures}
 
 -- a load that has got the blob of its root, and how many steps it has made
 pub record FetchedRoot : Type 0 where
