@@ -3,6 +3,11 @@ pub mod Kinds
 pub mod Depth
 pub mod Owners
 pub mod World
+pub mod Cascade
+pub mod Refusals
+pub mod HandleCalls
+pub mod CacheCalls
+pub mod LoadCalls
 pub mod Replies
 pub mod Trees
 pub mod today
