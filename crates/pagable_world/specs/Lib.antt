@@ -9,5 +9,12 @@ pub mod HandleCalls
 pub mod CacheCalls
 pub mod LoadCalls
 pub mod Replies
+pub mod Values
+pub mod Steps
+pub mod Decoding
+pub mod Loads
+pub mod Workers
+pub mod Events
+pub mod Pager
 pub mod Trees
 pub mod today

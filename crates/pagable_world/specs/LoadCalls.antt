@@ -24,7 +24,7 @@ use Rattle.pagable_world.specs.Kinds.{is_loose_kind, is_pinned_kind, mode_of}
 use Rattle.pagable_world.specs.Owners.{is_owner, is_loose, any_mode, value}
 use Rattle.pagable_world.specs.World.{Core, Root, of_cell, of_key, OpenLoad, greatest, row_at, type_at, key_at, is_here, usable, Alike}
 use Rattle.pagable_world.specs.Cascade.{Falls, FallsAnyhow}
-use Rattle.pagable_world.specs.Refusals.{earlier, where_so, refused_if, spent, is_type, AreHandlesFull, Owns, handle_fault, references_fault, named_fault, OwnsLoad, load_fault, Refused}
+use Rattle.pagable_world.specs.Refusals.{earlier, where_so, refused_if, spent, AreHandlesFull, Owns, handle_fault, references_fault, named_fault, OwnsLoad, load_fault, Refused}
 use Rattle.pagable_world.specs.HandleCalls.{with_handle, with_mode, with_node, next_node, moved, is_named_by, is_handle_here, birth_fault, IsNext, IsRefused}
 use Rattle.pagable_world.specs.CacheCalls.{is_usable, with_known, with_cached_if_open, FetchCall}
 
@@ -47,7 +47,7 @@ Begins w me h row (beginnings.Load l key) w' =
     × (key_at w row.node.0 ≡ optional.Some key)
     × IsNextLoad l w
     × (w.last.handle < greatest)
-    × Alike (with_load (with_handle w row.node modes.LooseUnpinned (owners.Load l)) key (of_cell row.node h) me) w'
+    × ((t : ℕ) × (type_at w row.node.0 ≡ Some t) × Alike (with_load (with_handle w row.node modes.LooseUnpinned (owners.Load l)) key (of_cell row.node t h) me) w')
 
 abbrev pub begin_fault : Core → Owner → HandleNumber → Option Error
 begin_fault w me h = earlier (handle_fault w me h is_loose) (where_so (not (is_handle_here w h)) (earlier (spent w.last.load) (spent w.last.handle)))
@@ -171,8 +171,7 @@ LoadCloses w l r w' = Falls w (without_load w l) (is_owned_in w (owners.Load l))
 pub record MayEnd (w : Core) (me : Owner) (l : LoadNumber) (node : NodeNumber) (h : HandleNumber) (node_type : ℕ) (references : List ArcRef) : Type 0 where
   pub load : OpenLoad
   pub owned : OwnsLoad w me l load
-  pub of_node : load.root ≡ of_cell node h
-  pub typed : type_at w node.0 ≡ Some node_type
+  pub of_node : load.root ≡ of_cell node node_type h
   pub good : references_fault w (owners.Load l) [] references ≡ None
 
 -- the caller's handle is pinned, and a Pinned one is made
@@ -191,9 +190,9 @@ pub record Installs (w : Core) (me : Owner) (l : LoadNumber) (node : NodeNumber)
       × FallsAnyhow w (with_pin (record (without_load w l) { rows = moved (is_named_by references) (value node.0) w.rows }) h node me) (λ q. is_owned_in w (owners.Load l) q && not (is_named_by references q)) w')
       ⊎ ((is_here w node.0 ≡ true) × FallsAnyhow w (with_pin (without_load w l) h node me) (is_owned_in w (owners.Load l)) w')
 
--- the load is of a key, or of a cell of another type; and the number of its handle, if the caller still has that
+-- the load is of a key, or of a cell of another type; and no number is left for a pin, if the caller still has the handle
 abbrev pub root_fault : Core → Owner → ℕ → Root → Option Error
-root_fault w me node_type (of_cell node h) = earlier (refused_if (not (is_type node_type (type_at w node.0))) errors.WrongKind) (where_so (owned_row me (row_at w h)) (spent w.last.handle))
+root_fault w me node_type (of_cell node t h) = earlier (refused_if (not (node_type == t)) errors.WrongKind) (where_so (owned_row me (row_at w h)) (spent w.last.handle))
 root_fault w me node_type of_key = Some errors.WrongMode
 
 abbrev pub end_load_fault : Core → Owner → ℕ → Option OpenLoad → Option Error
@@ -225,7 +224,7 @@ abbrev pub numbers_of : List HandleNumber → List ℕ
 numbers_of hs = map (λ (h : HandleNumber). h.0) hs
 
 abbrev pub cell_fault : Root → Option Error
-cell_fault (of_cell node h) = Some errors.WrongMode
+cell_fault (of_cell node t h) = Some errors.WrongMode
 cell_fault of_key = None
 
 abbrev pub cell_root_fault : Option OpenLoad → Option Error

@@ -38,9 +38,10 @@ pub record Last : Type 0 where
   pub load : ℕ
   pub worker : ℕ
 
--- what a load reads its key for: the value of a cell, with the handle by which the load was begun; or what the caller makes of it
+-- what a load reads its key for: the value of a cell of a type, with the handle by which the load was begun; or what the caller makes
+-- of it
 pub data Root : Type 0 where
-  of_cell : NodeNumber → HandleNumber → Root
+  of_cell : NodeNumber → ℕ → HandleNumber → Root
   of_key : Root
 
 -- an open load: who began it, the key that it reads and what for
@@ -161,13 +162,17 @@ pub record Walking : Type 0 where
   pub steps : ℕ
   pub answer : Option WorkerAnswer
 
--- all of it: tables, loads and workers by their numbers
-pub record World : Type 0 where
-  pub core : Core
+-- tables, and loads and workers of a machine, by their numbers
+pub record Work : Type 0 where
   pub shelves : ℕ → Shelf
   pub last_table : ℕ
   pub readings : ℕ → Option Reading
   pub walkings : ℕ → Option Walking
+
+-- all of it
+pub record World : Type 0 where
+  pub core : Core
+  pub work : Work
 
 -- ---- look-ups
 

@@ -1,0 +1,234 @@
+-- A load's steps: a fetch, a lazily read cell or an adoption each, and in the end a pin, an answer or a refusal. What it does next
+-- is told by the innermost of its blobs.
+use Rattle.std.specs.Prelude.{ℕ, ◌≡◌, ◌+◌, ◌≤◌, ◌<◌, ◌⊎◌, if◌then◌else◌, Bool, true, List, [], ◌∷◌, ◌++◌, length, map, Option, Some, None, Result, Ok, Err}
+use Rattle.pagable_model.specs.declared.error.Error.{Error}
+use Rattle.pagable_model.specs.declared.error.Error.TheVariants as errors
+use Rattle.pagable_model.specs.declared.numbers.ArcRef.{ArcRef}
+use Rattle.pagable_model.specs.declared.numbers.Kind.{Kind}
+use Rattle.pagable_model.specs.declared.numbers.HandleNumber.{HandleNumber}
+use Rattle.pagable_model.specs.declared.numbers.LoadNumber.{LoadNumber}
+use Rattle.pagable_model.specs.Meaning.{Meaning}
+use Rattle.pagable_model.specs.Blob.{Blob}
+use Rattle.pagable_model.specs.Trees.{Types, type_of}
+use Rattle.pagable_world.specs.declared.handles.Owner.{Owner}
+use Rattle.pagable_world.specs.declared.handles.HandleRow.{HandleRow}
+use Rattle.pagable_world.specs.declared.calls.Want.TheVariants as wants
+use Rattle.pagable_world.specs.declared.events.LoadAnswer.{LoadAnswer}
+use Rattle.pagable_world.specs.declared.events.LoadAnswer.TheVariants as ends
+use Rattle.pagable_world.specs.Kinds.{is_eager}
+use Rattle.pagable_world.specs.Depth.{longest_path}
+use Rattle.pagable_world.specs.World.{Core, Root, of_cell, of_key, OpenLoad, Frame, Reading, row_at, one_more, Alike}
+use Rattle.pagable_world.specs.Values.{Values}
+use Rattle.pagable_world.specs.Decoding.{Next, reads, asks, is_faulty, next_in, IsDecoded}
+use Rattle.pagable_world.specs.LoadCalls.{from_cache, from_store, AskCall, AdoptCall, LazyCall, EndCall, HandOverCall, LoadCloses}
+
+-- ---- what a load needs next
+
+pub data Need : Type 0 where
+  -- the blob of its own key
+  needs_root : Need
+  -- a reference of this kind under this key, which is read together with the value, or isn't
+  needs_nested : Kind → ℕ → Need
+  needs_lazy : Kind → ℕ → Need
+  -- a node of what the innermost blob reads as, for the blob below it
+  to_adopt : Need
+  -- nothing more: the root is read
+  to_end : Need
+  -- the innermost blob is refused
+  is_broken : Error → Need
+
+abbrev pub need_at : List Frame → Next → Need
+need_at below (asks kind key) = if is_eager kind.0 then needs_nested kind key else needs_lazy kind key
+need_at [] (reads own) = to_end
+need_at (frame ∷ frames) (reads own) = to_adopt
+need_at below (is_faulty e) = is_broken e
+
+abbrev pub need_of : Types → List Frame → Need
+need_of types [] = needs_root
+need_of types (top ∷ below) = need_at below (next_in types top)
+
+-- ---- it goes on
+
+-- the root's blob; no node is made of it, so its kind says nothing
+abbrev pub root_frame : ℕ → ℕ → Blob → Frame
+root_frame key t blob = record { kind = record { 0 = 3 }; key = key; node_type = t; blob = blob; got = [] }
+
+abbrev pub nested_frame : Kind → ℕ → Blob → Frame
+nested_frame kind key blob = record { kind = kind; key = key; node_type = type_of kind.0; blob = blob; got = [] }
+
+-- the innermost frame has got one more reference: this handle, by its row
+abbrev pub with_got : Kind → HandleRow → List Frame → List Frame
+with_got kind row [] = []
+with_got kind row (frame ∷ frames) = record frame { got = frame.got ++ record { kind = kind; node = row.node; handle = row.number } ∷ [] } ∷ frames
+
+-- it has got its root's blob
+pub record GetsRoot (w : Core) (me : Owner) (reading : Reading) (frames : List Frame) (w' : Core) : Type 0 where
+  pub load : OpenLoad
+  pub blob : Blob
+  pub first : reading.frames ≡ []
+  pub open_load : w.loads reading.load.0 ≡ Some load
+  pub asked : AskCall w me reading.load wants.Root (Ok (from_store blob)) w'
+  pub goes : frames ≡ root_frame load.key reading.node_type blob ∷ []
+
+-- it has got a handle of a node that the cache knows
+pub record GetsCached (types : Types) (w : Core) (me : Owner) (reading : Reading) (frames : List Frame) (w' : Core) : Type 0 where
+  pub kind : Kind
+  pub key : ℕ
+  pub k : HandleNumber
+  pub row : HandleRow
+  pub needs : need_of types reading.frames ≡ needs_nested kind key
+  pub asked : AskCall w me reading.load (wants.Nested kind key) (Ok (from_cache k)) w'
+  pub made : row_at w' k ≡ Some row
+  pub goes : frames ≡ with_got kind row reading.frames
+
+-- it has got the reference's blob, and the path isn't too long
+pub record GetsBlob (types : Types) (w : Core) (me : Owner) (reading : Reading) (frames : List Frame) (w' : Core) : Type 0 where
+  pub kind : Kind
+  pub key : ℕ
+  pub blob : Blob
+  pub needs : need_of types reading.frames ≡ needs_nested kind key
+  pub short : length reading.frames ≤ longest_path
+  pub asked : AskCall w me reading.load (wants.Nested kind key) (Ok (from_store blob)) w'
+  pub goes : frames ≡ nested_frame kind key blob ∷ reading.frames
+
+-- it has got a handle of a cell of which nothing was read
+pub record GetsLazy (types : Types) (w : Core) (me : Owner) (reading : Reading) (frames : List Frame) (w' : Core) : Type 0 where
+  pub kind : Kind
+  pub key : ℕ
+  pub k : HandleNumber
+  pub row : HandleRow
+  pub needs : need_of types reading.frames ≡ needs_lazy kind key
+  pub asked : LazyCall w me reading.load kind key (Ok k) w'
+  pub made : row_at w' k ≡ Some row
+  pub goes : frames ≡ with_got kind row reading.frames
+
+-- the innermost blob was read as this value, and below it stands another
+pub record ReadsNode {N : Type 0} (v : Values N) (reading : Reading) (x : N) : Type 0 where
+  pub top : Frame
+  pub below : List Frame
+  pub frames : reading.frames ≡ top ∷ below
+  pub needs : need_of v.types reading.frames ≡ to_adopt
+  pub decoded : IsDecoded v top x
+
+-- what was read became a node
+pub record MakesNode {N : Type 0} (v : Values N) (w : Core) (me : Owner) (reading : Reading) (frames : List Frame) (w' : Core) : Type 0 where
+  pub x : N
+  pub reads_node : ReadsNode v reading x
+  pub k : HandleNumber
+  pub row : HandleRow
+  pub adopted : AdoptCall w me reading.load reads_node.top.kind reads_node.top.key x (v.node_type x) (v.references x) (Ok k) w'
+  pub made : row_at w' k ≡ Some row
+  pub goes : frames ≡ with_got reads_node.top.kind row reads_node.below
+
+abbrev pub GoesOn : {N : Type 0} → Values N → Core → Owner → Reading → List Frame → Core → Type 0
+GoesOn v w me reading frames w' =
+    GetsRoot w me reading frames w' ⊎ GetsCached v.types w me reading frames w' ⊎ GetsBlob v.types w me reading frames w' ⊎ GetsLazy v.types w me reading frames w' ⊎ MakesNode v w me reading frames w'
+
+-- ---- it ends
+
+-- the root's blob was read as this value
+pub record ReadsRoot {N : Type 0} (v : Values N) (reading : Reading) (x : N) : Type 0 where
+  pub root : Frame
+  pub frames : reading.frames ≡ root ∷ []
+  pub decoded : IsDecoded v root x
+
+-- the load is of a cell, or of a key
+abbrev pub IsOfCell : Root → Type 0
+IsOfCell (of_cell node t h) = Unit {0}
+IsOfCell of_key = ⊥
+
+abbrev pub IsOfKey : Root → Type 0
+IsOfKey (of_cell node t h) = ⊥
+IsOfKey of_key = Unit {0}
+
+-- the load is open, and is of this sort
+pub record LoadIs (w : Core) (reading : Reading) (P : Root → Type 0) : Type 0 where
+  pub load : OpenLoad
+  pub open_load : w.loads reading.load.0 ≡ Some load
+  pub sort : P load.root
+
+-- the load of a cell ends with a pin of it
+pub record EndsPinned {N : Type 0} (v : Values N) (w : Core) (me : Owner) (reading : Reading) (k : HandleNumber) (w' : Core) : Type 0 where
+  pub x : N
+  pub reads_root : ReadsRoot v reading x
+  pub of_cell_load : LoadIs w reading IsOfCell
+  pub ended : EndCall w me reading.load x (v.node_type x) (v.references x) (Ok k) w'
+
+abbrev pub handles_of : List ArcRef → List HandleNumber
+handles_of references = map (λ (r : ArcRef). r.handle) references
+
+-- the load of a key hands over the references of the value that was read
+pub record EndsRead {N : Type 0} (v : Values N) (w : Core) (me : Owner) (reading : Reading) (x : N) (w' : Core) : Type 0 where
+  pub reads_root : ReadsRoot v reading x
+  pub of_key_load : LoadIs w reading IsOfKey
+  pub handed : HandOverCall w me reading.load (handles_of (v.references x)) (Ok tt) w'
+
+-- ---- it is refused
+
+-- by its blob, or by a cause that the type's own reader has; or since memory is wanting for what is read
+abbrev pub RefusesBlob : {N : Type 0} → Values N → Reading → Error → Type 0
+RefusesBlob v reading e = (need_of v.types reading.frames ≡ is_broken e) ⊎ ((top : Frame) × (below : List Frame) × (reading.frames ≡ top ∷ below) × v.read_causes top.node_type e) ⊎ (e ≡ errors.OutOfMemory)
+
+-- by a fetch; or by the path that is too long, which is seen once the blob was fetched
+abbrev pub RefusesNested : Types → Core → Owner → Reading → Error → Core → Type 0
+RefusesNested types w me reading e w' =
+    (kind : Kind)
+    × (key : ℕ)
+    × (need_of types reading.frames ≡ needs_nested kind key)
+    × (AskCall w me reading.load (wants.Nested kind key) (Err e) w' ⊎ ((blob : Blob) × (e ≡ errors.TooDeep) × (longest_path < length reading.frames) × AskCall w me reading.load (wants.Nested kind key) (Ok (from_store blob)) w'))
+
+-- by an adoption
+pub record RefusesNode {N : Type 0} (v : Values N) (w : Core) (me : Owner) (reading : Reading) (e : Error) (w' : Core) : Type 0 where
+  pub x : N
+  pub reads_node : ReadsNode v reading x
+  pub adopted : AdoptCall w me reading.load reads_node.top.kind reads_node.top.key x (v.node_type x) (v.references x) (Err (e, x)) w'
+
+-- by its end, the load still being open
+pub record RefusesRoot {N : Type 0} (v : Values N) (w : Core) (me : Owner) (reading : Reading) (e : Error) (w' : Core) : Type 0 where
+  pub x : N
+  pub reads_root : ReadsRoot v reading x
+  pub refuses :
+      (LoadIs w reading IsOfCell × EndCall w me reading.load x (v.node_type x) (v.references x) (Err (e, Some x)) w')
+      ⊎ (LoadIs w reading IsOfKey × HandOverCall w me reading.load (handles_of (v.references x)) (Err e) w')
+
+-- a step met this refusal, and the load is still open
+abbrev pub Meets : {N : Type 0} → Values N → Core → Owner → Reading → Error → Core → Type 0
+Meets v w me reading e w' =
+    (RefusesBlob v reading e × Alike w w')
+    ⊎ ((reading.frames ≡ []) × AskCall w me reading.load wants.Root (Err e) w')
+    ⊎ RefusesNested v.types w me reading e w'
+    ⊎ ((kind : Kind) × (key : ℕ) × (need_of v.types reading.frames ≡ needs_lazy kind key) × LazyCall w me reading.load kind key (Err e) w')
+    ⊎ RefusesNode v w me reading e w'
+    ⊎ RefusesRoot v w me reading e w'
+
+-- It met a refusal: it is closed, and all that it owns is given up.
+pub record GivesUp {N : Type 0} (v : Values N) (w : Core) (me : Owner) (reading : Reading) (e : Error) (w' : Core) : Type 0 where
+  pub mid : Core
+  pub meets : Meets v w me reading e mid
+  pub told : Result (Unit {0}) Error
+  pub closes : LoadCloses mid reading.load told w'
+
+-- its end found that the caller's handle is gone, and closed it
+pub record EndsClosed {N : Type 0} (v : Values N) (w : Core) (me : Owner) (reading : Reading) (e : Error) (w' : Core) : Type 0 where
+  pub x : N
+  pub reads_root : ReadsRoot v reading x
+  pub ended : EndCall w me reading.load x (v.node_type x) (v.references x) (Err (e, None)) w'
+
+abbrev pub Fails : {N : Type 0} → Values N → Core → Owner → Reading → Error → Core → Type 0
+Fails v w me reading e w' = GivesUp v w me reading e w' ⊎ EndsClosed v w me reading e w'
+
+-- ---- one step
+
+abbrev pub Does : {N : Type 0} → Values N → Core → Owner → Reading → Option (LoadAnswer N) → List Frame → Core → Type 0
+Does v w me reading None frames w' = GoesOn v w me reading frames w'
+Does v w me reading (Some (ends.Pinned k)) frames w' = EndsPinned v w me reading k w' × (frames ≡ [])
+Does v w me reading (Some (ends.Read x)) frames w' = EndsRead v w me reading x w' × (frames ≡ [])
+Does v w me reading (Some (ends.Refused e)) frames w' = Fails v w me reading e w' × (frames ≡ [])
+
+-- What a load's step answers, which blobs it reads afterwards, and what it does to the pager. It touches nothing else.
+pub record ReadingDoes {N : Type 0} (v : Values N) (w : Core) (me : Owner) (reading : Reading) (answer : Option (LoadAnswer N)) (frames : List Frame) (w' : Core) : Type 0 where
+  pub does : Does v w me reading answer frames w'
+
+-- the reading after a step, with one step more
+abbrev pub gone_on : Reading → List Frame → Reading
+gone_on reading frames = record reading { frames = frames; steps = one_more reading.steps }
