@@ -1,6 +1,6 @@
 -- Handles are given up, with all that goes with them, and cells that lose their last pin are listed. There is one way for all
 -- calls and steps: the least set that holds the given handles falls.
-use Rattle.std.specs.Prelude.{ℕ, ◌≡◌, ◌+◌, ◌<◌, ◌≤◌, ◌==◌, ◌&&◌, ◌||◌, ◌⊎◌, ◌++◌, Bool, true, false, not, if◌then◌else◌, List, [], ◌∷◌, filter, map, length, Result, Ok, Err, IfOk, IfErr, nat_lt, nat_eq, None}
+use Rattle.std.specs.Prelude.{ℕ, ◌≡◌, ◌+◌, ◌<◌, ◌≤◌, ◌==◌, ◌&&◌, ◌⊎◌, ◌++◌, Bool, true, false, not, if◌then◌else◌, List, [], ◌∷◌, filter, map, length, Result, IfOk, IfErr, nat_lt, nat_eq, None}
 use Rattle.pagable_model.specs.declared.error.Error.{Error}
 use Rattle.pagable_model.specs.declared.error.Error.TheVariants as errors
 use Rattle.pagable_model.specs.declared.numbers.HandleNumber.{HandleNumber}
@@ -8,7 +8,7 @@ use Rattle.pagable_world.specs.declared.rows.Mode.TheVariants as modes
 use Rattle.pagable_world.specs.declared.handles.Owner.TheVariants as owners
 use Rattle.pagable_world.specs.declared.handles.HandleRow.{HandleRow}
 use Rattle.pagable_world.specs.Lists.{times}
-use Rattle.pagable_world.specs.Owners.{is_pinning, is_owner, is_owned_by, value, is_handle, is_at, is_pin, held, pins, sharing, has_key}
+use Rattle.pagable_world.specs.Owners.{is_owned_by, value, is_at, is_pin, held, pins, sharing, has_key}
 use Rattle.pagable_world.specs.World.{Core, greatest, key_at, Alike}
 
 -- ---- the least set

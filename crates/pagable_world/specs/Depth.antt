@@ -1,6 +1,6 @@
 -- How deep trees are. A reference through a loose handle is read when it is pinned, so a path ends at it, and what it leads to
 -- begins a new one.
-use Rattle.std.specs.Prelude.{◌≡◌, ◌<◌, ◌⊎◌, ℕ, zero, suc, ◌+◌, max, true, false, if◌then◌else◌}
+use Rattle.std.specs.Prelude.{◌≡◌, ◌⊎◌, ℕ, zero, suc, ◌+◌, max, true, if◌then◌else◌}
 use Rattle.pagable_model.specs.Meaning.{Meaning, number, integer, text, pattern, none, pair, variant, reference, followed}
 use Rattle.pagable_world.specs.Kinds.{is_eager}
 

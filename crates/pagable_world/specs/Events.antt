@@ -1,12 +1,11 @@
 -- One event: a call, a load's step, or a worker's.
-use Rattle.std.specs.Prelude.{ℕ, ◌≡◌, ◌+◌, ◌<◌, ◌≤◌, ◌⊎◌, ◌==◌, if◌then◌else◌, Bool, true, List, [], length, Option, Some, None, is_some, Result, Ok, Err, IfOk, IfErr, slice_get}
+use Rattle.std.specs.Prelude.{ℕ, ◌≡◌, ◌+◌, ◌<◌, ◌≤◌, ◌⊎◌, if◌then◌else◌, Bool, true, List, length, Option, Some, None, is_some, Result, IfOk, IfErr, slice_get}
 use Rattle.std.specs.List.{remove}
 use Rattle.pagable_model.specs.declared.error.Error.{Error}
 use Rattle.pagable_model.specs.declared.error.Error.TheVariants as errors
 use Rattle.pagable_model.specs.declared.numbers.HandleNumber.{HandleNumber}
 use Rattle.pagable_model.specs.declared.numbers.LoadNumber.{LoadNumber}
 use Rattle.pagable_model.specs.declared.numbers.WorkerNumber.{WorkerNumber}
-use Rattle.pagable_world.specs.declared.handles.Owner.{Owner}
 use Rattle.pagable_world.specs.declared.handles.Owner.TheVariants as owners
 use Rattle.pagable_world.specs.declared.handles.HandleRow.{HandleRow}
 use Rattle.pagable_world.specs.declared.answers.Beginning.{Beginning}
@@ -23,7 +22,7 @@ use Rattle.pagable_world.specs.Lists.{SameAt, updated}
 use Rattle.pagable_world.specs.Kinds.{loose_kind, HasKinds, HasNoKinds}
 use Rattle.pagable_world.specs.World.{Core, OpenLoad, of_cell, of_key, Root, Shelf, Frame, Reading, Task, of_item, of_entry, Walking, Work, World, row_at, type_at, one_more, Alike, SameShelf}
 use Rattle.pagable_world.specs.Cascade.{only_handle}
-use Rattle.pagable_world.specs.Refusals.{earlier, load_fault, Refused}
+use Rattle.pagable_world.specs.Refusals.{earlier, load_fault}
 use Rattle.pagable_world.specs.Replies.{RepliesCall, RepliesStart, RepliesLoad, RepliesTable, RepliesMade, RepliesWorker}
 use Rattle.pagable_world.specs.Values.{Values, Seen}
 use Rattle.pagable_world.specs.HandleCalls.{moved}

@@ -17,4 +17,13 @@ pub mod Workers
 pub mod Events
 pub mod Pager
 pub mod Trees
+pub mod Premises
+pub mod Runs
+pub mod Order
+pub mod Bounds
+pub mod Headline
+pub mod OneWorker
+pub mod Results
+pub mod Slots
+pub mod Access
 pub mod today

@@ -1,5 +1,5 @@
 -- Words on lists, and on functions of a number.
-use Rattle.std.specs.Prelude.{ℕ, ◌≡◌, ◌==◌, ◌||◌, Bool, true, false, if◌then◌else◌, List, [], ◌∷◌, map, sum_by, Some, slice_get}
+use Rattle.std.specs.Prelude.{ℕ, ◌≡◌, ◌==◌, ◌||◌, Bool, false, if◌then◌else◌, List, [], ◌∷◌, map, sum_by, Some, slice_get}
 
 -- 1 for true, so that rows are counted by a sum
 abbrev pub one : Bool → ℕ

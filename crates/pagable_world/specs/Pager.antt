@@ -1,6 +1,6 @@
 -- The pager and the machine as contracts see them: the plain world, a count for each node, the values in memory and the environment;
 -- when they are whole; and what a step does to values.
-use Rattle.std.specs.Prelude.{ℕ, ◌≡◌, ◌<◌, ◌≤◌, ◌==◌, ◌&&◌, ◌⊎◌, ◌↔◌, Bool, true, false, List, [], ◌∷◌, length, Option, Some, None, is_some, is_none, Result, Ok, Err, IfOk, IfErr, nat_lt}
+use Rattle.std.specs.Prelude.{ℕ, ◌≡◌, ◌<◌, ◌≤◌, ◌==◌, ◌&&◌, ◌⊎◌, true, false, List, [], ◌∷◌, length, Option, Some, None, is_some, is_none, Result, Ok, Err, IfOk, nat_lt}
 use Rattle.std.specs.List.{AllPairs}
 use Rattle.pagable_model.specs.declared.error.Error.{Error}
 use Rattle.pagable_model.specs.declared.numbers.ArcRef.{ArcRef}
@@ -8,6 +8,9 @@ use Rattle.pagable_model.specs.declared.numbers.Identity.{Identity}
 use Rattle.pagable_model.specs.declared.numbers.HandleNumber.{HandleNumber}
 use Rattle.pagable_model.specs.declared.numbers.LoadNumber.{LoadNumber}
 use Rattle.pagable_model.specs.declared.numbers.NodeNumber.{NodeNumber}
+use Rattle.pagable_model.specs.Shape.{Shape}
+use Rattle.pagable_model.specs.Refusals.{is_writing_fault}
+use Rattle.pagable_model.specs.Writing.{nesting, NoFormOfSome}
 use Rattle.pagable_model.specs.Trees.{type_of}
 use Rattle.pagable_world.specs.declared.rows.Mode.TheVariants as modes
 use Rattle.pagable_world.specs.declared.handles.Owner.{Owner}
@@ -24,12 +27,12 @@ use Rattle.pagable_world.specs.declared.events.Took.TheVariants as took
 use Rattle.pagable_world.specs.Lists.{Among, times}
 use Rattle.pagable_world.specs.Kinds.{is_shared_kind}
 use Rattle.pagable_world.specs.Owners.{is_pinning, is_loose, is_shared, is_owned_by, value, is_handle, held, pins, sharing, has_key}
-use Rattle.pagable_world.specs.World.{Core, Cell, OpenLoad, Root, of_cell, of_key, Reading, Todo, to_load, Walking, Work, World, Written, greatest, row_at, type_at, key_at, is_here}
+use Rattle.pagable_world.specs.World.{Core, OpenLoad, Root, of_cell, of_key, Reading, Todo, to_load, Walking, Work, World, Written, greatest, row_at, type_at, key_at, is_here}
 use Rattle.pagable_world.specs.Refusals.{IsReference}
 use Rattle.pagable_world.specs.Values.{Values, Seen, HasForm}
 use Rattle.pagable_world.specs.HandleCalls.{Looks}
 use Rattle.pagable_world.specs.Loads.{ReadsNode, ReadsRoot}
-use Rattle.pagable_world.specs.Events.{reading_at, no_shelf}
+use Rattle.pagable_world.specs.Events.{reading_at}
 
 -- ---- what is seen
 
@@ -230,8 +233,19 @@ pub record IsWrittenOf {N E : Type 0} (v : Values N) (s : PagerState N E) (n : �
   pub form : HasForm v x written
   pub listed : written.references ≡ v.references x
 
+-- the value means something that has no form
+pub record IsFormless {N : Type 0} (v : Values N) (x : N) : Type 0 where
+  pub shape : Shape
+  pub is : v.types.nodes (v.node_type x) ≡ Some shape
+  pub formless : NoFormOfSome (v.means x) (nesting 0 v.types.parts) shape
+
+-- a write is refused by a name that says that a value has no form only where the node's value has none
+abbrev pub RefusesWriting : {N E : Type 0} → Values N → PagerState N E → ℕ → Error → Type 0
+RefusesWriting {N} v s n e = is_writing_fault e ≡ true → (x : N) × (s.values n ≡ Some x) × IsFormless v x
+
 abbrev pub TookWrites : {N E W : Type 0} → Values N → (W → Written) → PagerState N E → Took W → Type 0
-TookWrites v f s (took.Write i r) = IfOk r (λ out. IsWrittenOf v s i.node.0 (f out))
+TookWrites v f s (took.Write i (Ok out)) = IsWrittenOf v s i.node.0 (f out)
+TookWrites v f s (took.Write i (Err e)) = RefusesWriting v s i.node.0 e
 TookWrites v f s step = Unit {0}
 
 abbrev pub ReplyWrites : {N B E W : Type 0} → Seen N B W → PagerState N E → EventReply N B W → Type 0

@@ -1,6 +1,5 @@
 -- One call of the pager: the step of its plain world that it is, by the call alone, with a reply of the call's type.
-use Rattle.std.specs.Prelude.{ℕ, ◌≡◌, length, Result, Ok, Err}
-use Rattle.pagable_model.specs.declared.error.Error.{Error}
+use Rattle.std.specs.Prelude.{◌≡◌, length}
 use Rattle.pagable_model.specs.Blob.{Blob}
 use Rattle.pagable_world.specs.declared.rows.Mode.TheVariants as modes
 use Rattle.pagable_world.specs.declared.handles.Owner.{Owner}

@@ -1,0 +1,111 @@
+-- The order of a worker's steps: an automaton over what it has to do, which says nothing of pager and table.
+use Rattle.std.specs.Prelude.{ℕ, ◌≡◌, ◌≤◌, ◌==◌, if◌then◌else◌, Bool, false, List, [], ◌∷◌, ◌++◌, Some, None, Ok, Err}
+use Rattle.pagable_model.specs.declared.error.Error.{Error}
+use Rattle.pagable_model.specs.declared.numbers.HandleNumber.{HandleNumber}
+use Rattle.pagable_model.specs.declared.numbers.Identity.{Identity}
+use Rattle.pagable_world.specs.declared.events.Claim.TheVariants as claims
+use Rattle.pagable_world.specs.declared.events.PinStep.TheVariants as pinsteps
+use Rattle.pagable_world.specs.declared.events.Took.{Took}
+use Rattle.pagable_world.specs.declared.events.Took.TheVariants as took
+use Rattle.pagable_world.specs.declared.events.Event.{Event}
+use Rattle.pagable_world.specs.declared.events.Event.TheVariants as events
+use Rattle.pagable_world.specs.declared.events.EventReply.{EventReply}
+use Rattle.pagable_world.specs.declared.events.EventReply.TheVariants as answers
+use Rattle.pagable_model.specs.Trees.{type_of}
+use Rattle.pagable_world.specs.Lists.{times}
+use Rattle.pagable_world.specs.Kinds.{identity_of}
+use Rattle.pagable_world.specs.World.{Written, Frame, was_failed, Todo, to_start, to_pin, to_load, to_write, to_finish, to_item, to_set, to_publish, to_release, to_fail, Task, is_identity}
+use Rattle.pagable_world.specs.Loads.{gone_on}
+use Rattle.pagable_world.specs.Workers.{give, give_known, open_node, first_todo, failing, failing_by, fresh}
+
+-- ---- a worker's steps
+
+-- the step that this reply tells of the worker
+abbrev pub step_of : {N B W : Type 0} → ℕ → Event N B W → EventReply N B W → List (Took W)
+step_of v (events.WorkerStep u) (answers.WorkerMoved (Ok reply)) = if u.0 == v then reply.took ∷ [] else []
+step_of v event reply = []
+
+-- the worker's steps, in order
+unfoldable pub steps_of : {N B W : Type 0} → ℕ → List (Event N B W) → List (EventReply N B W) → List (Took W)
+steps_of v (event ∷ more) (reply ∷ rest) = step_of v event reply ++ steps_of v more rest
+steps_of v [] rest = []
+steps_of v (event ∷ more) [] = []
+
+-- ---- the automaton
+
+-- the step may follow where this is to be done, and this is to be done then
+abbrev pub Follows : {W : Type 0} → (W → Written) → List Todo → Took W → List Todo → Type 0
+Follows f (to_start r place ∷ below) (took.Claim i (Ok claims.Claimed)) next = (i ≡ identity_of r) × (next ≡ to_pin r place ∷ below)
+Follows f (to_start r place ∷ below) (took.Claim i (Ok (claims.Known key height))) next = (i ≡ identity_of r) × (next ≡ give_known r key height below)
+Follows f (to_start r place ∷ below) (took.Claim i (Ok claims.Waiting)) next = (i ≡ identity_of r) × (next ≡ to_start r place ∷ below)
+Follows f (to_start r place ∷ below) (took.Claim i (Ok claims.AlreadyFailed)) next = (i ≡ identity_of r) × (next ≡ failing was_failed (to_start r place ∷ below))
+Follows f (to_start r place ∷ below) (took.Claim i (Err e)) next = (i ≡ identity_of r) × (next ≡ failing_by e (to_start r place ∷ below))
+Follows f (to_pin r place ∷ below) (took.Pin i (Ok (pinsteps.Held k))) next = (i ≡ identity_of r) × ((through : HandleNumber) × (next ≡ to_write r place through ∷ below))
+Follows f (to_pin r place ∷ below) (took.Pin i (Ok (pinsteps.LoadBegun l))) next = (i ≡ identity_of r) × ((through : HandleNumber) × (next ≡ to_load r place through (fresh l (type_of r.kind.0)) ∷ below))
+Follows f (to_pin r place ∷ below) (took.Pin i (Err e)) next = (i ≡ identity_of r) × (next ≡ failing_by e (to_pin r place ∷ below))
+Follows f (to_load r place through reading ∷ below) (took.Pin i (Ok pinsteps.LoadWent)) next = (i ≡ identity_of r) × ((frames : List Frame) × (next ≡ to_load r place through (gone_on reading frames) ∷ below))
+Follows f (to_load r place through reading ∷ below) (took.Pin i (Ok (pinsteps.Held k))) next = (i ≡ identity_of r) × (next ≡ to_write r place through ∷ below)
+Follows f (to_load r place through reading ∷ below) (took.Pin i (Err e)) next = (i ≡ identity_of r) × (next ≡ failing_by e (to_load r place through reading ∷ below))
+Follows f (to_write r place through ∷ below) (took.Write i (Ok out)) next = (i ≡ identity_of r) × (next ≡ open_node r place through (f out) below)
+Follows f (to_write r place through ∷ below) (took.Write i (Err e)) next = (i ≡ identity_of r) × (next ≡ failing_by e (to_write r place through ∷ below))
+Follows f (to_finish o ∷ below) (took.Store (Some i) (Ok key)) next = (i ≡ identity_of o.reference) × (next ≡ to_set o.reference o.through key o.height ∷ below)
+Follows f (to_finish o ∷ below) (took.Store (Some i) (Err e)) next = (i ≡ identity_of o.reference) × (next ≡ failing_by e (to_finish o ∷ below))
+Follows f (to_item written keys ∷ below) (took.Store None (Ok key)) next = next ≡ []
+Follows f (to_item written keys ∷ below) (took.Store None (Err e)) next = next ≡ failing_by e (to_item written keys ∷ below)
+Follows f (to_set r through key height ∷ below) (took.SetKey i (Ok u)) next = (i ≡ identity_of r) × (next ≡ to_publish r key height ∷ below)
+Follows f (to_set r through key height ∷ below) (took.SetKey i (Err e)) next = (i ≡ identity_of r) × (next ≡ failing_by e (to_set r through key height ∷ below))
+Follows f (to_publish r key height ∷ below) (took.Publish i k h) next = (i ≡ identity_of r) × (k ≡ key) × (h ≡ height) × (next ≡ to_release r key height ∷ below)
+Follows f (to_release r key height ∷ below) (took.Release i) next = (i ≡ identity_of r) × (next ≡ give r key height below)
+Follows f (to_fail fault back ∷ below) took.Fail next = next ≡ []
+Follows f todo step next = ⊥
+
+-- one after another
+abbrev pub Leads : {W : Type 0} → (W → Written) → List Todo → List (Took W) → List Todo → Type 0
+Leads f todo [] last = last ≡ todo
+Leads f todo (step ∷ steps) last = (mid : List Todo) × Follows f todo step mid × Leads f mid steps last
+
+-- the steps of a worker are in order if they lead from what its task has to do to something
+pub record InOrder {W : Type 0} (f : W → Written) (task : Task) (steps : List (Took W)) : Type 0 where
+  pub left : List Todo
+  pub leads : Leads f (first_todo task) steps left
+
+-- ---- each kind once
+
+-- whether the step claims the identity
+abbrev pub is_claim_of : {W : Type 0} → Identity → Took W → Bool
+is_claim_of i (took.Claim j (Ok claims.Claimed)) = is_identity i j
+is_claim_of i step = false
+
+-- whether it begins a load for it
+abbrev pub is_load_begin : {W : Type 0} → Identity → Took W → Bool
+is_load_begin i (took.Pin j (Ok (pinsteps.LoadBegun l))) = is_identity i j
+is_load_begin i step = false
+
+-- the kinds of step that follow a claim, load steps apart
+pub data LaterKind : Type 0 where
+  pins writes stores sets_key publishes releases : LaterKind
+
+-- whether it is a step of this kind, about the identity
+abbrev pub is_later_of : {W : Type 0} → LaterKind → Identity → Took W → Bool
+is_later_of pins i (took.Pin j (Ok (pinsteps.Held k))) = is_identity i j
+is_later_of writes i (took.Write j r) = is_identity i j
+is_later_of stores i (took.Store (Some j) r) = is_identity i j
+is_later_of sets_key i (took.SetKey j r) = is_identity i j
+is_later_of publishes i (took.Publish j key height) = is_identity i j
+is_later_of releases i (took.Release j) = is_identity i j
+is_later_of kind i step = false
+
+-- for each identity that the worker claims each kind comes at most once, and at most one load is begun
+pub record OnceEach {W : Type 0} (steps : List (Took W)) : Type 0 where
+  pub claim : (i : Identity) → times (is_claim_of i) steps ≤ 1
+  pub load : (i : Identity) → times (is_load_begin i) steps ≤ 1
+  pub later : (kind : LaterKind) (i : Identity) → times (is_later_of kind i) steps ≤ 1
+
+-- the step was refused with this
+abbrev pub MetError : {W : Type 0} → Took W → Error → Type 0
+MetError (took.Claim i (Err e)) f = e ≡ f
+MetError (took.Pin i (Err e)) f = e ≡ f
+MetError (took.Write i (Err e)) f = e ≡ f
+MetError (took.Store i (Err e)) f = e ≡ f
+MetError (took.SetKey i (Err e)) f = e ≡ f
+MetError step f = ⊥
