@@ -5,9 +5,9 @@
 
 ORIGINAL is the folder of the Rust crate `pagable` 0.4.2, or of a cargo workspace that has it as a member. It is copied into the
 folder WORK, without what was built there, together with tools/original_speed.rs as one of its examples, and built by cargo; nothing
-of it comes into the repository. `bench` has to be built before: (cd crates/bench && rt run -- check).
+of it comes into the repository. `bench` has to be built before: (cd crates/bench && rt run -- time).
 
-First both have to give the same check sums. Then each row is timed ROUNDS times (5 if left out), by both in turn, each time in a
+First the original has to write what tools/speed_sums.py works out, which `rows` is held against too. Then each row is timed ROUNDS times (5 if left out), by both in turn, each time in a
 process of its own; a row's time is the least of all. The peak of memory is that of a process that makes the row's value, writes it
 and reads it once, by GNU time. Where valgrind is there, instructions are counted: those of three runs of a row less those of one.
 """
@@ -23,7 +23,7 @@ TOP = pathlib.Path(__file__).resolve().parent.parent
 BENCH = TOP / "crates" / "bench" / "out" / "bench"
 PAGE = TOP / "docs" / "SPEED.md"
 BEGIN, END = "<!-- table -->", "<!-- end of the table -->"
-ROWS = ["numbers", "bytes", "texts", "maps", "ordered", "key", "cells"]
+ROWS = ["numbers", "bytes", "texts", "maps", "ordered", "cells"]
 TIMES = re.compile(r"(\w+) (\d+) bytes write ([\d.]+) s \d+ MiB/s(?: read ([\d.]+) s \d+ MiB/s)?")
 
 
@@ -53,13 +53,12 @@ def built(original, work):
 
 
 def compare_sums(program):
-    """Fails where the two don't give the same sums. Cells have keys of their own in the original."""
-    ours, theirs = (output([one, "check"]).splitlines() for one in (BENCH, program))
-    for mine, other in zip(ours, theirs, strict=True):
-        if mine.startswith("cells "):
-            mine, other = (re.sub(r"wrote \w+", "", text) for text in (mine, other))
-        if mine != other:
-            sys.exit(f"the check sums differ:\n{mine}\n{other}")
+    """Fails where the original writes other values than they are worked out. Cells have keys of their own there."""
+    theirs = dict(line.split(" ", 1) for line in output([program, "check"]).splitlines())
+    for line in output([sys.executable, TOP / "tools" / "speed_sums.py"]).splitlines():
+        name, wanted = line.split(" ", 1)
+        if name != "cells" and not theirs[name].startswith(wanted):
+            sys.exit(f"the check sums differ:\n{line}\n{name} {theirs[name]}")
 
 
 def least(first, second):
@@ -149,7 +148,7 @@ def main():
     original, work = pathlib.Path(sys.argv[1]), pathlib.Path(sys.argv[2]).resolve()
     rounds = int(sys.argv[3]) if len(sys.argv) == 4 else 5
     if not BENCH.exists():
-        sys.exit("bench isn't built: (cd crates/bench && rt run -- check)")
+        sys.exit("bench isn't built: (cd crates/bench && rt run -- time)")
     work.mkdir(parents=True, exist_ok=True)
     program = built(original, work)
     compare_sums(program)

@@ -1,27 +1,36 @@
 #!/usr/bin/env python3
-"""Makes crates/replay/data/original.txt of what the original crate writes and reads.
+"""Picks rows of what the original crate writes and reads, as data of `rows` and as the answers that they have to get.
 
-    tools/original_rows.py original.jsonl > crates/replay/data/original.txt
+    tools/original_rows.py data original.jsonl > crates/rows/data/original.txt
+    tools/original_rows.py answers original.jsonl     # the part of crates/rows/stdout that begins with the same comment
 
 Each line of the input is a JSON object: a value that the original wrote ("op": "enc"), an input that it read ("op":
-"dec"), or a tree of blobs that it stored ("op": "blob"). docs/TESTING.md says what the lines of the output mean, and how
-a type is added: by its name in CARRIED, and by a case of `form` and of `shown` where it is a new kind of type.
+"dec"), or a tree of blobs that it stored ("op": "blob"). docs/TESTING.md says what the lines of the output mean. A type is
+added by its name in CARRIED, and by a case of `form` where it is a new kind of type.
 
 The original's own bytes check `form`: a line that it wrote and `form` doesn't give ends the program.
 """
+import itertools
 import json
 import sys
 
-# The types whose lines are replayed.
+# The types whose lines are replayed, all of which `rows` knows.
 CARRIED = [
     "()", "bool", "char", "u8", "u16", "u32", "u64", "u128", "usize", "i8", "i16", "i32", "i64", "i128", "String",
-    "Box<u16>", "Option<()>", "Option<bool>", "Option<u8>", "Option<String>", "Option<Option<i32>>", "(u8,u8)",
-    "(bool,String)", "Vec<()>", "Vec<bool>", "Vec<u8>", "Vec<i32>", "Vec<u64>", "Vec<String>", "Vec<Option<u8>>",
-    "Vec<Vec<u16>>", "Vec<(String,i64)>", "Box<[u32]>", "Box<[String]>", "SmallVec<[u8;4]>", "SmallVec<[String;4]>", "Duration", "Result<String,String>",
-    "Result<u16,bool>", "[u16;2]", "[String;3]", "[u8;31]", "(u8,u16,i32)", "(u8,String,Vec<u64>,Option<i8>)",
-    "(u128,i128,char,bool,())", "Box<str>", "PathBuf", "PhantomData", "AtomicI64", "OnceLock<u16>", "Regex",
-    "HashMap<String,i32>",
+    "Box<str>", "PathBuf", "PhantomData", "Duration", "AtomicI64", "OnceLock<u16>", "Regex", "Json", "Box<u16>", "Option<u8>",
+    "Option<String>", "Option<Option<i32>>", "Result<u16,bool>", "Result<String,String>", "(bool,String)", "(u8,u16,i32)",
+    "(u8,String,Vec<u64>,Option<i8>)", "(u128,i128,char,bool,())", "(Vec<Duration>,PathBuf,Json)", "Vec<()>", "Vec<u8>",
+    "Vec<i32>", "Vec<u64>", "Vec<String>", "Vec<(String,i64)>", "Box<[u32]>", "SmallVec<[u8;4]>", "SmallVec<[String;4]>",
+    "&[i32]", "[i32]", "[u16;2]", "[String;3]", "[Option<Box<(u16,[bool;2])>>;2]", "BTreeMap<(u8,bool),Vec<String>>",
+    "BTreeMap<String,BTreeMap<u64,Vec<u32>>>", "HashMap<String,i32>", "IndexMap<String,u8>", "BTreeSet<i16>", "IndexSet<u64>",
+    "IndexMap<String,BTreeSet<Option<i8>>>", "Option<Result<Vec<(u8,String)>,IndexMap<String,u8>>>",
 ]
+
+# The types whose value `rows` shows.
+SHOWN = ("u16", "u128", "i128")
+
+UNSIGNED = ("u8", "u16", "u32", "u64", "u128", "usize")
+SIGNED = ("i8", "i16", "i32", "i64", "i128")
 
 # Texts, with a length in bytes.
 TEXTS = ("char", "String", "Box<str>", "PathBuf", "Regex")
@@ -29,8 +38,18 @@ TEXTS = ("char", "String", "Box<str>", "PathBuf", "Regex")
 # The greatest length of a text or a list; the original has no such limit below 64 bits.
 LONGEST = 2**32 - 1
 
-# Classes that tell nothing of the cause: an item of an array, and what serde says of a duration.
-LOST_CLASSES = ("ArrayItem", "SerdeCustom")
+# The numbers of the refusals that a reading can meet, by their classes. Left out are those that tell nothing of the cause, as
+# of an array's item, and BadChar, which the original gives to longer texts too.
+REFUSALS = {
+    "UnexpectedEnd": 1, "BadVarint": 2, "BadBool": 3, "BadUtf8": 4, "TooLong": 6, "JsonCase": 8, "RegexRefused": 11,
+}
+
+# How many inputs of a type are taken, beside the bounds of numbers, and how many blobs; and how long an input may be.
+WRITTEN, READ, BLOBS = 5, 8, 12
+LONGEST_INPUT = 44
+
+# How many columns the inputs of a line or their answers may fill before another line begins.
+COLUMNS = 130
 
 
 def split(text):
@@ -44,10 +63,11 @@ def split(text):
     return parts + [text[start:]]
 
 
-def inside(name, outer):
+def inside(name, *outer):
     """The type parameters of `outer<..>`, or None where the name is another type's."""
-    if name.startswith(outer + "<") and name.endswith(">"):
-        return split(name[len(outer) + 1:-1])
+    for word in outer:
+        if name.startswith(word + "<") and name.endswith(">"):
+            return split(name[len(word) + 1:-1])
     return None
 
 
@@ -59,103 +79,79 @@ def varint(number):
     return out + bytes([number])
 
 
-def text_form(text):
-    data = text.encode()
-    return varint(len(data)) + data
-
-
 def item_of(name):
     """The type of a list's items, or None where the name is no list's."""
-    for outer in ("Vec<", "Box<[", "SmallVec<["):
-        if name.startswith(outer):
-            return name[len(outer):].rstrip(">").rstrip("]").split(";")[0] if "[" in outer else name[len(outer):-1]
-    return None
+    if part := inside(name, "Vec", "BTreeSet", "IndexSet"):
+        return part[0]
+    if name.startswith("SmallVec<["):
+        return name[len("SmallVec<["):].rsplit(";", 1)[0]
+    if name.startswith("Box<["):
+        return name[len("Box<["):-2]
+    return name[1:-1] if name == "[i32]" else None
 
 
-def item_of_array(name):
-    """The type of an array's items, or None where the name is no array's."""
+def items_of(name):
+    """The type of the items of an array or a lent slice, which have no count; None where the name is neither's."""
+    if name.startswith("&["):
+        return name[2:-1]
     return name[1:-1].rsplit(";", 1)[0] if name.startswith("[") else None
 
 
-def list_form(items, part):
-    return varint(len(items)) + b"".join(form(part, item) for item in items)
+def json_form(value):
+    if value is None:
+        return b"\x00"
+    if isinstance(value, bool):
+        return b"\x01\x01" if value else b"\x01\x00"
+    if isinstance(value, str):
+        return b"\x03" + form("String", value)
+    if isinstance(value, list):
+        return b"\x04" + varint(len(value)) + b"".join(map(json_form, value))
+    members = sorted((key.encode(), of) for key, of in value.items())
+    return b"\x05" + varint(len(members)) + b"".join(varint(len(k)) + k + json_form(of) for k, of in members)
 
 
 def form(name, value):
     """The shortest form of a value."""
     if name in ("u8", "i8"):
         return bytes([int(value) % 256])
-    if name in ("u16", "u32", "u64", "u128", "usize"):
+    if name in UNSIGNED:
         return varint(int(value))
-    if name in ("i16", "i32", "i64", "i128", "AtomicI64"):
+    if name in SIGNED or name == "AtomicI64":
         number = int(value)
         return varint(2 * number if number >= 0 else -2 * number - 1)
     if name == "bool":
         return b"\x01" if value else b"\x00"
     if name in TEXTS:
-        return text_form(value)
+        return varint(len(value.encode())) + value.encode()
     if name in ("()", "PhantomData"):
         return b""
+    if name == "Json":
+        return json_form(value)
     if name == "Duration":
         return varint(int(value["secs"])) + varint(int(value["nanos"]))
-    if part := inside(name, "Option") or inside(name, "OnceLock"):
+    if part := inside(name, "Option", "OnceLock"):
         return b"\x00" if value is None else b"\x01" + form(part[0], value["some"])
     if parts := inside(name, "Result"):
         return b"\x01" + form(parts[0], value["ok"]) if "ok" in value else b"\x00" + form(parts[1], value["err"])
-    if item_of(name):
-        return list_form(value, item_of(name))
-    if part := item_of_array(name):
+    if part := item_of(name):
+        return varint(len(value)) + b"".join(form(part, item) for item in value)
+    if part := items_of(name):
         return b"".join(form(part, item) for item in value)
     if part := inside(name, "Box"):
         return form(part[0], value)
     if name.startswith("("):
         return b"".join(form(part, item) for part, item in zip(split(name[1:-1]), value))
-    if parts := inside(name, "HashMap"):
-        if len(value) > 1:
-            raise SystemExit(f"{value} may be written in several orders")
-        return varint(len(value)) + b"".join(form(part, item) for entry in value for part, item in zip(parts, entry))
+    if parts := inside(name, "HashMap", "BTreeMap", "IndexMap"):
+        entries = sorted(value, key=lambda entry: entry[0].encode()) if name.startswith("HashMap") else value
+        return varint(len(value)) + b"".join(form(part, item) for entry in entries for part, item in zip(parts, entry))
     raise SystemExit(f"no form is known of {name}")
 
 
-def shown(name, value):
-    """The value as Rust's `{:?}` prints it, or None where that isn't compared."""
-    if name in ("bool",):
-        return "true" if value else "false"
-    if name[0] in "ui" and name[1:].isdigit() or name in ("usize", "AtomicI64"):
-        return str(int(value))
-    if name in TEXTS and name != "PathBuf":
-        if not all(" " <= sign <= "~" and sign not in "\\'\"" for sign in value):
-            return None
-        text = f"'{value}'" if name == "char" else f'"{value}"'
-        return f"SavedRegex({text})" if name == "Regex" else text
-    if name == "()":
-        return "()"
-    if part := inside(name, "Option"):
-        if value is None:
-            return "None"
-        some = shown(part[0], value["some"])
-        return None if some is None else f"Some({some})"
-    if part := inside(name, "OnceLock"):
-        return "OnceLock(<uninit>)" if value is None else f"OnceLock({shown(part[0], value['some'])})"
-    if parts := inside(name, "Result"):
-        case, part = ("Ok", parts[0]) if "ok" in value else ("Err", parts[1])
-        of = shown(part, value[case.lower()])
-        return None if of is None else f"{case}({of})"
-    item = item_of(name) or item_of_array(name)
-    if name.startswith("(") or item:
-        parts = [item] * len(value) if item else split(name[1:-1])
-        items = [shown(part, each) for part, each in zip(parts, value)]
-        if None in items:
-            return None
-        return ("[%s]" if item else "(%s)") % ", ".join(items)
-    if part := inside(name, "Box"):
-        return shown(part[0], value)
-    if parts := inside(name, "HashMap"):
-        entries = [[shown(part, item) for part, item in zip(parts, entry)] for entry in value]
-        if any(None in entry for entry in entries):
-            return None
-        return "{%s}" % ", ".join(f"{key}: {of}" for key, of in entries)
-    return None
+def forms(name, value):
+    """Every form that the original may write; a hash map's entries come in any order."""
+    if not name.startswith("HashMap"):
+        return [form(name, value)]
+    return [form("Index" + name[4:], list(order)) for order in itertools.permutations(value)]
 
 
 def may_be_too_long(data):
@@ -176,68 +172,128 @@ def has_length(name):
     return any(word in name for word in ("String", "Vec", "str", "char", "Map", "Set", "Path", "Regex", "Json", "Box<["))
 
 
-def refusal(name, line):
-    """The name of the refusal, or ? where its cause isn't told or is another one here."""
-    why = line["class"]
-    if why in LOST_CLASSES or why == "BadChar" or ("char" in name and name != "char"):
-        return "?"
-    if has_length(name) and may_be_too_long(bytes.fromhex(line["input_hex"])):
-        return "?"
-    return why
+def is_compared(name, line):
+    """Whether what the original makes of an input is to be compared: its JSON numbers are others, its char takes the first of
+    several, and it knows no length that is too long."""
+    data = bytes.fromhex(line["input_hex"])
+    if line["result"] not in ("ok", "err") or ("Json" in name and 2 in data) or (has_length(name) and may_be_too_long(data)):
+        return False
+    if line["result"] == "err":
+        return line["class"] in REFUSALS and ("char" not in name or name == "char")
+    # A list of items without bytes, of which only the length is told, is too long here.
+    return not ("char" in name and not line["canon"]) and not (isinstance(line["value"], dict) and list(line["value"]) == ["len"])
 
 
-def accepted(name, value, used):
-    text = shown(name, value)
-    tail = f" = {text}" if text is not None and len(text) <= 200 else ""
-    return f"ok {used} {form(name, value).hex() or '-'}{tail}"
+def accepted(name, data, used, value):
+    """The answer to an input that is read: what is written again stands there where it isn't what was taken."""
+    again = form(name, value)
+    other = "" if again == data[:used] else f" {again.hex() or '-'}"
+    return f"ok {used}{other}" + (f" = {value}" if name in SHOWN else "")
 
 
 def row(line):
-    """The line of the output, or None where the original's answer isn't to be compared."""
+    """An input and its answer, or None where the original's answer isn't to be compared."""
     name = line["type"]
     if line["op"] == "enc":
-        data = line["bytes_hex"]
-        if form(name, line["value"]).hex() != data:
+        data = bytes.fromhex(line["bytes_hex"])
+        if data not in forms(name, line["value"]):
             raise SystemExit(f"the original writes {line}")
-        return f"{name} wrote {data or '-'} {accepted(name, line['value'], len(data) // 2)}"
-    data = line["input_hex"] or "-"
+        if name == "&[i32]":
+            data = form("[i32]", line["value"])
+        return data, accepted(name, data, len(data), line["value"])
+    if not is_compared(name, line):
+        return None
+    data = bytes.fromhex(line["input_hex"])
     if line["result"] == "err":
-        return f"{name} read {data} refused {refusal(name, line)}"
-    # A panic, an end by the system or a time-out of the original; and its char takes the first of several.
-    if line["result"] != "ok" or ("char" in name and not line["canon"]):
-        return None
-    # A list of items without bytes, of which only the length is told: it is too long here.
-    if isinstance(line["value"], dict) and list(line["value"]) == ["len"]:
-        return None
-    used = line["used"]
-    if line.get("canon") and form(name, line["value"]) != bytes.fromhex(line["input_hex"])[:used]:
+        return data, f"refused {REFUSALS[line['class']]}"
+    if line.get("canon") and data[:line["used"]] not in forms(name, line["value"]):
         raise SystemExit(f"the original reads {line}")
-    return f"{name} read {data} {accepted(name, line['value'], used)}"
+    return data, accepted(name, data, line["used"], line["value"])
 
 
-def blob_rows(line):
-    """A line for each blob, under the hash that can be worked out by hand; the others aren't there yet."""
-    if line["hash"] != "weigh":
-        return
-    for blob in line["blobs"]:
-        children = ":" + ",".join(blob["arcs"]) if blob["arcs"] else ""
-        yield f"weigh wrote {blob['data_hex'] or '-'}{children} key {blob['key']}"
+def picked(rows, most, kind):
+    """At most so many of the rows: short ones before long ones, one of each kind first, and then more that
+    are read."""
+    order = sorted(range(len(rows)), key=lambda place: (len(rows[place][0]), place))
+    first = list({kind(rows[place]): place for place in reversed(order)}.values())
+    more = [place for place in order if place not in first and kind(rows[place])[0] == "ok"]
+    return [rows[place] for place in sorted((sorted(first, key=order.index) + more)[:most])]
+
+
+def kind_of_answer(row):
+    """Refusals are kinds, of one byte and of more; so is each count of bytes that are written again as others; the rest is one
+    kind."""
+    words = row[1].split(" = ")[0].split()
+    if words[0] == "refused":
+        return (*words, len(row[0]) > 1)
+    return tuple(words[:2] if len(words) > 2 else words[:1])
+
+
+def bounds(name, rows):
+    """Of the numbers of each length in bytes the least and the greatest, of those below zero too."""
+    best = {}
+    for data, answer in rows:
+        number = int.from_bytes(data, "little", signed=name == "i8") if len(data) == 1 else value_of(data)
+        key = (len(data), name in SIGNED and len(data) > 1 and number % 2)
+        least, greatest = best.get(key, ((number, data, answer),) * 2)
+        best[key] = min(least, (number, data, answer)), max(greatest, (number, data, answer))
+    return list(dict.fromkeys(pair[1:] for pairs in best.values() for pair in pairs))
+
+
+def value_of(data):
+    return sum((byte % 128) << 7 * place for place, byte in enumerate(data))
+
+
+def rows_of(name, lines):
+    """The picked rows of a type."""
+    made = {"enc": {}, "dec": {}}
+    for line in lines:
+        found = row(line)
+        if found is not None and len(found[0]) <= LONGEST_INPUT:
+            made[line["op"]][found] = None
+    made = {op: list(rows) for op, rows in made.items()}
+    is_number = name in UNSIGNED + SIGNED
+    written = bounds(name, made["enc"]) if is_number else picked(made["enc"], WRITTEN, lambda row: ("ok", len(row[0])))
+    read = picked([row for row in made["dec"] if row not in written], READ, kind_of_answer)
+    return written + read
+
+
+def print_lines(word, start, rows):
+    """Prints either the inputs or the answers of the rows, in lines that aren't too long."""
+    lines, width = [], COLUMNS + 1
+    for data, answer in rows:
+        longer = max(len(data), len(answer)) + 2
+        if width + longer > COLUMNS:
+            lines.append([])
+            width = 0
+        width += longer
+        lines[-1].append((data, answer))
+    for line in lines:
+        if word == "data":
+            print(start, *(data for data, _answer in line))
+        else:
+            print("; ".join(answer for _data, answer in line))
+
+
+def blob_row(blob):
+    return (blob["data_hex"] or "-") + (":" + ",".join(blob["arcs"]) if blob["arcs"] else ""), blob["key"]
 
 
 def main():
-    print("# What the original crate wrote and read, by tools/original_rows.py. docs/TESTING.md says what a line means.")
-    blobs = {}
-    with open(sys.argv[1], encoding="utf-8") as lines:
-        for text in lines:
-            line = json.loads(text)
-            if line["op"] == "blob":
-                blobs.update(dict.fromkeys(blob_rows(line)))
+    word, path = sys.argv[1:]
+    lines, blobs = {}, {}
+    with open(path, encoding="utf-8") as texts:
+        for line in map(json.loads, texts):
+            if line["op"] == "blob" and line["hash"] == "weigh":
+                blobs.update(dict.fromkeys(map(blob_row, line["blobs"])))
             elif line.get("type") in CARRIED and not line.get("differs"):
-                made = row(line)
-                if made is not None:
-                    print(made)
-    for made in blobs:
-        print(made)
+                lines.setdefault(line["type"], []).append(line)
+    print("# What the original crate wrote and read, by tools/original_rows.py.")
+    for name in CARRIED:
+        rows = [(data.hex() or "-", answer) for data, answer in rows_of(name, lines.get(name, []))]
+        print_lines(word, f"{name} read", rows)
+    of_blobs = picked(list(blobs), BLOBS, lambda blob: ("ok", ":" in blob[0], blob[0].count(","), len(blob[0])))
+    print_lines(word, "blob weigh", of_blobs)
 
 
 main()

@@ -1,5 +1,5 @@
 //! The rows of `bench`, made by the Rust crate `pagable`: the same data, written and read by its own calls.
-//! `check` prints what each row wrote and read, `time [ROW RUNS]` how long it took; the lines are those of `bench`.
+//! `check` prints check sums of what each row wrote and read, `time [ROW RUNS]` how long it took, as `bench` does.
 //! `tools/compare_speed.py` puts this file among the examples of a copy of that crate and builds it there.
 
 use std::collections::{BTreeMap, HashSet};
@@ -13,7 +13,7 @@ use pagable::storage::handle::PagableStorageHandle;
 use pagable::storage::in_memory::InMemoryPagableStorage;
 use pagable::traits::{PagableDeserialize, PagableSerialize};
 
-const ROWS: [&str; 7] = ["numbers", "bytes", "texts", "maps", "ordered", "key", "cells"];
+const ROWS: [&str; 6] = ["numbers", "bytes", "texts", "maps", "ordered", "cells"];
 
 /// splitmix64.
 struct Draws(u64);
@@ -175,9 +175,9 @@ fn cell_texts() -> Vec<String> {
 struct Outcome {
     bytes: usize,
     written: u64,
-    read: Option<u64>,
+    read: u64,
     write_time: Duration,
-    read_time: Option<Duration>,
+    read_time: Duration,
 }
 
 /// What a call gave at its last run, and its shortest time.
@@ -212,30 +212,10 @@ where
     Outcome {
         bytes: bytes.len(),
         written: sum_of(&bytes),
-        read: Some(sum_of(&read)),
+        read: sum_of(&read),
         write_time,
-        read_time: Some(read_time),
+        read_time,
     }
-}
-
-/// The weighed key of a blob without children, which this crate hasn't: a plain loop, to compare the hash alone.
-fn weighed_key(bytes: &[u8]) -> u128 {
-    let mut sum = 0u128;
-    let mut place = 1u128;
-    for byte in 0u64.to_le_bytes().iter().chain(bytes) {
-        sum = sum.wrapping_add(place.wrapping_mul(u128::from(*byte)));
-        place = place.wrapping_add(1);
-    }
-    sum
-}
-
-fn key(runs: u64) -> Outcome {
-    let blob = bytes(6, 1 << 20);
-    let (key, write_time) = timed(runs, || weighed_key(black_box(&blob)));
-    let mut sum = Sum::new();
-    sum.add(key as u64);
-    sum.add((key >> 64) as u64);
-    Outcome { bytes: blob.len(), written: sum.0, read: None, write_time, read_time: None }
 }
 
 /// Page-out of all cells, and the time of their loads; the cells' keys are this crate's own and aren't told.
@@ -269,7 +249,7 @@ fn cells_once(texts: &[String]) -> Outcome {
         text.add_to(&mut sum);
         bytes += text.len();
     }
-    Outcome { bytes, written: 0, read: Some(sum.0), write_time, read_time: Some(read_time) }
+    Outcome { bytes, written: 0, read: sum.0, write_time, read_time }
 }
 
 fn outcome(row: &str, runs: u64) -> Outcome {
@@ -279,7 +259,6 @@ fn outcome(row: &str, runs: u64) -> Outcome {
         "texts" => codec(texts(), runs),
         "maps" => codec(maps(), runs),
         "ordered" => codec(ordered(), runs),
-        "key" => key(runs),
         "cells" => cells(runs),
         _ => panic!("no such row: {row}"),
     }
@@ -293,16 +272,12 @@ fn speed(bytes: usize, took: Duration) -> String {
 fn print_time(row: &str, runs: u64) {
     let made = outcome(row, runs);
     let write = speed(made.bytes, made.write_time);
-    match made.read_time {
-        Some(took) => println!("{row} {} bytes write {write} read {}", made.bytes, speed(made.bytes, took)),
-        None => println!("{row} {} bytes write {write}", made.bytes),
-    }
+    println!("{row} {} bytes write {write} read {}", made.bytes, speed(made.bytes, made.read_time));
 }
 
 fn print_check(row: &str) {
     let made = outcome(row, 1);
-    let read = made.read.map_or("-".to_owned(), |sum| format!("{sum:016x}"));
-    println!("{row} {} bytes wrote {:016x} read {read}", made.bytes, made.written);
+    println!("{row} {} bytes wrote {:016x} read {:016x}", made.bytes, made.written, made.read);
 }
 
 fn main() {

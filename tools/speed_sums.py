@@ -1,8 +1,8 @@
 #!/usr/bin/env python3
-"""Prints what `bench check` has to print: the rows' data, their forms and keys, worked out from the rules of docs/SPEED.md,
-of the wire format and of keys. It shares no code with the crates.
+"""Prints the check sums of large values that are drawn, and of many cells: their forms and keys, worked out from the rules of
+docs/SPEED.md, of the wire format and of keys. It shares no code with the crates.
 
-    tools/speed_sums.py > crates/bench/stdout
+    tools/speed_sums.py     # the part of crates/rows/stdout that answers crates/rows/data/drawn.txt
 """
 
 WORD = (1 << 64) - 1
@@ -54,15 +54,14 @@ def list_form(forms):
     return varint(len(forms)) + b"".join(forms)
 
 
-def line(name, form, numbers):
-    wrote = sum_of(with_length(form))
-    print(f"{name} {len(form)} bytes wrote {wrote:016x} read {sum_of(numbers):016x}")
+def line(name, form):
+    print(f"{name} {len(form)} bytes wrote {sum_of(with_length(form)):016x}")
 
 
 def numbers_row():
     draws = Draws(1)
     numbers = [draws.number() >> place % 64 for place in range(1_000_000)]
-    line("numbers", list_form([varint(number) for number in numbers]), with_length(numbers))
+    line("numbers", list_form([varint(number) for number in numbers]))
 
 
 def drawn_bytes(seed, count):
@@ -72,14 +71,13 @@ def drawn_bytes(seed, count):
 
 def bytes_row():
     drawn = drawn_bytes(2, 1_000_000)
-    line("bytes", varint(len(drawn)) + drawn, with_length(drawn))
+    line("bytes", varint(len(drawn)) + drawn)
 
 
 def texts_row():
     draws = Draws(3)
     texts = [draws.text(draws.number() % 32) for _ in range(200_000)]
-    numbers = [len(texts)] + [number for text in texts for number in with_length(text)]
-    line("texts", list_form([text_form(text) for text in texts]), numbers)
+    line("texts", list_form([text_form(text) for text in texts]))
 
 
 def maps_row():
@@ -90,12 +88,10 @@ def maps_row():
         for place in range(400):
             key = draws.number() >> 16
             inner[key] = draws.number() >> place % 64
-    forms, numbers = [], [len(outer)]
+    forms = []
     for key, inner in sorted(outer.items()):
-        pairs = sorted(inner.items())
-        forms.append(varint(key) + list_form([varint(k) + varint(v) for k, v in pairs]))
-        numbers += [key, len(pairs)] + [number for pair in pairs for number in pair]
-    line("maps", list_form(forms), numbers)
+        forms.append(varint(key) + list_form([varint(k) + varint(v) for k, v in sorted(inner.items())]))
+    line("maps", list_form(forms))
 
 
 def ordered_row():
@@ -104,21 +100,12 @@ def ordered_row():
     for _ in range(100_000):
         key = draws.text(12 + draws.number() % 16)
         entries[key] = draws.number() >> 32
-    numbers = [len(entries)]
-    for key, value in entries.items():
-        numbers += [*with_length(key), value]
-    line("ordered", list_form([text_form(k) + varint(v) for k, v in entries.items()]), numbers)
+    line("ordered", list_form([text_form(k) + varint(v) for k, v in entries.items()]))
 
 
 def weighed_key(form):
     """The key of a blob without children: the sum of each byte of its preimage times its place."""
     return sum(place * byte for place, byte in enumerate(bytes(8) + form, 1)) % (1 << 128) or 1
-
-
-def key_row():
-    drawn = drawn_bytes(6, 1 << 20)
-    key = weighed_key(drawn)
-    print(f"key {len(drawn)} bytes wrote {sum_of([key & WORD, key >> 64]):016x} read -")
 
 
 def cells_row():
@@ -128,9 +115,8 @@ def cells_row():
         text = draws.text(100)
         texts.setdefault(weighed_key(text_form(text)), text)
     keys = [half for key in texts for half in (key & WORD, key >> 64)]
-    numbers = [number for text in texts.values() for number in with_length(text)]
     size = sum(len(text) for text in texts.values())
-    print(f"cells {size} bytes wrote {sum_of(keys):016x} read {sum_of(numbers):016x}")
+    print(f"cells {size} bytes wrote {sum_of(keys):016x}")
 
 
 if __name__ == "__main__":
@@ -139,5 +125,4 @@ if __name__ == "__main__":
     texts_row()
     maps_row()
     ordered_row()
-    key_row()
     cells_row()

@@ -1,47 +1,14 @@
-//! Keys of blobs, and cells that are paged out and loaded again.
+//! Cells that are paged out and loaded again.
 
 use crate::data;
-use crate::outcome::{Outcome, Reading};
-use crate::sums::{Sum, add_text};
+use crate::outcome::Outcome;
 use anyhow::Context;
-use pagable::{
-    DataKey, HandleNumber, InMemoryBlobs, OptionalDataKey, PagableData, Pager, WeighHash,
-};
-use pagable_samples::{TextEnv, TextNode, paging};
+use pagable::{HandleNumber, InMemoryBlobs, Pager, WeighHash, paging};
+use pagable_examples::{TextEnv, TextNode};
 use std::alloc::{AllocError, Global};
 use std::time::{Clock, Instant};
 
 type TextPager = Pager<TextEnv<WeighHash>, InMemoryBlobs<TextEnv<WeighHash>>>;
-
-/// Adds a key's low 64 bits and its high ones.
-fn add_key(key: DataKey, sum: &mut Sum) {
-    sum.add((key.get() & 0xffff_ffff_ffff_ffff) as u64);
-    sum.add((key.get() >> 64) as u64);
-}
-
-/// Makes the key of a blob of 1 MiB without child keys so often.
-pub fn key(clock: &impl Clock, alloc: Global, runs: u64) -> anyhow::Result<Outcome> {
-    let blob = PagableData {
-        bytes: data::bytes(alloc, 6, 1_048_576)?,
-        arcs: Vec::new(alloc),
-    };
-    let start = Instant::now(clock)?;
-    let mut key = blob.compute_key::<WeighHash>();
-    let mut best = start.elapsed(clock)?;
-    for _ in 1..runs {
-        let start = Instant::now(clock)?;
-        key = blob.compute_key::<WeighHash>();
-        best = best.min(start.elapsed(clock)?);
-    }
-    let mut sum = Sum::new();
-    add_key(key, &mut sum);
-    Ok(Outcome {
-        bytes: blob.bytes.len(),
-        sum: sum.value(),
-        time: best,
-        reading: None,
-    })
-}
 
 /// A pager of unpinned cells that wait for page-out.
 #[derive(Drop)]
@@ -87,27 +54,14 @@ impl Stage {
         Ok(pins)
     }
 
-    /// The check sum of the cells' keys.
-    fn keys(&self) -> anyhow::Result<u64> {
-        let mut sum = Sum::new();
-        for cell in &self.cells {
-            if let OptionalDataKey::Some(key) = self.pager.key(*cell)? {
-                add_key(key, &mut sum);
-            }
-        }
-        Ok(sum.value())
-    }
-
-    /// How many bytes the pinned texts have, and their check sum.
-    fn texts(&self, pins: &[HandleNumber]) -> anyhow::Result<(usize, u64)> {
-        let mut sum = Sum::new();
+    /// How many bytes the pinned texts have.
+    fn bytes(&self, pins: &[HandleNumber]) -> anyhow::Result<usize> {
         let mut bytes = 0usize;
         for pin in pins {
             let node = self.pager.value(*pin)?.context("a cell isn't pinned")?;
-            add_text(node.as_str(), &mut sum);
             bytes = bytes.wrapping_add(node.as_str().len());
         }
-        Ok((bytes, sum.value()))
+        Ok(bytes)
     }
 }
 
@@ -127,20 +81,12 @@ fn out_and_in(
     stage.fill(alloc, texts)?;
     let start = Instant::now(clock)?;
     paging::page_out_pending(alloc, &mut stage.pager)?;
-    let time = start.elapsed(clock)?;
+    let write = start.elapsed(clock)?;
     let start = Instant::now(clock)?;
     let pins = stage.load(alloc)?;
-    let read_time = start.elapsed(clock)?;
-    let (bytes, sum) = stage.texts(pins.as_slice())?;
-    Ok(Outcome {
-        bytes,
-        sum: stage.keys()?,
-        time,
-        reading: Some(Reading {
-            sum,
-            time: read_time,
-        }),
-    })
+    let read = start.elapsed(clock)?;
+    let bytes = stage.bytes(pins.as_slice())?;
+    Ok(Outcome { bytes, write, read })
 }
 
 /// Pages 10,000 cells out and loads them, so often.

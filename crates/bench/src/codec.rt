@@ -1,12 +1,12 @@
 //! Values are written and read, and the time is taken.
 
-use crate::outcome::{Outcome, Reading};
-use crate::sums::{Summed, sum_of};
+use crate::outcome::Outcome;
+use anyhow::ensure;
 use pagable::{
     Error, NoReferences, PagableDeserialize, PagableDeserializerImpl, PagableSerialize,
     PagableSerializerImpl, SessionContext, WeighHash,
 };
-use pagable_samples::TextEnv;
+use pagable_examples::TextEnv;
 use std::alloc::Global;
 use std::time::{Clock, Duration, Instant};
 
@@ -93,22 +93,23 @@ fn timed_read<'de, T: PagableDeserialize<'de, AnyEnv> + Drop>(
     Ok((value, best))
 }
 
-/// Reads what was written in a time as a `T`, so often, and tells what came of both.
-pub fn read_back<'de, T: PagableDeserialize<'de, AnyEnv> + Summed + Drop>(
+/// Reads what was written in a time as a `T`, so often, and tells the times of both. What was read has to be written alike.
+pub fn read_back<'de, T>(
     clock: &impl Clock,
     alloc: Global,
     bytes: &'de Vec<u8>,
     time: Duration,
     runs: u64,
-) -> anyhow::Result<Outcome> {
-    let (value, read_time) = timed_read::<T>(clock, alloc, bytes.as_slice(), runs)?;
+) -> anyhow::Result<Outcome>
+where
+    T: PagableSerialize<AnyEnv> + PagableDeserialize<'de, AnyEnv> + Drop,
+{
+    let (value, read) = timed_read::<T>(clock, alloc, bytes.as_slice(), runs)?;
+    let again = write(alloc, &AnyEnv::new(), &value)?;
+    ensure!(again == *bytes, "another value was read");
     Ok(Outcome {
         bytes: bytes.len(),
-        sum: sum_of(bytes),
-        time,
-        reading: Some(Reading {
-            sum: sum_of(&value),
-            time: read_time,
-        }),
+        write: time,
+        read,
     })
 }

@@ -6,8 +6,6 @@ use std::{env, io};
 /// What the words ask for.
 #[derive(Clone, Copy)]
 pub enum Command {
-    /// `check`: the check sums of every row.
-    Check,
     /// `time`: the times of every row.
     TimeAll,
     /// `time ROW RUNS`: the shortest times of so many runs of a row, at least one.
@@ -39,7 +37,6 @@ pub fn read_words(rt: &(impl env::Env + Alloc)) -> io::Result<Option<Command>> {
 /// Up to three words, understood.
 fn understood(verb: Option<&str>, row: Option<&str>, runs: Option<&str>) -> Option<Command> {
     match (verb?, row, runs) {
-        ("check", None, None) => Some(Command::Check),
         ("time", None, None) => Some(Command::TimeAll),
         ("time", Some(row), Some(runs)) => timed(row, runs),
         _ => None,

@@ -1,4 +1,5 @@
-//! `bench check` prints check sums of what each row writes and reads; `bench time` prints how long it takes.
+//! `bench time` prints how long it takes to write and to read the values of each row. What is written and read of the same values is
+//! checked by `rows`.
 #![tactic(auto)]
 
 pub mod cells;
@@ -8,7 +9,6 @@ pub mod data;
 pub mod draws;
 pub mod outcome;
 pub mod rows;
-pub mod sums;
 
 use crate::command::{Command, read_words};
 use crate::rows::{ROWS, Row, run_row};
@@ -17,17 +17,9 @@ use std::process::ExitCode;
 /// How often each row is run where the words don't say it.
 const RUNS: u64 = 5;
 
-/// Runs every row once, and prints its check sums.
-fn check(rt: &HostRuntime) -> anyhow::Result<()> {
-    for row in ROWS {
-        run_row(rt, rt.alloc(), row, 1)?.print_check(rt, row.name())?;
-    }
-    Ok(())
-}
-
 /// Runs a row so often, and prints its shortest times.
 fn time(rt: &HostRuntime, row: Row, runs: u64) -> anyhow::Result<()> {
-    run_row(rt, rt.alloc(), row, runs)?.print_time(rt, row.name())
+    run_row(rt, rt.alloc(), row, runs)?.print(rt, row.name())
 }
 
 /// Runs every row, and prints its shortest times.
@@ -40,11 +32,10 @@ fn time_all(rt: &HostRuntime) -> anyhow::Result<()> {
 
 fn main(rt: HostRuntime) -> anyhow::Result<ExitCode> {
     match read_words(&rt)? {
-        Some(Command::Check) => check(&rt)?,
         Some(Command::TimeAll) => time_all(&rt)?,
         Some(Command::Time(row, runs)) => time(&rt, row, runs)?,
         None => {
-            eprintln!(rt; "usage: bench check | bench time [ROW RUNS]")?;
+            eprintln!(rt; "usage: bench time [ROW RUNS]")?;
             return Ok(ExitCode::from(2));
         }
     }

@@ -1,6 +1,6 @@
 //! The rows.
 
-use crate::cells::{cells, key};
+use crate::cells::cells;
 use crate::codec::{read_back, timed_write};
 use crate::data;
 use crate::outcome::Outcome;
@@ -22,20 +22,17 @@ pub enum Row {
     Maps,
     /// A map in order of arrival.
     Ordered,
-    /// The key of a blob.
-    Key,
     /// Cells that are paged out and loaded again.
     Cells,
 }
 
 /// All rows, in their order.
-pub const ROWS: [Row; 7] = [
+pub const ROWS: [Row; 6] = [
     Row::Numbers,
     Row::Bytes,
     Row::Texts,
     Row::Maps,
     Row::Ordered,
-    Row::Key,
     Row::Cells,
 ];
 
@@ -48,7 +45,6 @@ impl Row {
             Row::Texts => "texts",
             Row::Maps => "maps",
             Row::Ordered => "ordered",
-            Row::Key => "key",
             Row::Cells => "cells",
         }
     }
@@ -67,7 +63,6 @@ pub fn run_row(clock: &impl Clock, alloc: Global, row: Row, runs: u64) -> anyhow
         Row::Texts => texts(clock, alloc, runs),
         Row::Maps => maps(clock, alloc, runs),
         Row::Ordered => ordered(clock, alloc, runs),
-        Row::Key => key(clock, alloc, runs),
         Row::Cells => cells(clock, alloc, runs),
     }
 }

@@ -1,2 +1,4 @@
 pub mod Taking
 pub mod Weighing
+pub mod Adding
+pub mod Counting

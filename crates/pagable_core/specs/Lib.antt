@@ -1,3 +1,5 @@
 pub mod Data
 pub mod Context
 pub mod Fields
+pub mod Blobs
+pub mod Found

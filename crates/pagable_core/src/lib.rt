@@ -1,5 +1,5 @@
 //! What stands between the values and the pager: the serializer and the deserializer of one blob, the blobs and
-//! their keys, and what a storage of blobs offers.
+//! their keys, what a storage of blobs offers, and blobs in memory.
 #![tactic(auto)]
 
 pub mod context;
@@ -10,6 +10,7 @@ pub use context::{
     SerializedData,
 };
 pub use storage::data::PagableData;
+pub use storage::in_memory::InMemoryBlobs;
 pub use storage::support::SerializerForPaging;
 pub use storage::traits::PagableStorage;
 pub use storage::weigh::WeighHash;

@@ -1,6 +1,7 @@
-//! Blobs, their keys, and the storages that keep them.
+//! Blobs, their keys, and the storages that keep them: what each storage offers, and one in memory.
 
 pub mod data;
+pub mod in_memory;
 pub mod support;
 pub mod traits;
 pub mod weigh;

@@ -2,3 +2,4 @@ pub mod Dishes
 pub mod Expressions
 pub mod Levels
 pub mod Menus
+pub mod Refusing

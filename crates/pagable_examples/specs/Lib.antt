@@ -1,5 +1,10 @@
+pub mod Animals
+pub mod Counting
 pub mod Dishes
-pub mod Portions
-pub mod Menus
 pub mod Expressions
+pub mod Failing
+pub mod Menus
+pub mod Sightings
 pub mod Sizes
+pub mod Texts
+pub mod Words

@@ -34,6 +34,7 @@ impl<E: Env> PagableSerialize<E> for Dish {
 
     ghost write_causes_may_refuse = { text_may_refuse_writing };
 
+    #[tactic(auto, using(pagable_codec::proofs::Writing::parts, crate::proofs::Dishes::writing))]
     fn pagable_serialize<S: PagableSerializer<E>>(&self, serializer: &mut S) -> Result<(), Error> {
         self.name.pagable_serialize(serializer)?;
         self.grams.pagable_serialize(serializer)
@@ -45,6 +46,7 @@ impl<'de, E: Env> PagableDeserialize<'de, E> for Dish {
 
     ghost read_causes_are_own = { memory_is_own_reading };
 
+    #[tactic(auto, using(pagable_codec::proofs::Reading::parts))]
     fn pagable_deserialize<D: PagableDeserializer<E>>(
         alloc: Global,
         deserializer: &mut D,

@@ -1,20 +1,27 @@
-//! Types of one's own that are carried by hand, as examples: a struct of named fields, an enum of cases, an environment of
-//! both, a struct that is carried as the tuple of its fields, an enum that is carried as an option, a type that holds values of
-//! its own type, and one that is written eagerly.
+//! How a caller carries types of its own, and what programs and tests share: a struct of named fields, an enum that is
+//! carried as an option, an environment of both, a type that holds values of its own type, and one that is written eagerly;
+//! an environment of registries, with tagged values and a type that has a tagged and a static value; an environment of
+//! texts; and storages over another storage.
 #![tactic(auto)]
 
+pub mod animal;
 pub mod dish;
 pub mod expression;
-pub mod guest;
 pub mod menu;
-pub mod portion;
+pub mod sighting;
 pub mod size;
+pub mod storages;
+pub mod text;
 pub mod ticket;
+pub mod zoo;
 
+pub use animal::{Animal, AnimalReader};
 pub use dish::Dish;
 pub use expression::{Expression, Sheet};
-pub use guest::Guest;
 pub use menu::{Menu, MenuNode};
-pub use portion::Portion;
+pub use sighting::Sighting;
 pub use size::Size;
+pub use storages::{CountingStorage, FailingStorage};
+pub use text::{TextEnv, TextNode};
 pub use ticket::Ticket;
+pub use zoo::{NoNode, Zoo};

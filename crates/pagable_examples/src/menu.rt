@@ -1,7 +1,7 @@
-//! An environment with two value types: dishes and portions.
+//! An environment with two value types: dishes, and sizes of glasses.
 
 use crate::dish::Dish;
-use crate::portion::Portion;
+use crate::size::Size;
 use pagable::{
     ArcRef, Env, Error, InNode, KeyHash, NodeSet, PagableDeserialize, PagableDeserializer,
     PagableSerialize, PagableSerializer,
@@ -10,7 +10,7 @@ use std::alloc::Global;
 use std::marker::PhantomData;
 use std::sync::Arc;
 
-/// The environment of a menu, whose keys are made by the hash `H`. Dishes have the type number 0, portions 1.
+/// The environment of a menu, whose keys are made by the hash `H`. Dishes have the type number 0, sizes 1.
 #[derive(Drop)]
 pub struct Menu<H> {
     hash: PhantomData<H>,
@@ -40,7 +40,7 @@ impl<H: KeyHash> Env for Menu<H> {
 #[derive(Drop)]
 pub enum MenuNode {
     Dish(Arc<Dish>),
-    Portion(Arc<Portion>),
+    Size(Arc<Size>),
 }
 
 impl<H: KeyHash> NodeSet<Menu<H>> for MenuNode {
@@ -76,7 +76,7 @@ impl<H: KeyHash> NodeSet<Menu<H>> for MenuNode {
     fn node_type(&self) -> u32 {
         match self {
             MenuNode::Dish(_) => 0,
-            MenuNode::Portion(_) => 1,
+            MenuNode::Size(_) => 1,
         }
     }
 
@@ -88,7 +88,7 @@ impl<H: KeyHash> NodeSet<Menu<H>> for MenuNode {
     fn write<S: PagableSerializer<Menu<H>>>(&self, serializer: &mut S) -> Result<(), Error> {
         match self {
             MenuNode::Dish(dish) => dish.as_ref().pagable_serialize(serializer),
-            MenuNode::Portion(portion) => portion.as_ref().pagable_serialize(serializer),
+            MenuNode::Size(size) => size.as_ref().pagable_serialize(serializer),
         }
     }
 
@@ -103,8 +103,8 @@ impl<H: KeyHash> NodeSet<Menu<H>> for MenuNode {
                 Ok(MenuNode::Dish(Arc::new(alloc, dish)?))
             }
             1 => {
-                let portion = Portion::pagable_deserialize(alloc, deserializer)?;
-                Ok(MenuNode::Portion(Arc::new(alloc, portion)?))
+                let size = Size::pagable_deserialize(alloc, deserializer)?;
+                Ok(MenuNode::Size(Arc::new(alloc, size)?))
             }
             _ => Err(Error::WrongKind),
         }
@@ -132,7 +132,7 @@ impl<H: KeyHash> InNode<Menu<H>> for Dish {
     fn from_node(alloc: Global, node: &MenuNode) -> Result<Option<Arc<Dish>>, Error> {
         match node {
             MenuNode::Dish(dish) => Ok(Some(dish.clone()?)),
-            MenuNode::Portion(_) => Ok(None),
+            MenuNode::Size(_) => Ok(None),
         }
     }
 
@@ -153,44 +153,44 @@ impl<H: KeyHash> InNode<Menu<H>> for Dish {
     ghost meaning_back = { dish_meaning_back };
 }
 
-impl<H: KeyHash> InNode<Menu<H>> for Portion {
+impl<H: KeyHash> InNode<Menu<H>> for Size {
     ghost use Rattle.std.specs.Prelude.{◌≡◌, Some, refl};
     ghost use Rattle.std.proofs.Common.{inl};
     ghost use Rattle.std.specs.Arc.{arc_value};
-    ghost use Rattle.pagable_examples.specs.Menus.{portion_in, portion_number_is_small, portion_type, no_portion_type, portion_meaning, portion_meaning_back};
+    ghost use Rattle.pagable_examples.specs.Menus.{size_in, size_number_is_small, size_type, no_size_type, size_meaning, size_meaning_back};
 
     ghost TYPE = { 1 };
 
-    ghost held = { portion_in };
+    ghost held = { size_in };
 
     const TYPE: u32 = 1;
 
-    fn into_node(value: Arc<Portion>) -> MenuNode
-        ensures { portion_in result ≡ Some (arc_value value) }
+    fn into_node(value: Arc<Size>) -> MenuNode
+        ensures { size_in result ≡ Some (arc_value value) }
     {
-        MenuNode::Portion(value)
+        MenuNode::Size(value)
     }
 
-    fn from_node(alloc: Global, node: &MenuNode) -> Result<Option<Arc<Portion>>, Error> {
+    fn from_node(alloc: Global, node: &MenuNode) -> Result<Option<Arc<Size>>, Error> {
         match node {
             MenuNode::Dish(_) => Ok(None),
-            MenuNode::Portion(portion) => Ok(Some(portion.clone()?)),
+            MenuNode::Size(size) => Ok(Some(size.clone()?)),
         }
     }
 
-    ghost small = { portion_number_is_small };
+    ghost small = { size_number_is_small };
 
     ghost shape_is = { λ e. refl };
 
-    ghost in_type = { portion_type };
+    ghost in_type = { size_type };
 
-    ghost other_type = { no_portion_type };
+    ghost other_type = { no_size_type };
 
-    ghost same_meaning = { portion_meaning };
+    ghost same_meaning = { size_meaning };
 
     ghost writes_as = { λ e h. h };
 
     ghost reads_as = { λ e h. inl h };
 
-    ghost meaning_back = { portion_meaning_back };
+    ghost meaning_back = { size_meaning_back };
 }

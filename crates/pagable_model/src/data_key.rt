@@ -8,7 +8,7 @@ use std::fmt;
 use std::marker::Model;
 
 /// The key of a blob, a number of 128 bits that is never 0.
-#[derive(Clone, Copy, Debug, PartialEq, Eq, Hash, PartialOrd, Ord)]
+#[derive(Clone, Copy, Debug, PartialEq, Eq, Hash)]
 pub struct DataKey {
     number: u128,
 }

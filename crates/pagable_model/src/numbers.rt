@@ -2,15 +2,15 @@
 
 /// The kind of a reference. A value type with the number t has three kinds: 3t for an `Arc`, 3t + 1 for a
 /// `PagableArc` and 3t + 2 for a `PinnedPagableArc`.
-#[derive(Clone, Copy, Debug, PartialEq, Eq, Hash, PartialOrd, Ord)]
+#[derive(Clone, Copy, Debug, PartialEq, Eq, Hash)]
 pub struct Kind(pub u32);
 
 /// The number of a node in the pager's table, from 1 on, never used again.
-#[derive(Clone, Copy, Debug, PartialEq, Eq, Hash, PartialOrd, Ord)]
+#[derive(Clone, Copy, Debug, PartialEq, Eq, Hash)]
 pub struct NodeNumber(pub u64);
 
 /// The number of a handle, from 1 on, never used again.
-#[derive(Clone, Copy, Debug, PartialEq, Eq, Hash, PartialOrd, Ord)]
+#[derive(Clone, Copy, Debug, PartialEq, Eq, Hash)]
 pub struct HandleNumber(pub u64);
 
 /// The number of a load, from 1 on, never used again.
@@ -22,7 +22,7 @@ pub struct LoadNumber(pub u64);
 pub struct WorkerNumber(pub u64);
 
 /// What page-out counts as one node of its walk: a kind with a node.
-#[derive(Clone, Copy, Debug, PartialEq, Eq, Hash, PartialOrd, Ord)]
+#[derive(Clone, Copy, Debug, PartialEq, Eq, Hash)]
 pub struct Identity {
     pub kind: Kind,
     pub node: NodeNumber,

@@ -183,18 +183,18 @@ no_body_read own context written grammar env readers tag f e rest mid h last (in
 no_body_read own context written grammar env readers tag f e rest mid h last (inr b) = inr (inr b)
 
 -- the body is read
-pub tagged_read : {T A F V : Type 0} (M : T → Meaning ArcRef → Type 0) (tag_of : T → List ℕ) (context : Context A ArcRef) (written : List ℕ → Shape) (grammar : F → V → Shape) (env : V) (readers : List (List ℕ × F)) (tag : List ℕ) (f : F) (x : T) (rest mid after : Rest A)
-    → bytes_of text_at (λ t. t) rest ≡ Ok (tag, mid) → IsLastFor tag readers f → tag_of x ≡ tag → Gave (M x) after (read context (grammar f env) mid)
+pub tagged_read : {T A F V : Type 0} (M : T → Meaning ArcRef → Type 0) (tag_of : T → List ℕ) (context : Context A ArcRef) (written : List ℕ → Shape) (grammar : F → V → Shape) (env : V) (readers : List (List ℕ × F)) (tag own : List ℕ) (f : F) (x : T) (rest mid after : Rest A)
+    → bytes_of text_at (λ t. t) rest ≡ Ok (tag, mid) → IsLastFor tag readers f → tag_of x ≡ own → own ≡ tag → Gave (M x) after (read context (grammar f env) mid)
     → Gave (MeansTagged (tag_of x) (M x)) after (read context (tagged_by written (grammars grammar env readers)) rest)
-tagged_read M tag_of context written grammar env readers tag f x rest mid after h last same g =
+tagged_read M tag_of context written grammar env readers tag own f x rest mid after h last same known g =
     let p = known_tag grammar env readers tag f last in
     record {
       m = of_tagged tag g.m;
-      is = record { body = g.m; is_body = g.is; is = ap (λ (t : List ℕ). of_tagged t g.m) (sym same) };
+      is = record { body = g.m; is_body = g.is; is = ap (λ (t : List ℕ). of_tagged t g.m) (sym (same ∙ known)) };
       gave = read-known context written (grammars grammar env readers) tag (grammar f env) rest mid h p.0 p.1 ∙ rw g.gave refl;
     }
 
-pub ruleset reading = (no_tag_read, unknown_read, no_body_read, tagged_read)
+pub ruleset reading = (tagged_read)
 
 -- ---- distinct tags
 

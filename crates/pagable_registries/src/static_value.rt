@@ -359,6 +359,7 @@ impl<'de, E: Env, T: HasStaticValueRegistry<E>> PagableDeserialize<'de, E> for S
 
     /// Reads an index, and gives the value that the environment's registry has under it, with that index: so it can be
     /// written again. BadStaticIndex where there is none.
+    #[tactic(auto, using(pagable_codec::proofs::Reading::parts))]
     fn pagable_deserialize<D: PagableDeserializer<E>>(
         _alloc: Global,
         deserializer: &mut D,

@@ -1,9 +1,9 @@
 //! Cells are written as what they hold when they are looked at, which no contract can say. What is read into one stands in the
-//! data of `replay`.
+//! data of `rows`.
 
 use crate::equal::equal;
 use pagable::{Error, PagableSerialize, PagableSerializerImpl, WeighHash};
-use pagable_samples::TextEnv;
+use pagable_examples::TextEnv;
 use std::alloc::Global;
 use std::sync::OnceLock;
 use std::sync::atomic::{AtomicI64, Ordering};

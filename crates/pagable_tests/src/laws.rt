@@ -1,8 +1,7 @@
-//! What stands over every value and no data can show: the laws at a type of references, and a preimage.
+//! What stands over every value and no data can show: the laws at a type of references.
 
-use pagable_plain::examples::worked_examples;
-use pagable_plain::{laws, preimage};
-use std::test::Fail;
+use pagable_laws::values as laws;
+use pagable_laws::worked::worked_examples;
 
 #[test]
 fn laws_hold_of_any_references() {
@@ -22,15 +21,4 @@ fn laws_hold_of_any_references() {
     laws::float_has_no_form::<u64>();
     laws::whole_is_bounded::<u64>();
     worked_examples();
-}
-
-#[test]
-fn blobs_have_preimages(rt: HostRuntime) -> Result<(), Fail> {
-    let all = preimage(rt.alloc(), &[1], &[2])?;
-    let mut want = [0u8; 25];
-    want[0] = 1;
-    want[8] = 1;
-    want[9] = 2;
-    assert_eq!(rt; all.as_slice(), want.as_slice());
-    Ok(())
 }

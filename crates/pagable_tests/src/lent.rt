@@ -5,7 +5,7 @@ use pagable::{
     DataKey, Error, Kind, NoReferences, PagableDeserializerImpl, References, SessionContext,
     WeighHash,
 };
-use pagable_samples::TextEnv;
+use pagable_examples::TextEnv;
 use std::test::Fail;
 
 #[test]

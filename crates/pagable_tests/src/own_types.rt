@@ -5,7 +5,7 @@ use pagable::{
     Env, Error, InNode, NoReferences, NodeSet, PagableDeserialize, PagableDeserializerImpl,
     PagableSerialize, PagableSerializerImpl, SessionContext, WeighHash,
 };
-use pagable_examples::{Dish, Expression, Guest, Menu, MenuNode, Portion, Sheet, Size};
+use pagable_examples::{Dish, Expression, Menu, MenuNode, Sheet, Size};
 use std::alloc::{AllocError, Global};
 use std::fmt::Debug;
 use std::process::Abort;
@@ -80,14 +80,6 @@ fn a_struct_is_its_fields_in_turn(rt: HostRuntime) -> Result<(), Fail> {
     carried(&rt, alloc, &Card::new(), soup, b"\x04soup\xac\x02")
 }
 
-#[test]
-fn an_enum_is_its_case_and_its_part(rt: HostRuntime) -> Result<(), Fail> {
-    let alloc = rt.alloc();
-    let env = Card::new();
-    carried(&rt, alloc, &env, Portion::Whole, b"\x00")?;
-    carried(&rt, alloc, &env, Portion::Part(300), b"\x01\xac\x02")
-}
-
 /// The node at the front of these bytes, of the type of this number.
 fn read_node(alloc: Global, env: &Card, node_type: u32, bytes: &[u8]) -> Result<MenuNode, Error> {
     let session = SessionContext::new(alloc);
@@ -99,23 +91,23 @@ fn read_node(alloc: Global, env: &Card, node_type: u32, bytes: &[u8]) -> Result<
 fn a_node_holds_a_value_of_its_type(rt: HostRuntime) -> Result<(), Fail> {
     let alloc = rt.alloc();
     let env = Card::new();
-    let part = Arc::new(alloc, Portion::Part(300))?;
-    let node = <Portion as InNode<Card>>::into_node(part);
+    let large = Arc::new(alloc, Size::Large(200))?;
+    let node = <Size as InNode<Card>>::into_node(large);
     equal(&rt, NodeSet::<Card>::node_type(&node), 1, "type");
     let refs = NodeSet::<Card>::refs(&node, alloc).ok().ok_or("refs")?;
     equal(&rt, refs.len(), 0, "references");
     let mut out = PagableSerializerImpl::testing_new(alloc, &env);
     equal(&rt, node.write(&mut out), Ok(()), "written");
     let data = out.finish().ok().ok_or("not finished")?;
-    equal(&rt, data.bytes.as_slice(), b"\x01\xac\x02", "bytes");
+    equal(&rt, data.bytes.as_slice(), b"\x01\xc8", "bytes");
     let again = read_node(alloc, &env, 1, data.bytes.as_slice())
         .ok()
         .ok_or("not read")?;
-    let portion = <Portion as InNode<Card>>::from_node(alloc, &again)
+    let size = <Size as InNode<Card>>::from_node(alloc, &again)
         .ok()
         .flatten();
-    let portion = portion.ok_or("another type")?;
-    equal(&rt, portion.as_ref(), &Portion::Part(300), "value");
+    let size = size.ok_or("another type")?;
+    equal(&rt, size.as_ref(), &Size::Large(200), "value");
     let dish = <Dish as InNode<Card>>::from_node(alloc, &again)
         .ok()
         .ok_or("memory")?;
@@ -123,20 +115,6 @@ fn a_node_holds_a_value_of_its_type(rt: HostRuntime) -> Result<(), Fail> {
     let unknown = read_node(alloc, &env, 2, b"\x00").err();
     equal(&rt, unknown, Some(Error::WrongKind), "no such type");
     Ok(())
-}
-
-#[test]
-fn a_struct_is_the_tuple_of_its_fields(rt: HostRuntime) -> Result<(), Fail> {
-    let alloc = rt.alloc();
-    let ann = Guest {
-        name: String::from_str(alloc, "Ann")?,
-        seat: 300,
-        paid: true,
-        tip: Some(5),
-        eats: vec![in alloc; String::from_str(alloc, "soup")?]?,
-    };
-    let bytes = b"\x03Ann\xac\x02\x01\x01\x05\x01\x04soup";
-    carried(&rt, alloc, &Card::new(), ann, bytes)
 }
 
 #[test]
@@ -155,34 +133,16 @@ fn plus_one(alloc: Global, left: Expression) -> Result<Expression, AllocError> {
 }
 
 #[test]
-fn a_tree_is_its_case_and_its_parts(rt: HostRuntime) -> Result<(), Fail> {
-    let alloc = rt.alloc();
-    let sum = plus_one(alloc, Expression::Number(300))?;
-    carried(&rt, alloc, &Sheet, sum, b"\x00\x01\xac\x02\x01\x01")
-}
-
-#[test]
-fn a_tree_has_at_most_128_levels(rt: HostRuntime) -> Result<(), Fail> {
+fn a_tree_of_129_levels_is_not_written(rt: HostRuntime) -> Result<(), Fail> {
     let alloc = rt.alloc();
     let mut tree = Expression::Number(1);
     for _ in 1..128 {
         tree = plus_one(alloc, tree)?;
     }
     // 127 sums of a byte each, and 128 numbers of two.
-    let bytes = written(alloc, &Sheet, &tree).ok().ok_or("not written")?;
-    equal(&rt, bytes.len(), 383, "128 levels, written");
-    let found = read(alloc, &Sheet, bytes.as_slice());
-    equal(&rt, found.as_ref(), Ok(&tree), "128 levels, read");
+    let bytes = written(alloc, &Sheet, &tree).map(|bytes| bytes.len());
+    equal(&rt, bytes, Ok(383), "128 levels");
     let deeper = written(alloc, &Sheet, &plus_one(alloc, tree)?).err();
-    equal(&rt, deeper, Some(Error::TooDeep), "129 levels, written");
+    equal(&rt, deeper, Some(Error::TooDeep), "129 levels");
     Ok(())
-}
-
-#[test]
-fn no_tree_of_129_levels_is_read(rt: HostRuntime) {
-    // The left part of the last sum is looked for on the next level.
-    let deep = read::<Sheet, Expression>(rt.alloc(), &Sheet, &[0; 127]);
-    equal(&rt, deep.err(), Some(Error::UnexpectedEnd), "128 levels");
-    let deeper = read::<Sheet, Expression>(rt.alloc(), &Sheet, &[0; 128]);
-    equal(&rt, deeper.err(), Some(Error::TooDeep), "129 levels");
 }

@@ -1,8 +1,7 @@
-//! Regular expressions beside their texts: what is built of a text searches as the text says, and a text that is none is
-//! refused.
+//! Regular expressions beside their texts: what is built of a text searches as the text says.
 
 use crate::equal::equal;
-use pagable::{Error, SavedRegex};
+use pagable::SavedRegex;
 use std::test::Fail;
 
 #[test]
@@ -17,14 +16,6 @@ fn what_is_built_searches(rt: HostRuntime) -> Result<(), Fail> {
         equal(&rt, span, wanted, text);
     }
     Ok(())
-}
-
-#[test]
-fn texts_that_are_no_patterns_are_refused(rt: HostRuntime) {
-    for text in ["(", "[a", "*", "a{4000000000}"] {
-        let refusal = SavedRegex::new(rt.alloc(), text).err();
-        equal(&rt, refusal, Some(Error::RegexRefused), text);
-    }
 }
 
 #[test]

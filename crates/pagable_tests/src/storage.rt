@@ -2,7 +2,7 @@
 
 use crate::equal::equal;
 use pagable::{DataKey, Error, InMemoryBlobs, PagableData, PagableStorage, WeighHash};
-use pagable_samples::{CountingStorage, FailingStorage, TextEnv};
+use pagable_examples::{CountingStorage, FailingStorage, TextEnv};
 use std::alloc::{AllocError, Global};
 use std::test::Fail;
 

@@ -1,16 +1,21 @@
 -- Items that are put in one after another as they are read.
-use Rattle.std.proofs.Common.{◌≡◌, subst, List, [], ◌∷◌, ◌++◌, refl, sym, ap, ◌∙◌, append_assoc, ℕ, Ok}
+use Rattle.std.proofs.Common.{◌≡◌, subst, List, [], ◌∷◌, ◌++◌, length, refl, sym, ap, ◌∙◌, append_assoc, ℕ, zero, suc, Result, Ok, Err, inl, inr}
 use Rattle.std.proofs.lemmas.List.{append-nil}
+use Rattle.std.specs.Prelude.{◌⊎◌, IfOk, vec_len}
+use Rattle.std.specs.declared.vec.Vec.{Vec}
+use Rattle.pagable_model.specs.declared.error.Error.{Error}
 use Rattle.pagable_model.specs.declared.numbers.ArcRef.{ArcRef}
+use Rattle.pagable_model.specs.Steps.{◌>>=◌}
 use Rattle.pagable_model.specs.Basic.{length_at}
+use Rattle.pagable_model.specs.Gives.{never}
 use Rattle.pagable_model.specs.Meaning.{Meaning, sequence}
 use Rattle.pagable_model.specs.Keys.{put_all}
 use Rattle.pagable_model.specs.Shape.{Shape, list}
-use Rattle.pagable_model.specs.Reading.{Rest, Context, items, bytes_of, read, read_with}
-use Rattle.pagable_model.specs.Standing.{Gave}
+use Rattle.pagable_model.specs.Reading.{Rest, Gets, Context, items, bytes_of, counted, seen, read, read_with}
+use Rattle.pagable_model.specs.Standing.{GivesSome}
 use Rattle.pagable_model.specs.Lifted.{MeanAll, mean-none, MeansList}
 use Rattle.pagable_model.specs.Collected.{PutInTurn, Collected}
-use Rattle.pagable_traits.proofs.Items.{mean_last}
+use Rattle.pagable_traits.proofs.Items.{mean-length, mean_last}
 
 pub collected_none : {T : Type 0} (M : T → Meaning ArcRef → Type 0) (puts : List T → T → List T → Type 0) (now : List T) → now ≡ [] → Collected M puts now []
 unfolding PutInTurn
@@ -39,8 +44,54 @@ put-at-end acc (x ∷ xs) = put-at-end (acc ++ x ∷ []) xs ∙ append_assoc acc
 pub collected_list : {T : Type 0} (M : T → Meaning ArcRef → Type 0) (now : List T) (ms : List (Meaning ArcRef)) → Collected M (λ ys y zs. zs ≡ ys ++ y ∷ []) now ms → MeanAll M now ms
 collected_list M now ms c = rw (put-in-turn (λ ys y. ys ++ y ∷ []) [] c.xs now c.is, put-at-end [] c.xs) c.each
 
--- a list that was read item by item
-pub list_collected : {T A : Type 0} (M : T → Meaning ArcRef → Type 0) (context : Context A ArcRef) (s : Shape) (now : List T) (rest mid after : Rest A) (count : ℕ) → bytes_of length_at (λ n. n) rest ≡ Ok (count, mid)
-    → Gave (Collected M (λ ys y zs. zs ≡ ys ++ y ∷ []) now) after (items (read context s) count mid) → Gave (MeansList M now) after (read context (list s) rest)
+-- ---- what was read, seen as a whole
+
+pub gives_along : {X Y R : Type 0} (own : Error → Type 0) (P Q : X → Y → Type 0) (last : R) (r : Result X Error) (read : Result (Y × R) Error) → ((x : X) (y : Y) → P x y → Q x y) → GivesSome own P last r read → GivesSome own Q last r read
+gives_along own P Q last (Ok x) read f g = record { m = g.m; is = f x g.m g.is; gave = g.gave }
+gives_along own P Q last (Err e) read f h = h
+
+gives-seen : {X Y Z R : Type 0} (own : Error → Type 0) (P : X → Y → Type 0) (Q : X → Z → Type 0) (view : Y → Z) (last : R) (r : Result X Error) (part : Result (Y × R) Error) → ((x : X) (y : Y) → P x y → Q x (view y)) → GivesSome own P last r part → GivesSome own Q last r (part >>= λ y. Ok (view y.0, y.1))
+gives-seen own P Q view last (Ok x) part f g = record { m = view g.m; is = f x g.m g.is; gave = rw g.gave refl }
+gives-seen own P Q view last (Err e) part f (inl h) = inl (rw h refl)
+gives-seen own P Q view last (Err e) part f (inr h) = inr h
+
+-- items after their count
+pub uncounted : {A X : Type 0} (own : Error → Type 0) (get : Gets A X) (rest : Rest A) (e : Error) → (bytes_of length_at (λ n. n) rest ≡ Err e) ⊎ never e → (counted get rest ≡ Err e) ⊎ own e
+uncounted own get rest e (inl h) = inl (rw h refl)
+uncounted own get rest e (inr h) = absurd h
+
+pub gives_counted : {X Y A : Type 0} (own : Error → Type 0) (P : X → List Y → Type 0) (r : Result X Error) (get : Gets A Y) (rest mid last : Rest A) (count : ℕ) → bytes_of length_at (λ n. n) rest ≡ Ok (count, mid) → GivesSome own P last r (items get count mid) → GivesSome own P last r (counted get rest)
+gives_counted own P r get rest mid last count e h = rw e h
+
+-- a whole whose items were counted
+pub reads_items : {X A : Type 0} (own : Error → Type 0) (P : X → List (Meaning ArcRef) → Type 0) (Q : X → Meaning ArcRef → Type 0) (view : List (Meaning ArcRef) → Meaning ArcRef) → ((x : X) (ms : List (Meaning ArcRef)) → P x ms → Q x (view ms)) → (r : Result X Error) (get : Gets A (Meaning ArcRef)) (rest last : Rest A)
+    → GivesSome own P last r (counted get rest) → GivesSome own Q last r (seen view (counted get) rest)
+reads_items own P Q view f r get rest last h = gives-seen own P Q view last r (counted get rest) f h
+
+pub reads_list : {X T A : Type 0} (own : Error → Type 0) (M : T → Meaning ArcRef → Type 0) (r : Result X Error) (held : X → List T) (context : Context A ArcRef) (s : Shape) (rest last : Rest A) → GivesSome own (λ x. Collected M (λ ys y zs. zs ≡ ys ++ y ∷ []) (held x)) last r (counted (read context s) rest)
+    → GivesSome own (λ x. MeansList M (held x)) last r (read context (list s) rest)
 unfolding read read_with
-list_collected M context s now rest mid after count counted g = record { m = sequence g.m; is = record { ms = g.m; each = collected_list M now g.m g.is; is = refl }; gave = rw (counted, g.gave) refl }
+reads_list own M r held context s rest last h =
+    reads_items own (λ x. Collected M (λ ys y zs. zs ≡ ys ++ y ∷ []) (held x)) (λ x. MeansList M (held x)) sequence (λ x ms p. record { ms = ms; each = collected_list M (held x) ms p; is = refl }) r (read context s) rest last h
+
+-- there are as many as were asked for
+abbrev got : {A X : Type 0} → Result (List X × Rest A) Error → List X
+got (Ok o) = o.0
+got (Err e) = []
+
+items-length : {A X : Type 0} (get : Gets A X) (n : ℕ) (rest after : Rest A) (xs : List X) → items get n rest ≡ Ok (xs, after) → length xs ≡ n
+unfolding items
+items-length {A} {X} get zero rest after xs e = ap (λ (r : Result (List X × Rest A) Error). length (got r)) (sym e)
+items-length {A} {X} get (suc n) rest after xs e = first (λ r a ys k. items-length get n r a ys k) (get rest) refl
+  where
+    second : ((r a : Rest A) (ys : List X) → items get n r ≡ Ok (ys, a) → length ys ≡ n) → (o : Result (List X × Rest A) Error) (f : X × Rest A) → items get n f.1 ≡ o → ◌>>=◌ {B = List X × Rest A} o (λ others. Ok (f.0 ∷ others.0, others.1)) ≡ Ok (xs, after) → length xs ≡ suc n
+    second later (Ok others) f was k = ap (λ (r : Result (List X × Rest A) Error). length (got r)) (sym k) ∙ ap (λ (i : ℕ). suc i) (later f.1 others.1 others.0 was)
+    second later (Err x) f was k = cc
+
+    first : ((r a : Rest A) (ys : List X) → items get n r ≡ Ok (ys, a) → length ys ≡ n) → (o : Result (X × Rest A) Error) → get rest ≡ o → length xs ≡ suc n
+    first later (Ok f) was = second later (items get n f.1) f refl (rw was at e)
+    first later (Err x) was = let k = rw was at e in cc
+
+pub list_length : {T Z A : Type 0} (own : Error → Type 0) (M : T → Meaning ArcRef → Type 0) (r : Result (Vec T Z) Error) (get : Gets A (Meaning ArcRef)) (count : ℕ) (rest last : Rest A) → GivesSome own (λ v. Collected M (λ ys y zs. zs ≡ ys ++ y ∷ []) v.items) last r (items get count rest) → IfOk r (λ v. vec_len v ≡ count)
+list_length own M (Ok v) get count rest last g = v.ok.0 ∙ sym (mean-length (collected_list M v.items g.m g.is)) ∙ items-length get count rest last g.m g.gave
+list_length own M (Err e) get count rest last g = tt

@@ -1,8 +1,7 @@
 -- Maps in no order: what putting in, writing and reading their entries gives, in whatever order they stand.
-use Rattle.std.proofs.Common.{◌≡◌, ℕ, ◌≤◌, Bool, true, false, cond, subst, List, [], ◌∷◌, ◌++◌, length, map, arith, refl, sym, ap, ◌∙◌, Option, Some, None, is_some, Ok, Err, inl, inr, IsPermutation, MatchOption}
+use Rattle.std.proofs.Common.{◌≡◌, ℕ, ◌≤◌, Bool, true, false, cond, subst, List, [], ◌∷◌, ◌++◌, length, map, refl, sym, ap, ◌∙◌, Option, Some, None, is_some, Result, IsPermutation, MatchOption}
 use Rattle.std.proofs.lemmas.List.{length-map}
 use Rattle.std.proofs.lemmas.Map.Text.{is_eq-slice_cmp}
-use Rattle.std.specs.Prelude.{◌⊎◌}
 use Rattle.std.specs.List.{IsDistinct}
 use Rattle.std.specs.Map.{keys_of, lookup, set_value}
 use Rattle.std.specs.declared.cmp.Ordering.{Ordering}
@@ -11,23 +10,21 @@ use Rattle.std.specs.Cmp.{IsTotalOrder}
 use Rattle.std.specs.Cmp.Lexicographic.{on_texts}
 use Rattle.pagable_model.specs.declared.error.Error.{Error}
 use Rattle.pagable_model.specs.declared.numbers.ArcRef.{ArcRef}
-use Rattle.pagable_model.specs.Basic.{longest, length_form, length_at}
-use Rattle.pagable_model.specs.Lengths.{long_or_memory}
-use Rattle.pagable_model.specs.Gives.{never}
+use Rattle.pagable_model.specs.Basic.{longest, length_form}
 use Rattle.pagable_model.specs.Meaning.{Meaning, entry, plain}
 use Rattle.pagable_model.specs.Keys.{Entry, ordered, code, code_order, same_key, put_all, put_sorted, AllAfter, Apart, Differ}
 use Rattle.pagable_model.specs.Shape.{Shape, both, hash_map}
 use Rattle.pagable_model.specs.Carried.{of_entries, of_hash_map}
 use Rattle.pagable_model.specs.Form.{Entries, more-entries, hash-map-form}
-use Rattle.pagable_model.specs.Reading.{Rest, Context, items, bytes_of, read, read_with}
-use Rattle.pagable_model.specs.Writing.{Out, Nesting, FormAt, FormsAt, WritesSome, WritesSomeAll, added, kind_of_arc, Refused, RefusedAll}
-use Rattle.pagable_model.specs.Standing.{Gave, SomeMeaning}
+use Rattle.pagable_model.specs.Reading.{Rest, Context, counted, read, read_with}
+use Rattle.pagable_model.specs.Writing.{Nesting, FormAt, FormsAt, kind_of_arc}
+use Rattle.pagable_model.specs.Standing.{GivesSome}
 use Rattle.pagable_model.specs.Collected.{PutInTurn, Collected}
-use Rattle.pagable_model.specs.Lifted.{MeanAll, MeansPair, items_have_meanings, pair_has_meaning}
+use Rattle.pagable_model.specs.Lifted.{MeansPair}
 use Rattle.pagable_model.specs.Hashed.{PutsAnywhere, MeansHashMap}
-use Rattle.pagable_codec.proofs.Writing.{then as and_then, memory_refuses}
-use Rattle.pagable_traits.proofs.Items.{mean-length, sequence-same}
-use Rattle.pagable_traits.proofs.Maps.{EntriesMean, entries-of-pairs, pairs-of-entries, same-entries, entries-of-forms, forms-of-entries, read-entries, entries-refused}
+use Rattle.pagable_traits.proofs.Items.{sequence-same}
+use Rattle.pagable_traits.proofs.Maps.{EntriesMean, entries-of-pairs, pairs-of-entries, same-entries, forms-of-entries, entries-mean, entries-written, reads-entries}
+use Rattle.pagable_traits.proofs.Walks.{Wraps}
 use Rattle.pagable_traits.proofs.Placed.{IsSameOf, differ}
 use Rattle.pagable_traits.proofs.Reordered.{Reordered, no-items, same-front, two-turned, and-then, reordered, reordered-back, reordered-length, apart-with}
 use Rattle.pagable_traits.proofs.Anywhere.{OtherKey, other-back, put-late, any-order, in-order-reordered, put-value}
@@ -78,27 +75,6 @@ hash_maps_mean_alike M N eq is xs ys m distinct moved means =
 
 -- ---- writing
 
-pub writes_hash_map : {K V : Type 0} (M : K → Meaning ArcRef → Type 0) (N : V → Meaning ArcRef → Type 0) (eq : K → K → Bool) → IsSameOf M eq → (xs : List (K × V)) (n : Nesting) (s t : Shape) (old mid new : Out) (count : ℕ) → IsDistinct eq (keys_of xs)
-    → count ≡ length xs → mid ≡ added old (length_form count) [] → count ≤ longest → WritesSomeAll (MeanAll (MeansPair M N) xs) n (both s t) mid new → WritesSome (MeansHashMap M N xs) n (hash_map s t) old new
-writes_hash_map M N eq is xs n s t old mid new count distinct all counted le v =
-    let es = entries-of-pairs M N v.is in
-    let written = entries-of-forms v.wrote.form in
-    let same : es.0 ≡ written.0 = same-entries es.0 written.0 (sym es.1 ∙ written.1) in
-    let mean : EntriesMean M N xs written.0 = rw (← same) es.2 in
-    let long : length written.0 ≡ count = sym (length-map written.0 entry) ∙ ap (λ (ms : List (Meaning ArcRef)). length ms) (sym written.1) ∙ mean-length v.is ∙ sym all in
-    let short : length written.0 ≤ longest = rw long le in
-    let first : mid ≡ added old (length_form (length written.0)) [] = rw long counted in
-    record {
-      m = of_hash_map written.0;
-      is = record { es = written.0; each = pairs-of-entries M N xs written.0 mean; is = refl };
-      wrote = record {
-        bytes = length_form (length written.0) ++ v.wrote.bytes;
-        refs = v.wrote.refs;
-        form = hash-map-form _ s t written.0 _ _ short (differ M N eq is xs written.0 mean distinct) written.2;
-        grown = and_then old mid new _ _ _ _ first v.wrote.grown;
-      };
-    }
-
 -- a form of a map has a form of each entry, whatever their order
 hash-map-parts : (n : Nesting) {s t : Shape} {m : Meaning ArcRef} {b : List ℕ} {k : List ArcRef} (es : List (Entry ArcRef)) → Differ es → FormAt n (hash_map s t) m b k → m ≡ of_hash_map es
     → (length es ≤ longest) × ((c : List ℕ) × (j : List ArcRef) × FormsAt n (both s t) (map entry es) c j)
@@ -112,27 +88,22 @@ hash-map-parts n es differs (hash-map-form l s t ds b k le apart f) e =
     let short : length es ≤ longest = rw (← reordered-length moved) le in
     (short, (g.0, g.1, forms-of-entries g.2))
 
-pub refuses-entries : {K V : Type 0} (M : K → Meaning ArcRef → Type 0) (N : V → Meaning ArcRef → Type 0) (eq : K → K → Bool) → IsSameOf M eq → (xs : List (K × V)) (n : Nesting) (s t : Shape) (e : Error) → IsDistinct eq (keys_of xs) → RefusedAll (MeanAll (MeansPair M N) xs) n (both s t) e
-    → Refused (MeansHashMap M N xs) n (hash_map s t) e
-refuses-entries M N eq is xs n s t e distinct h = λ fault.
-    let lacks = h fault in
-    let es = entries-of-pairs M N lacks.is in
-    let differs = differ M N eq is xs es.0 es.2 distinct in
-    record {
-      m = of_hash_map es.0;
-      is = record { es = es.0; each = pairs-of-entries M N xs es.0 es.2; is = refl };
-      no_form = λ b k f. let p = (hash-map-parts n es.0 differs f refl).1 in lacks.no_forms p.0 p.1 (let Q : List (Meaning ArcRef) → Type 0 = λ ms. FormsAt n (both s t) ms p.0 p.1 in subst Q (sym es.1) p.2);
-    }
-
-pub refuses-entry-count : {K V : Type 0} (M : K → Meaning ArcRef → Type 0) (N : V → Meaning ArcRef → Type 0) (eq : K → K → Bool) → IsSameOf M eq → ((x : K) → SomeMeaning (M x)) → ((y : V) → SomeMeaning (N y)) → (xs : List (K × V)) (n : Nesting) (s t : Shape) (e : Error) → IsDistinct eq (keys_of xs)
-    → (count : ℕ) → count ≡ length xs → long_or_memory count e → Refused (MeansHashMap M N xs) n (hash_map s t) e
-refuses-entry-count M N eq is has_first has_second xs n s t e distinct count all (inl h) = λ fault.
-    let each = items_have_meanings (MeansPair M N) (pair_has_meaning M N has_first has_second) xs in
-    let es = entries-of-pairs M N each.1 in
-    let differs = differ M N eq is xs es.0 es.2 distinct in
-    let long : length es.0 ≡ count = sym (length-map es.0 entry) ∙ ap (λ (ms : List (Meaning ArcRef)). length ms) (sym es.1) ∙ mean-length each.1 ∙ sym all in
-    record { m = of_hash_map es.0; is = record { es = es.0; each = pairs-of-entries M N xs es.0 es.2; is = refl }; no_form = λ b k f. omega (arith, h.0, long, (hash-map-parts n es.0 differs f refl).0) }
-refuses-entry-count M N eq is has_first has_second xs n s t e distinct count all (inr h) = memory_refuses e (MeansHashMap M N xs) n (hash_map s t) h.1
+pub wraps_hash_map : {K V : Type 0} (M : K → Meaning ArcRef → Type 0) (N : V → Meaning ArcRef → Type 0) (eq : K → K → Bool) → IsSameOf M eq → (xs : List (K × V)) (n : Nesting) (s t : Shape) → IsDistinct eq (keys_of xs) → Wraps (MeansPair M N) xs (MeansHashMap M N xs) n (hash_map s t) (both s t)
+wraps_hash_map M N eq is xs n s t distinct = record {
+  joins = λ ms b k each le f.
+      let w = entries-written M N each f in
+      let form : FormAt n (hash_map s t) (of_hash_map w.es) (length_form (length ms) ++ b) k = rw w.long (hash-map-form _ s t w.es b k (rw (← w.long) le) (differ M N eq is xs w.es w.mean distinct) w.form) in
+      (of_hash_map w.es, record { es = w.es; each = rw w.is at each; is = refl }, form);
+  splits = λ ms each.
+      let es = entries-of-pairs M N each in (
+        of_hash_map es.0,
+        record { es = es.0; each = rw es.1 at each; is = refl },
+        λ b k f.
+            let p = hash-map-parts n es.0 (differ M N eq is xs es.0 es.2 distinct) f refl in
+            let same : length ms ≡ length es.0 = ap (λ (xs : List (Meaning ArcRef)). length xs) es.1 ∙ length-map es.0 entry in
+            (rw same p.0, (p.1.0, p.1.1, let Q : List (Meaning ArcRef) → Type 0 = λ xs. FormsAt n (both s t) xs p.1.0 p.1.1 in subst Q (sym es.1) p.1.2)),
+      );
+}
 
 -- ---- putting in
 
@@ -213,27 +184,14 @@ all-more {K} {V} M N eq is acc (x ∷ xs) now ds (e ∷ es) distinct mean h turn
 
 -- ---- reading
 
-pub hash_map_collected : {K V A : Type 0} (M : K → Meaning ArcRef → Type 0) (N : V → Meaning ArcRef → Type 0) (eq : K → K → Bool) → IsSameOf M eq → (context : Context A ArcRef) (s t : Shape) (now : List (K × V)) (rest mid after : Rest A) (count : ℕ) → bytes_of length_at (λ n. n) rest ≡ Ok (count, mid)
-    → Gave (Collected (MeansPair M N) (λ old x new. PutsAnywhere eq old x new) now) after (items (read context (both s t)) count mid) → Gave (MeansHashMap M N now) after (read context (hash_map s t) rest)
-unfolding EntriesMean IsDistinct put_all read read_with
-hash_map_collected M N eq is context s t now rest mid after count counted g =
-    let were = read-entries context s t count mid after g.m g.gave in
-    let es = entries-of-pairs M N g.is.each in
-    let same : es.0 ≡ were.0 = same-entries es.0 were.0 (sym es.1 ∙ were.1) in
-    let mean : EntriesMean M N g.is.xs were.0 = rw (← same) es.2 in
-    let put = all-more M N eq is [] g.is.xs now [] were.0 tt tt mean g.is.is in
-    record {
-      m = of_hash_map were.0;
-      is = record { es = put.fs; each = pairs-of-entries M N now put.fs put.mean; is = ap of_entries (sym put.is) };
-      gave = rw (counted, were.2) refl;
-    }
+hash-map-put : {K V : Type 0} (M : K → Meaning ArcRef → Type 0) (N : V → Meaning ArcRef → Type 0) (eq : K → K → Bool) → IsSameOf M eq → (now : List (K × V)) (es : List (Entry ArcRef)) → Collected (MeansPair M N) (λ old x new. PutsAnywhere eq old x new) now (map entry es) → MeansHashMap M N now (of_hash_map es)
+unfolding EntriesMean IsDistinct put_all
+hash-map-put M N eq is now es c =
+    let put = all-more M N eq is [] c.xs now [] es tt tt (entries-mean M N es c.each) c.is in
+    record { es = put.fs; each = pairs-of-entries M N now put.fs put.mean; is = ap of_entries (sym put.is) }
 
-pub hash_map_uncounted : {A : Type 0} (own : Error → Type 0) (context : Context A ArcRef) (s t : Shape) (e : Error) (rest : Rest A) → (bytes_of length_at (λ n. n) rest ≡ Err e) ⊎ never e → (read context (hash_map s t) rest ≡ Err e) ⊎ own e
+pub reads_hash_map : {X K V A : Type 0} (own : Error → Type 0) (M : K → Meaning ArcRef → Type 0) (N : V → Meaning ArcRef → Type 0) (eq : K → K → Bool) → IsSameOf M eq → (r : Result X Error) (held : X → List (K × V)) (context : Context A ArcRef) (s t : Shape) (rest last : Rest A)
+    → GivesSome own (λ x. Collected (MeansPair M N) (λ old y new. PutsAnywhere eq old y new) (held x)) last r (counted (read context (both s t)) rest) → GivesSome own (λ x. MeansHashMap M N (held x)) last r (read context (hash_map s t) rest)
 unfolding read read_with
-hash_map_uncounted own context s t e rest (inl h) = inl (rw h refl)
-hash_map_uncounted own context s t e rest (inr h) = absurd h
-
-pub hash_map_refused : {A : Type 0} (own : Error → Type 0) (context : Context A ArcRef) (s t : Shape) (e : Error) (rest mid : Rest A) (count : ℕ) → bytes_of length_at (λ n. n) rest ≡ Ok (count, mid) → (items (read context (both s t)) count mid ≡ Err e) ⊎ own e → (read context (hash_map s t) rest ≡ Err e) ⊎ own e
-unfolding read read_with
-hash_map_refused own context s t e rest mid count counted (inl h) = inl (rw (counted, entries-refused context s t count mid e h) refl)
-hash_map_refused own context s t e rest mid count counted (inr h) = inr h
+reads_hash_map own M N eq is r held context s t rest last h =
+    reads-entries own (λ x. Collected (MeansPair M N) (λ old y new. PutsAnywhere eq old y new) (held x)) (λ x. MeansHashMap M N (held x)) of_hash_map (λ x es p. hash-map-put M N eq is (held x) es p) r context s t rest last h

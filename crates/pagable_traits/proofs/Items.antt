@@ -5,15 +5,15 @@ use Rattle.std.specs.Prelude.{IfErr, ◌⊎◌}
 use Rattle.pagable_model.specs.declared.error.Error.{Error}
 use Rattle.pagable_model.specs.declared.numbers.ArcRef.{ArcRef}
 use Rattle.pagable_model.specs.Steps.{◌>>=◌}
-use Rattle.pagable_model.specs.Basic.{longest, length_form, length_at}
-use Rattle.pagable_model.specs.Gives.{never, memory_or}
+use Rattle.pagable_model.specs.Basic.{longest, length_form}
+use Rattle.pagable_model.specs.Gives.{memory_or}
 use Rattle.pagable_model.specs.Lengths.{long_or_memory}
 use Rattle.pagable_model.specs.Meaning.{Meaning, sequence}
 use Rattle.pagable_model.specs.Shape.{Shape, list}
 use Rattle.pagable_model.specs.Form.{Form, Forms, list-form, no-forms, more-forms}
-use Rattle.pagable_model.specs.Reading.{Rest, Gets, Context, items, bytes_of, read, read_with}
+use Rattle.pagable_model.specs.Reading.{Rest, Gets, items, read}
 use Rattle.pagable_model.specs.Writing.{Out, Nesting, FormAt, FormsAt, WritesSome, WritesSomeAll, Grows, added, kind_of_arc, NoForm, NoForms, NoFormOfSome, NoFormsOfSome, Refused, RefusedAll}
-use Rattle.pagable_model.specs.Standing.{Gave, SomeMeaning}
+use Rattle.pagable_model.specs.Standing.{SomeMeaning}
 use Rattle.pagable_model.specs.Lifted.{MeanAll, mean-none, mean-more, MeansList, items_have_meanings}
 use Rattle.pagable_codec.proofs.Writing.{out_is, grows_refl, grows_trans, grows_some, then, memory_refuses}
 
@@ -109,7 +109,7 @@ sequence-same (x ∷ xs) (y ∷ ys) e =
     let same = sequence-same xs ys tails in
     rw (heads, same) refl
 
-list-parts : (n : Nesting) {s : Shape} {m : Meaning ArcRef} {b : List ℕ} {k : List ArcRef} (ms : List (Meaning ArcRef)) → FormAt n (list s) m b k → m ≡ sequence ms → (length ms ≤ longest) × ((c : List ℕ) × FormsAt n s ms c k)
+pub list-parts : (n : Nesting) {s : Shape} {m : Meaning ArcRef} {b : List ℕ} {k : List ArcRef} (ms : List (Meaning ArcRef)) → FormAt n (list s) m b k → m ≡ sequence ms → (length ms ≤ longest) × ((c : List ℕ) × FormsAt n s ms c k)
 list-parts n ms (list-form l s xs c k le f) e =
     let same : xs ≡ ms = sequence-same xs ms e in (
       let P : List (Meaning ArcRef) → Type 0 = λ x. length x ≤ longest in subst P same le,
@@ -132,15 +132,6 @@ refuses-count M has xs n s e (inl h) = λ fault.
     let long : longest < length all.0 = rw (mean-length all.1) h.0 in
     record { m = sequence all.0; is = record { ms = all.0; each = all.1; is = refl }; no_form = no-long n s all.0 long }
 refuses-count M has xs n s e (inr h) = memory_refuses e (MeansList M xs) n (list s) h.1
-
-pub refused_count : {X T : Type 0} (r : Result X Error) (M : T → Meaning ArcRef → Type 0) (has : (x : T) → SomeMeaning (M x)) (xs : List T) (n : Nesting) (s : Shape) → IfErr r (long_or_memory (length xs)) → IfErr r (Refused (MeansList M xs) n (list s))
-refused_count (Ok x) M has xs n s h = tt
-refused_count (Err e) M has xs n s h = refuses-count M has xs n s e h
-
-pub gave_list : {T R : Type 0} (M : T → Meaning ArcRef → Type 0) (xs : List T) (after : R) (read : Result (Meaning ArcRef × R) Error) (part : Result (List (Meaning ArcRef) × R) Error) → Gave (MeanAll M xs) after part → read ≡ (part >>= λ y. Ok (sequence y.0, y.1)) → Gave (MeansList M xs) after read
-gave_list M xs after read part g e = record { m = sequence g.m; is = record { ms = g.m; each = g.is; is = refl }; gave = e ∙ rw g.gave refl }
-
-pub ruleset lists = (writes_list, refused_items, refused_count, gave_list, grows_some_all)
 
 -- ---- reading
 
@@ -182,20 +173,3 @@ is_done {A} {X} get front count i rest total le so_far =
     let k : count - i ≡ 0 = omega arith in
     let one : with_front front (items get (count - i) rest) ≡ Ok (front, rest) = rw k (ap (λ (ms : List X). Ok (ms, rest)) (append-nil front)) in
     sym so_far ∙ one
-
-pub list_uncounted : {A : Type 0} (own : Error → Type 0) (context : Context A ArcRef) (s : Shape) (e : Error) (rest : Rest A) → (bytes_of length_at (λ n. n) rest ≡ Err e) ⊎ never e → (read context (list s) rest ≡ Err e) ⊎ own e
-unfolding read read_with
-list_uncounted own context s e rest (inl h) = inl (rw h refl)
-list_uncounted own context s e rest (inr h) = absurd h
-
--- a list is refused where its items are
-pub list_refused : {A B : Type 0} (own : Error → Type 0) (context : Context A B) (s : Shape) (e : Error) (rest mid : Rest A) (count : ℕ) → bytes_of length_at (λ n. n) rest ≡ Ok (count, mid) → (items (read context s) count mid ≡ Err e) ⊎ own e → (read context (list s) rest ≡ Err e) ⊎ own e
-unfolding read read_with
-list_refused own context s e rest mid count counted (inl h) = inl (rw (counted, h) refl)
-list_refused own context s e rest mid count counted (inr h) = inr h
-
--- items that were read after their count
-pub list_gave : {T A : Type 0} (M : T → Meaning ArcRef → Type 0) (context : Context A ArcRef) (s : Shape) (now : List T) (rest mid after : Rest A) (count : ℕ) → bytes_of length_at (λ n. n) rest ≡ Ok (count, mid)
-    → Gave (MeanAll M now) after (items (read context s) count mid) → Gave (MeansList M now) after (read context (list s) rest)
-unfolding read read_with
-list_gave M context s now rest mid after count counted g = record { m = sequence g.m; is = record { ms = g.m; each = g.is; is = refl }; gave = rw (counted, g.gave) refl }

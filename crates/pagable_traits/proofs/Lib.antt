@@ -3,6 +3,7 @@ pub mod Parts
 pub mod Items
 pub mod Slices
 pub mod Collecting
+pub mod Walks
 pub mod Maps
 pub mod Placed
 pub mod Sets

@@ -1,5 +1,5 @@
 -- Entries of maps: what they mean as pairs, and what putting in, writing and reading them gives.
-use Rattle.std.proofs.Common.{◌≡◌, ℕ, zero, suc, ◌<◌, ◌≤◌, subst, List, [], ◌∷◌, ◌++◌, length, map, arith, refl, sym, ap, ◌∙◌, append_assoc, Result, Ok, Err, inl, inr}
+use Rattle.std.proofs.Common.{◌≡◌, ℕ, zero, suc, ◌-◌, ◌<◌, ◌≤◌, subst, List, [], ◌∷◌, ◌++◌, length, map, arith, refl, sym, ap, ◌∙◌, append_assoc, Result, Ok, Err, inl, inr}
 use Rattle.std.proofs.lemmas.List.{length-map, append-nil}
 use Rattle.std.specs.Prelude.{◌⊎◌}
 use Rattle.std.specs.List.{AllByRecursion}
@@ -15,21 +15,21 @@ use Rattle.pagable_model.specs.declared.numbers.ArcRef.{ArcRef}
 use Rattle.pagable_model.specs.Steps.{◌>>=◌}
 use Rattle.pagable_model.specs.Basic.{longest, length_form, length_at}
 use Rattle.pagable_model.specs.Lengths.{long_or_memory}
-use Rattle.pagable_model.specs.Gives.{never}
 use Rattle.pagable_model.specs.Meaning.{Meaning, pair, sequence, entry}
 use Rattle.pagable_model.specs.Keys.{Entry, KeyOrder, ordered, put_all, put_sorted, AllAfter, Apart, Ascends}
 use Rattle.pagable_model.specs.Shape.{Shape, both, sorted_map}
 use Rattle.pagable_model.specs.Carried.{of_entries}
 use Rattle.pagable_model.specs.Form.{Forms, Entries, no-forms, more-forms, no-entries, more-entries, both-form, sorted-map-form}
-use Rattle.pagable_model.specs.Reading.{Rest, Gets, Context, items, bytes_of, two, read, read_with}
-use Rattle.pagable_model.specs.Writing.{Out, Nesting, FormAt, FormsAt, WritesSome, WritesSomeAll, added, kind_of_arc, NoFormOfSome, NoFormsOfSome, Refused, RefusedAll, Grows}
-use Rattle.pagable_model.specs.Standing.{Gave, SomeMeaning}
+use Rattle.pagable_model.specs.Reading.{Rest, Gets, Context, deepest, items, bytes_of, counted, seen, two, read, read_with}
+use Rattle.pagable_model.specs.Writing.{Out, Nesting, FormAt, FormsAt, WritesSome, WritesSomeAll, added, kind_of_arc, Refused, RefusedAll, Grows}
+use Rattle.pagable_model.specs.Standing.{Gave, GivesSome, SomeMeaning}
 use Rattle.pagable_model.specs.Collected.{Collected}
 use Rattle.pagable_model.specs.Lifted.{MeanAll, mean-none, mean-more, MeansList, MeansPair, items_have_meanings}
 use Rattle.pagable_codec.proofs.Writing.{then, memory_refuses}
-use Rattle.pagable_traits.proofs.Items.{mean-length, mean_last, sequence-same, forms-last, no-head, no-tail, writes_no_items, grows_some_all}
+use Rattle.pagable_traits.proofs.Items.{mean-length, mean_last, sequence-same, forms-last, writes_no_items, grows_some_all}
 use Rattle.pagable_traits.proofs.Parts.{writes_pair}
 use Rattle.pagable_traits.proofs.Collecting.{put-in-turn}
+use Rattle.pagable_traits.proofs.Walks.{Splits, Wraps, wraps-sequence, writes-counted, refuses-among}
 
 -- ---- entries and the pairs that they are
 
@@ -83,6 +83,26 @@ forms-of-entries (no-entries d s t) = no-forms d (both s t)
 forms-of-entries (more-entries d s t x y es b1 b2 c j1 j2 l f g rest) =
     rw (← append_assoc b1 b2 c, ← append_assoc j1 j2 l) (more-forms d (both s t) (pair x y) (map entry es) (b1 ++ b2) c (j1 ++ j2) l (both-form d s t x y b1 b2 j1 j2 f g) (forms-of-entries rest))
 
+-- these pairs mean these entries
+pub entries-mean : {K V : Type 0} (M : K → Meaning ArcRef → Type 0) (N : V → Meaning ArcRef → Type 0) {xs : List (K × V)} (es : List (Entry ArcRef)) → MeanAll (MeansPair M N) xs (map entry es) → EntriesMean M N xs es
+entries-mean M N {xs} es h =
+    let ds = entries-of-pairs M N h in
+    let same : ds.0 ≡ es = same-entries ds.0 es (sym ds.1) in
+    rw same at ds.2
+
+-- pairs that were written are entries that were written
+pub record EntriesWritten {K V : Type 0} (M : K → Meaning ArcRef → Type 0) (N : V → Meaning ArcRef → Type 0) (n : Nesting) (s t : Shape) (xs : List (K × V)) (ms : List (Meaning ArcRef)) (b : List ℕ) (k : List ArcRef) : Type 0 where
+  pub es : List (Entry ArcRef)
+  pub is : ms ≡ map entry es
+  pub long : length ms ≡ length es
+  pub mean : EntriesMean M N xs es
+  pub form : Entries ArcRef kind_of_arc n.parts (deepest - n.levels) s t es b k
+
+pub entries-written : {K V : Type 0} (M : K → Meaning ArcRef → Type 0) (N : V → Meaning ArcRef → Type 0) {n : Nesting} {s t : Shape} {xs : List (K × V)} {ms : List (Meaning ArcRef)} {b : List ℕ} {k : List ArcRef} → MeanAll (MeansPair M N) xs ms → FormsAt n (both s t) ms b k → EntriesWritten M N n s t xs ms b k
+entries-written M N each f =
+    let w = entries-of-forms f in
+    record { es = w.0; is = w.1; long = ap (λ (ms : List (Meaning ArcRef)). length ms) w.1 ∙ length-map w.0 entry; mean = entries-mean M N w.0 (rw w.1 at each); form = w.2 }
+
 -- ---- reading pairs is reading entries
 
 -- what was read, seen by view
@@ -131,12 +151,30 @@ was-refused (Ok o) x e = cc
 was-refused (Err y) x e = cc
 
 -- entries that were read as pairs
-pub read-entries : {A : Type 0} (context : Context A ArcRef) (s t : Shape) (count : ℕ) (rest after : Rest A) (ms : List (Meaning ArcRef)) → items (read context (both s t)) count rest ≡ Ok (ms, after)
+read-entries : {A : Type 0} (context : Context A ArcRef) (s t : Shape) (count : ℕ) (rest after : Rest A) (ms : List (Meaning ArcRef)) → items (read context (both s t)) count rest ≡ Ok (ms, after)
     → (es : List (Entry ArcRef)) × (ms ≡ map entry es) × (items (two (read context s) (read context t)) count rest ≡ Ok (es, after))
 read-entries context s t count rest after ms e = were-entries (items (two (read context s) (read context t)) count rest) ms after (sym (pairs-read context s t count rest) ∙ e)
 
-pub entries-refused : {A : Type 0} (context : Context A ArcRef) (s t : Shape) (count : ℕ) (rest : Rest A) (x : Error) → items (read context (both s t)) count rest ≡ Err x → items (two (read context s) (read context t)) count rest ≡ Err x
+entries-refused : {A : Type 0} (context : Context A ArcRef) (s t : Shape) (count : ℕ) (rest : Rest A) (x : Error) → items (read context (both s t)) count rest ≡ Err x → items (two (read context s) (read context t)) count rest ≡ Err x
 entries-refused context s t count rest x e = was-refused (items (two (read context s) (read context t)) count rest) x (sym (pairs-read context s t count rest) ∙ e)
+
+not-both : {X : Type 0} (e : Error) (x : X) → (let r : Result X Error = Err e in r) ≡ Ok x → ⊥
+not-both e x h = cc
+
+-- a whole whose entries were counted
+pub reads-entries : {X A : Type 0} (own : Error → Type 0) (P : X → List (Meaning ArcRef) → Type 0) (Q : X → Meaning ArcRef → Type 0) (view : List (Entry ArcRef) → Meaning ArcRef) → ((x : X) (es : List (Entry ArcRef)) → P x (map entry es) → Q x (view es)) → (r : Result X Error) (context : Context A ArcRef) (s t : Shape) (rest last : Rest A)
+    → GivesSome own P last r (counted (read context (both s t)) rest) → GivesSome own Q last r (seen view (counted (two (read context s) (read context t))) rest)
+reads-entries {X} {A} own P Q view f r context s t rest last h = go r (bytes_of length_at (λ n. n) rest) h
+  where
+    go : (r : Result X Error) (c : Result (ℕ × Rest A) Error) → GivesSome own P last r (c >>= λ count. items (read context (both s t)) count.0 count.1) → GivesSome own Q last r ((c >>= λ count. items (two (read context s) (read context t)) count.0 count.1) >>= λ es. Ok (view es.0, es.1))
+    go (Ok x) (Ok c) g =
+        let were = read-entries context s t c.0 c.1 last g.m g.gave in
+        record { m = view were.0; is = f x were.0 (rw were.1 at g.is); gave = rw were.2 refl }
+    go (Ok x) (Err e) g = absurd (not-both e (g.m, last) g.gave)
+    go (Err e) (Ok c) (inl k) = inl (rw (entries-refused context s t c.0 c.1 e k) refl)
+    go (Err e) (Ok c) (inr k) = inr k
+    go (Err e) (Err d) (inl k) = let same : d ≡ e = cc in inl (rw same refl)
+    go (Err e) (Err d) (inr k) = inr k
 
 -- ---- writing entries one after another
 
@@ -154,17 +192,6 @@ writes-next M front x n s a b c v w = record {
     grown = then a b c _ _ _ _ v.wrote.grown w.wrote.grown;
   };
 }
-
-lacks-among : {T : Type 0} (M : T → Meaning ArcRef → Type 0) (has : (x : T) → SomeMeaning (M x)) (front : List T) (x : T) (rest : List T) (n : Nesting) (s : Shape) → NoFormOfSome (M x) n s → NoFormsOfSome (MeanAll M (front ++ x ∷ rest)) n s
-lacks-among M has [] x rest n s lacks =
-    let others = items_have_meanings M has rest in
-    record { ms = lacks.m ∷ others.0; is = mean-more x lacks.m rest others.0 lacks.is others.1; no_forms = no-head n s lacks.m others.0 lacks.no_form }
-lacks-among M has (y ∷ front) x rest n s lacks =
-    let others = lacks-among M has front x rest n s lacks in
-    record { ms = (has y).0 ∷ others.ms; is = mean-more y (has y).0 (front ++ x ∷ rest) others.ms (has y).1 others.is; no_forms = no-tail n s (has y).0 others.ms others.no_forms }
-
-pub refuses-among : {T : Type 0} (M : T → Meaning ArcRef → Type 0) (has : (x : T) → SomeMeaning (M x)) (front : List T) (x : T) (rest : List T) (n : Nesting) (s : Shape) (e : Error) → Refused (M x) n s e → RefusedAll (MeanAll M (front ++ x ∷ rest)) n s e
-refuses-among M has front x rest n s e h = λ fault. lacks-among M has front x rest n s (h fault)
 
 -- of all, those before left were written
 pub record Written {T : Type 0} (M : T → Meaning ArcRef → Type 0) (n : Nesting) (s : Shape) (all left : List T) (old new : Out) : Type 0 where
@@ -200,10 +227,6 @@ pub written-grows : {T : Type 0} (M : T → Meaning ArcRef → Type 0) (n : Nest
 written-grows M n s all left a b v = grows_some_all (MeanAll M v.front) n s a b v.wrote
 
 -- ---- refusals, for each shape that is a length and items
-
--- a form of the shape is a length and forms of items
-pub record Splits (n : Nesting) (whole item : Shape) : Type 0 where
-  pub parts : (ms : List (Meaning ArcRef)) (b : List ℕ) (k : List ArcRef) → FormAt n whole (sequence ms) b k → (length ms ≤ longest) × ((c : List ℕ) × FormsAt n item ms c k)
 
 pub refuses-items : {T : Type 0} (M : T → Meaning ArcRef → Type 0) (xs : List T) (n : Nesting) (whole item : Shape) (e : Error) → Splits n whole item → RefusedAll (MeanAll M xs) n item e → Refused (MeansList M xs) n whole e
 refuses-items M xs n whole item e split h = λ fault.
@@ -278,51 +301,40 @@ ascends M N cmp order is [] (e ∷ es) h sorted = absurd h
 ascends M N cmp order is (x ∷ xs) [] h sorted = absurd h
 ascends M N cmp order is (x ∷ xs) (e ∷ es) h sorted = (below-all M N cmp order is x e h.0 xs es h.2 sorted.0, ascends M N cmp order is xs es h.2 sorted.1)
 
+pub wraps_sorted_map : {K V : Type 0} (M : K → Meaning ArcRef → Type 0) (N : V → Meaning ArcRef → Type 0) (cmp : K → K → Ordering) (order : KeyOrder) → IsOrderOf M cmp order → (xs : List (K × V)) (n : Nesting) (s t : Shape) → IsStrictlySortedBy cmp (keys_of xs)
+    → Wraps (MeansPair M N) xs (MeansList (MeansPair M N) xs) n (sorted_map order s t) (both s t)
+wraps_sorted_map M N cmp order is xs n s t sorted = wraps-sequence (MeansPair M N) xs n (sorted_map order s t) (both s t) (sorted-map-splits n order s t) (λ ms b k each le f.
+    let w = entries-written M N each f in
+    rw (w.is, length-map w.es entry) (sorted-map-form _ order s t w.es b k (rw (← w.long) le) (ascends M N cmp order is xs w.es w.mean sorted) w.form))
+
 pub writes_sorted_map : {K V : Type 0} (M : K → Meaning ArcRef → Type 0) (N : V → Meaning ArcRef → Type 0) (cmp : K → K → Ordering) (order : KeyOrder) → IsOrderOf M cmp order → (xs : List (K × V)) (n : Nesting) (s t : Shape) (old mid new : Out) (count : ℕ) → IsStrictlySortedBy cmp (keys_of xs)
     → count ≡ length xs → mid ≡ added old (length_form count) [] → count ≤ longest → WritesSomeAll (MeanAll (MeansPair M N) xs) n (both s t) mid new → WritesSome (MeansList (MeansPair M N) xs) n (sorted_map order s t) old new
-writes_sorted_map M N cmp order is xs n s t old mid new count sorted all counted le v =
-    let es = entries-of-pairs M N v.is in
-    let written = entries-of-forms v.wrote.form in
-    let same : es.0 ≡ written.0 = same-entries es.0 written.0 (sym es.1 ∙ written.1) in
-    let mean : EntriesMean M N xs written.0 = rw (← same) es.2 in
-    let long : length written.0 ≡ count = sym (length-map written.0 entry) ∙ ap (λ (ms : List (Meaning ArcRef)). length ms) (sym written.1) ∙ mean-length v.is ∙ sym all in
-    let short : length written.0 ≤ longest = rw long le in
-    let first : mid ≡ added old (length_form (length written.0)) [] = rw long counted in
-    record {
-      m = of_entries written.0;
-      is = record { ms = map entry written.0; each = pairs-of-entries M N xs written.0 mean; is = refl };
-      wrote = record {
-        bytes = length_form (length written.0) ++ v.wrote.bytes;
-        refs = v.wrote.refs;
-        form = sorted-map-form _ order s t written.0 _ _ short (ascends M N cmp order is xs written.0 mean sorted) written.2;
-        grown = then old mid new _ _ _ _ first v.wrote.grown;
-      };
-    }
+writes_sorted_map M N cmp order is xs n s t old mid new count sorted all counted le v = writes-counted (wraps_sorted_map M N cmp order is xs n s t sorted) old mid new count all counted le v
 
--- what was read entry by entry and put in
+-- what was put in entry by entry
+sorted-map-put : {K V : Type 0} (M : K → Meaning ArcRef → Type 0) (N : V → Meaning ArcRef → Type 0) (cmp : K → K → Ordering) (order : KeyOrder) → IsOrderOf M cmp order → (now : List (K × V)) (es : List (Entry ArcRef)) → Collected (MeansPair M N) (λ ys x zs. zs ≡ insert_entry cmp ys x.0 x.1) now (map entry es)
+    → MeansList (MeansPair M N) now (of_entries (put_all (put_sorted order) [] es))
+unfolding EntriesMean
+sorted-map-put M N cmp order is now es c =
+    let put = put-all-in-order M N cmp order is [] c.xs [] es tt (entries-mean M N es c.each) in
+    let each : EntriesMean M N now (put_all (put_sorted order) [] es) = rw (put-in-turn (λ ys x. insert_entry cmp ys x.0 x.1) [] c.xs now c.is) put in
+    record { ms = map entry (put_all (put_sorted order) [] es); each = pairs-of-entries M N now (put_all (put_sorted order) [] es) each; is = refl }
+
+pub reads_sorted_map : {X K V A : Type 0} (own : Error → Type 0) (M : K → Meaning ArcRef → Type 0) (N : V → Meaning ArcRef → Type 0) (cmp : K → K → Ordering) (order : KeyOrder) → IsOrderOf M cmp order → (r : Result X Error) (held : X → List (K × V)) (context : Context A ArcRef) (s t : Shape) (rest last : Rest A)
+    → GivesSome own (λ x. Collected (MeansPair M N) (λ ys y zs. zs ≡ insert_entry cmp ys y.0 y.1) (held x)) last r (counted (read context (both s t)) rest) → GivesSome own (λ x. MeansList (MeansPair M N) (held x)) last r (read context (sorted_map order s t) rest)
+unfolding read read_with
+reads_sorted_map own M N cmp order is r held context s t rest last h =
+    reads-entries own (λ x. Collected (MeansPair M N) (λ ys y zs. zs ≡ insert_entry cmp ys y.0 y.1) (held x)) (λ x. MeansList (MeansPair M N) (held x)) (λ es. of_entries (put_all (put_sorted order) [] es)) (λ x es p. sorted-map-put M N cmp order is (held x) es p) r context s t rest last h
+
 pub sorted_map_collected : {K V A : Type 0} (M : K → Meaning ArcRef → Type 0) (N : V → Meaning ArcRef → Type 0) (cmp : K → K → Ordering) (order : KeyOrder) → IsOrderOf M cmp order → (context : Context A ArcRef) (s t : Shape) (now : List (K × V)) (rest mid after : Rest A) (count : ℕ) → bytes_of length_at (λ n. n) rest ≡ Ok (count, mid)
     → Gave (Collected (MeansPair M N) (λ ys x zs. zs ≡ insert_entry cmp ys x.0 x.1) now) after (items (read context (both s t)) count mid) → Gave (MeansList (MeansPair M N) now) after (read context (sorted_map order s t) rest)
-unfolding EntriesMean read read_with
-sorted_map_collected M N cmp order is context s t now rest mid after count counted g =
-    let were = read-entries context s t count mid after g.m g.gave in
-    let es = entries-of-pairs M N g.is.each in
-    let same : es.0 ≡ were.0 = same-entries es.0 were.0 (sym es.1 ∙ were.1) in
-    let mean : EntriesMean M N g.is.xs were.0 = rw (← same) es.2 in
-    let put = put-all-in-order M N cmp order is [] g.is.xs [] were.0 tt mean in
-    let each : EntriesMean M N now (put_all (put_sorted order) [] were.0) = rw (put-in-turn (λ ys x. insert_entry cmp ys x.0 x.1) [] g.is.xs now g.is.is) put in
-    record {
-      m = of_entries (put_all (put_sorted order) [] were.0);
-      is = record { ms = map entry (put_all (put_sorted order) [] were.0); each = pairs-of-entries M N now (put_all (put_sorted order) [] were.0) each; is = refl };
-      gave = rw (counted, were.2) refl;
-    }
-
-pub sorted_map_uncounted : {A : Type 0} (own : Error → Type 0) (context : Context A ArcRef) (order : KeyOrder) (s t : Shape) (e : Error) (rest : Rest A) → (bytes_of length_at (λ n. n) rest ≡ Err e) ⊎ never e → (read context (sorted_map order s t) rest ≡ Err e) ⊎ own e
 unfolding read read_with
-sorted_map_uncounted own context order s t e rest (inl h) = inl (rw h refl)
-sorted_map_uncounted own context order s t e rest (inr h) = absurd h
+sorted_map_collected M N cmp order is context s t now rest mid after count told g =
+    let were = read-entries context s t count mid after g.m g.gave in
+    record { m = of_entries (put_all (put_sorted order) [] were.0); is = sorted-map-put M N cmp order is now were.0 (rw were.1 at g.is); gave = rw (told, were.2) refl }
 
 pub sorted_map_refused : {A : Type 0} (own : Error → Type 0) (context : Context A ArcRef) (order : KeyOrder) (s t : Shape) (e : Error) (rest mid : Rest A) (count : ℕ) → bytes_of length_at (λ n. n) rest ≡ Ok (count, mid) → (items (read context (both s t)) count mid ≡ Err e) ⊎ own e
     → (read context (sorted_map order s t) rest ≡ Err e) ⊎ own e
 unfolding read read_with
-sorted_map_refused own context order s t e rest mid count counted (inl h) = inl (rw (counted, entries-refused context s t count mid e h) refl)
-sorted_map_refused own context order s t e rest mid count counted (inr h) = inr h
+sorted_map_refused own context order s t e rest mid count told (inl h) = inl (rw (told, entries-refused context s t count mid e h) refl)
+sorted_map_refused own context order s t e rest mid count told (inr h) = inr h

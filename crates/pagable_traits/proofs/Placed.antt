@@ -1,29 +1,28 @@
 -- Maps in order of arrival: what putting in, writing and reading their entries gives.
-use Rattle.std.proofs.Common.{◌≡◌, ℕ, ◌≤◌, Bool, true, false, subst, List, [], ◌∷◌, ◌++◌, length, map, refl, sym, ap, ◌∙◌, Ok, Err, inl, inr}
+use Rattle.std.proofs.Common.{◌≡◌, ℕ, ◌≤◌, Bool, true, false, subst, List, [], ◌∷◌, length, map, refl, sym, ◌∙◌, Result}
 use Rattle.std.proofs.lemmas.List.{length-map}
-use Rattle.std.specs.Prelude.{◌⊎◌, if◌then◌else◌}
+use Rattle.std.specs.Prelude.{if◌then◌else◌}
 use Rattle.std.specs.List.{AllByRecursion, IsDistinct}
 use Rattle.std.specs.Map.{keys_of}
 use Rattle.std.specs.Cmp.{IsEquivalence}
 use Rattle.indexmap.specs.IndexMap.{insert_entry}
 use Rattle.pagable_model.specs.declared.error.Error.{Error}
 use Rattle.pagable_model.specs.declared.numbers.ArcRef.{ArcRef}
-use Rattle.pagable_model.specs.Basic.{longest, length_form, length_at}
-use Rattle.pagable_model.specs.Gives.{never}
+use Rattle.pagable_model.specs.Basic.{longest}
 use Rattle.pagable_model.specs.Meaning.{Meaning, sequence, entry}
 use Rattle.pagable_model.specs.Keys.{Entry, same_key, put_all, put_placed, AllAfter, Apart, Differ}
 use Rattle.pagable_model.specs.Shape.{Shape, both, placed_map}
 use Rattle.pagable_model.specs.Carried.{of_entries}
 use Rattle.pagable_model.specs.Form.{placed-map-form}
-use Rattle.pagable_model.specs.Reading.{Rest, Context, items, bytes_of, read, read_with}
-use Rattle.pagable_model.specs.Writing.{Out, Nesting, FormAt, FormsAt, WritesSome, WritesSomeAll, added}
-use Rattle.pagable_model.specs.Standing.{Gave}
+use Rattle.pagable_model.specs.Reading.{Rest, Context, counted, read, read_with}
+use Rattle.pagable_model.specs.Writing.{Nesting, FormAt, FormsAt}
+use Rattle.pagable_model.specs.Standing.{GivesSome}
 use Rattle.pagable_model.specs.Collected.{Collected}
-use Rattle.pagable_model.specs.Lifted.{MeanAll, MeansList, MeansPair}
-use Rattle.pagable_codec.proofs.Writing.{then as and_then}
-use Rattle.pagable_traits.proofs.Items.{mean-length, sequence-same}
+use Rattle.pagable_model.specs.Lifted.{MeansList, MeansPair}
+use Rattle.pagable_traits.proofs.Items.{sequence-same}
 use Rattle.pagable_traits.proofs.Collecting.{put-in-turn}
-use Rattle.pagable_traits.proofs.Maps.{EntriesMean, entries-of-pairs, pairs-of-entries, same-entries, entries-of-forms, forms-of-entries, read-entries, entries-refused, Splits}
+use Rattle.pagable_traits.proofs.Maps.{EntriesMean, pairs-of-entries, forms-of-entries, entries-mean, entries-written, reads-entries}
+use Rattle.pagable_traits.proofs.Walks.{Splits, Wraps, wraps-sequence}
 
 placed-map-parts : (n : Nesting) {s t : Shape} {m : Meaning ArcRef} {b : List ℕ} {k : List ArcRef} (ms : List (Meaning ArcRef)) → FormAt n (placed_map s t) m b k → m ≡ sequence ms → (length ms ≤ longest) × ((c : List ℕ) × FormsAt n (both s t) ms c k)
 placed-map-parts n {s} {t} {m} {b} {k} ms (placed-map-form l s' t' es c k' le differ f) e =
@@ -82,49 +81,21 @@ differ M N eq is [] (e ∷ es) h distinct = absurd h
 differ M N eq is (x ∷ xs) [] h distinct = absurd h
 differ M N eq is (x ∷ xs) (e ∷ es) h distinct = (apart-from-all M N eq is x e h.0 xs es h.2 distinct.0, differ M N eq is xs es h.2 distinct.1)
 
-pub writes_placed_map : {K V : Type 0} (M : K → Meaning ArcRef → Type 0) (N : V → Meaning ArcRef → Type 0) (eq : K → K → Bool) → IsSameOf M eq → (xs : List (K × V)) (n : Nesting) (s t : Shape) (old mid new : Out) (count : ℕ) → IsDistinct eq (keys_of xs)
-    → count ≡ length xs → mid ≡ added old (length_form count) [] → count ≤ longest → WritesSomeAll (MeanAll (MeansPair M N) xs) n (both s t) mid new → WritesSome (MeansList (MeansPair M N) xs) n (placed_map s t) old new
-writes_placed_map M N eq is xs n s t old mid new count distinct all counted le v =
-    let es = entries-of-pairs M N v.is in
-    let written = entries-of-forms v.wrote.form in
-    let same : es.0 ≡ written.0 = same-entries es.0 written.0 (sym es.1 ∙ written.1) in
-    let mean : EntriesMean M N xs written.0 = rw (← same) es.2 in
-    let long : length written.0 ≡ count = sym (length-map written.0 entry) ∙ ap (λ (ms : List (Meaning ArcRef)). length ms) (sym written.1) ∙ mean-length v.is ∙ sym all in
-    let short : length written.0 ≤ longest = rw long le in
-    let first : mid ≡ added old (length_form (length written.0)) [] = rw long counted in
-    record {
-      m = of_entries written.0;
-      is = record { ms = map entry written.0; each = pairs-of-entries M N xs written.0 mean; is = refl };
-      wrote = record {
-        bytes = length_form (length written.0) ++ v.wrote.bytes;
-        refs = v.wrote.refs;
-        form = placed-map-form _ s t written.0 _ _ short (differ M N eq is xs written.0 mean distinct) written.2;
-        grown = and_then old mid new _ _ _ _ first v.wrote.grown;
-      };
-    }
+pub wraps_placed_map : {K V : Type 0} (M : K → Meaning ArcRef → Type 0) (N : V → Meaning ArcRef → Type 0) (eq : K → K → Bool) → IsSameOf M eq → (xs : List (K × V)) (n : Nesting) (s t : Shape) → IsDistinct eq (keys_of xs) → Wraps (MeansPair M N) xs (MeansList (MeansPair M N) xs) n (placed_map s t) (both s t)
+wraps_placed_map M N eq is xs n s t distinct = wraps-sequence (MeansPair M N) xs n (placed_map s t) (both s t) (placed-map-splits n s t) (λ ms b k each le f.
+    let w = entries-written M N each f in
+    rw (w.is, length-map w.es entry) (placed-map-form _ s t w.es b k (rw (← w.long) le) (differ M N eq is xs w.es w.mean distinct) w.form))
 
-pub placed_map_collected : {K V A : Type 0} (M : K → Meaning ArcRef → Type 0) (N : V → Meaning ArcRef → Type 0) (eq : K → K → Bool) → IsSameOf M eq → (context : Context A ArcRef) (s t : Shape) (now : List (K × V)) (rest mid after : Rest A) (count : ℕ) → bytes_of length_at (λ n. n) rest ≡ Ok (count, mid)
-    → Gave (Collected (MeansPair M N) (λ ys x zs. zs ≡ insert_entry eq ys x.0 x.1) now) after (items (read context (both s t)) count mid) → Gave (MeansList (MeansPair M N) now) after (read context (placed_map s t) rest)
-unfolding EntriesMean read read_with
-placed_map_collected M N eq is context s t now rest mid after count counted g =
-    let were = read-entries context s t count mid after g.m g.gave in
-    let es = entries-of-pairs M N g.is.each in
-    let same : es.0 ≡ were.0 = same-entries es.0 were.0 (sym es.1 ∙ were.1) in
-    let mean : EntriesMean M N g.is.xs were.0 = rw (← same) es.2 in
-    let put = put-all-in-place M N eq is [] g.is.xs [] were.0 tt mean in
-    let each : EntriesMean M N now (put_all put_placed [] were.0) = rw (put-in-turn (λ ys x. insert_entry eq ys x.0 x.1) [] g.is.xs now g.is.is) put in
-    record {
-      m = of_entries (put_all put_placed [] were.0);
-      is = record { ms = map entry (put_all put_placed [] were.0); each = pairs-of-entries M N now (put_all put_placed [] were.0) each; is = refl };
-      gave = rw (counted, were.2) refl;
-    }
+placed-map-put : {K V : Type 0} (M : K → Meaning ArcRef → Type 0) (N : V → Meaning ArcRef → Type 0) (eq : K → K → Bool) → IsSameOf M eq → (now : List (K × V)) (es : List (Entry ArcRef)) → Collected (MeansPair M N) (λ ys x zs. zs ≡ insert_entry eq ys x.0 x.1) now (map entry es)
+    → MeansList (MeansPair M N) now (of_entries (put_all put_placed [] es))
+unfolding EntriesMean
+placed-map-put M N eq is now es c =
+    let put = put-all-in-place M N eq is [] c.xs [] es tt (entries-mean M N es c.each) in
+    let each : EntriesMean M N now (put_all put_placed [] es) = rw (put-in-turn (λ ys x. insert_entry eq ys x.0 x.1) [] c.xs now c.is) put in
+    record { ms = map entry (put_all put_placed [] es); each = pairs-of-entries M N now (put_all put_placed [] es) each; is = refl }
 
-pub placed_map_uncounted : {A : Type 0} (own : Error → Type 0) (context : Context A ArcRef) (s t : Shape) (e : Error) (rest : Rest A) → (bytes_of length_at (λ n. n) rest ≡ Err e) ⊎ never e → (read context (placed_map s t) rest ≡ Err e) ⊎ own e
+pub reads_placed_map : {X K V A : Type 0} (own : Error → Type 0) (M : K → Meaning ArcRef → Type 0) (N : V → Meaning ArcRef → Type 0) (eq : K → K → Bool) → IsSameOf M eq → (r : Result X Error) (held : X → List (K × V)) (context : Context A ArcRef) (s t : Shape) (rest last : Rest A)
+    → GivesSome own (λ x. Collected (MeansPair M N) (λ ys y zs. zs ≡ insert_entry eq ys y.0 y.1) (held x)) last r (counted (read context (both s t)) rest) → GivesSome own (λ x. MeansList (MeansPair M N) (held x)) last r (read context (placed_map s t) rest)
 unfolding read read_with
-placed_map_uncounted own context s t e rest (inl h) = inl (rw h refl)
-placed_map_uncounted own context s t e rest (inr h) = absurd h
-
-pub placed_map_refused : {A : Type 0} (own : Error → Type 0) (context : Context A ArcRef) (s t : Shape) (e : Error) (rest mid : Rest A) (count : ℕ) → bytes_of length_at (λ n. n) rest ≡ Ok (count, mid) → (items (read context (both s t)) count mid ≡ Err e) ⊎ own e → (read context (placed_map s t) rest ≡ Err e) ⊎ own e
-unfolding read read_with
-placed_map_refused own context s t e rest mid count counted (inl h) = inl (rw (counted, entries-refused context s t count mid e h) refl)
-placed_map_refused own context s t e rest mid count counted (inr h) = inr h
+reads_placed_map own M N eq is r held context s t rest last h =
+    reads-entries own (λ x. Collected (MeansPair M N) (λ ys y zs. zs ≡ insert_entry eq ys y.0 y.1) (held x)) (λ x. MeansList (MeansPair M N) (held x)) (λ es. of_entries (put_all put_placed [] es)) (λ x es p. placed-map-put M N eq is (held x) es p) r context s t rest last h

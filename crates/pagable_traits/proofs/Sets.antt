@@ -1,6 +1,6 @@
 -- Sets: what putting in, writing and reading their items gives.
-use Rattle.std.proofs.Common.{◌≡◌, ℕ, ◌≤◌, Bool, true, false, subst, List, [], ◌∷◌, ◌++◌, length, refl, sym, ap, ◌∙◌, Ok, Err, inl, inr}
-use Rattle.std.specs.Prelude.{◌⊎◌, ◌||◌, if◌then◌else◌}
+use Rattle.std.proofs.Common.{◌≡◌, ℕ, ◌≤◌, Bool, true, false, subst, List, [], ◌∷◌, ◌++◌, length, refl, sym, ap, ◌∙◌, Result}
+use Rattle.std.specs.Prelude.{◌||◌, if◌then◌else◌}
 use Rattle.std.specs.List.{AllByRecursion, IsDistinct, list_any}
 use Rattle.std.specs.List.Sorted.{IsStrictlySortedBy}
 use Rattle.std.specs.declared.cmp.Ordering.{Ordering}
@@ -10,21 +10,20 @@ use Rattle.std.specs.BTreeSet.{insert_key}
 use Rattle.indexmap.specs.IndexSet as placed
 use Rattle.pagable_model.specs.declared.error.Error.{Error}
 use Rattle.pagable_model.specs.declared.numbers.ArcRef.{ArcRef}
-use Rattle.pagable_model.specs.Basic.{longest, length_form, length_at}
-use Rattle.pagable_model.specs.Gives.{never}
+use Rattle.pagable_model.specs.Basic.{longest}
 use Rattle.pagable_model.specs.Meaning.{Meaning, sequence}
 use Rattle.pagable_model.specs.Keys.{KeyOrder, ordered, same_key, put_all, put_sorted_item, put_placed_item, AllAfter, Apart, ItemsAscend, ItemsDiffer}
 use Rattle.pagable_model.specs.Shape.{Shape, sorted_set, placed_set}
 use Rattle.pagable_model.specs.Form.{sorted-set-form, placed-set-form}
-use Rattle.pagable_model.specs.Reading.{Rest, Context, items, bytes_of, read, read_with}
-use Rattle.pagable_model.specs.Writing.{Out, Nesting, FormAt, FormsAt, WritesSome, WritesSomeAll, added}
-use Rattle.pagable_model.specs.Standing.{Gave}
+use Rattle.pagable_model.specs.Reading.{Rest, Context, counted, read, read_with}
+use Rattle.pagable_model.specs.Writing.{Nesting, FormAt, FormsAt}
+use Rattle.pagable_model.specs.Standing.{GivesSome}
 use Rattle.pagable_model.specs.Collected.{Collected}
 use Rattle.pagable_model.specs.Lifted.{MeanAll, mean-none, mean-more, MeansList}
-use Rattle.pagable_codec.proofs.Writing.{then as and_then}
-use Rattle.pagable_traits.proofs.Items.{mean-length, sequence-same}
-use Rattle.pagable_traits.proofs.Collecting.{put-in-turn}
-use Rattle.pagable_traits.proofs.Maps.{Splits, IsOrderOf}
+use Rattle.pagable_traits.proofs.Items.{sequence-same}
+use Rattle.pagable_traits.proofs.Collecting.{put-in-turn, reads_items}
+use Rattle.pagable_traits.proofs.Walks.{Splits, Wraps, wraps-sequence}
+use Rattle.pagable_traits.proofs.Maps.{IsOrderOf}
 use Rattle.pagable_traits.proofs.Placed.{IsSameOf}
 
 -- ---- refusals
@@ -78,44 +77,19 @@ unfolding IsStrictlySortedBy Apart
 items-ascend M cmp order is mean-none sorted = tt
 items-ascend M cmp order is (mean-more x m xs ms h t) sorted = (below-items M cmp order is x m h t sorted.0, items-ascend M cmp order is t sorted.1)
 
-pub writes_sorted_set : {K : Type 0} (M : K → Meaning ArcRef → Type 0) (cmp : K → K → Ordering) (order : KeyOrder) → IsOrderOf M cmp order → (xs : List K) (n : Nesting) (s : Shape) (old mid new : Out) (count : ℕ) → IsStrictlySortedBy cmp xs → count ≡ length xs → mid ≡ added old (length_form count) [] → count ≤ longest
-    → WritesSomeAll (MeanAll M xs) n s mid new → WritesSome (MeansList M xs) n (sorted_set order s) old new
-writes_sorted_set M cmp order is xs n s old mid new count sorted all counted le v =
-    let long : length v.ms ≡ count = mean-length v.is ∙ sym all in
-    let short : length v.ms ≤ longest = rw long le in
-    let first : mid ≡ added old (length_form (length v.ms)) [] = rw long counted in
-    record {
-      m = sequence v.ms;
-      is = record { ms = v.ms; each = v.is; is = refl };
-      wrote = record {
-        bytes = length_form (length v.ms) ++ v.wrote.bytes;
-        refs = v.wrote.refs;
-        form = sorted-set-form _ order s v.ms _ _ short (items-ascend M cmp order is v.is sorted) v.wrote.form;
-        grown = and_then old mid new _ _ _ _ first v.wrote.grown;
-      };
-    }
+pub wraps_sorted_set : {K : Type 0} (M : K → Meaning ArcRef → Type 0) (cmp : K → K → Ordering) (order : KeyOrder) → IsOrderOf M cmp order → (xs : List K) (n : Nesting) (s : Shape) → IsStrictlySortedBy cmp xs → Wraps M xs (MeansList M xs) n (sorted_set order s) s
+wraps_sorted_set M cmp order is xs n s sorted = wraps-sequence M xs n (sorted_set order s) s (sorted-set-splits n order s) (λ ms b k each le f. sorted-set-form _ order s ms b k le (items-ascend M cmp order is each sorted) f)
 
-pub sorted_set_collected : {K A : Type 0} (M : K → Meaning ArcRef → Type 0) (cmp : K → K → Ordering) (order : KeyOrder) → IsOrderOf M cmp order → (context : Context A ArcRef) (s : Shape) (now : List K) (rest mid after : Rest A) (count : ℕ) → bytes_of length_at (λ n. n) rest ≡ Ok (count, mid)
-    → Gave (Collected M (λ ys y zs. zs ≡ insert_key cmp ys y) now) after (items (read context s) count mid) → Gave (MeansList M now) after (read context (sorted_set order s) rest)
-unfolding read read_with
-sorted_set_collected M cmp order is context s now rest mid after count counted g =
-    let put = put-items M cmp order is [] [] mean-none g.is.each in
-    let each : MeanAll M now (put_all (put_sorted_item order) [] g.m) = rw (put-in-turn (λ ys y. insert_key cmp ys y) [] g.is.xs now g.is.is) put in
-    record {
-      m = sequence (put_all (put_sorted_item order) [] g.m);
-      is = record { ms = put_all (put_sorted_item order) [] g.m; each = each; is = refl };
-      gave = rw (counted, g.gave) refl;
-    }
+sorted-set-put : {K : Type 0} (M : K → Meaning ArcRef → Type 0) (cmp : K → K → Ordering) (order : KeyOrder) → IsOrderOf M cmp order → (now : List K) (ms : List (Meaning ArcRef)) → Collected M (λ ys y zs. zs ≡ insert_key cmp ys y) now ms → MeansList M now (sequence (put_all (put_sorted_item order) [] ms))
+sorted-set-put M cmp order is now ms c =
+    let each : MeanAll M now (put_all (put_sorted_item order) [] ms) = rw (put-in-turn (λ ys y. insert_key cmp ys y) [] c.xs now c.is) (put-items M cmp order is [] [] mean-none c.each) in
+    record { ms = put_all (put_sorted_item order) [] ms; each = each; is = refl }
 
-pub sorted_set_uncounted : {A : Type 0} (own : Error → Type 0) (context : Context A ArcRef) (order : KeyOrder) (s : Shape) (e : Error) (rest : Rest A) → (bytes_of length_at (λ n. n) rest ≡ Err e) ⊎ never e → (read context (sorted_set order s) rest ≡ Err e) ⊎ own e
+pub reads_sorted_set : {X K A : Type 0} (own : Error → Type 0) (M : K → Meaning ArcRef → Type 0) (cmp : K → K → Ordering) (order : KeyOrder) → IsOrderOf M cmp order → (r : Result X Error) (held : X → List K) (context : Context A ArcRef) (s : Shape) (rest last : Rest A)
+    → GivesSome own (λ x. Collected M (λ ys y zs. zs ≡ insert_key cmp ys y) (held x)) last r (counted (read context s) rest) → GivesSome own (λ x. MeansList M (held x)) last r (read context (sorted_set order s) rest)
 unfolding read read_with
-sorted_set_uncounted own context order s e rest (inl h) = inl (rw h refl)
-sorted_set_uncounted own context order s e rest (inr h) = absurd h
-
-pub sorted_set_refused : {A : Type 0} (own : Error → Type 0) (context : Context A ArcRef) (order : KeyOrder) (s : Shape) (e : Error) (rest mid : Rest A) (count : ℕ) → bytes_of length_at (λ n. n) rest ≡ Ok (count, mid) → (items (read context s) count mid ≡ Err e) ⊎ own e → (read context (sorted_set order s) rest ≡ Err e) ⊎ own e
-unfolding read read_with
-sorted_set_refused own context order s e rest mid count counted (inl h) = inl (rw (counted, h) refl)
-sorted_set_refused own context order s e rest mid count counted (inr h) = inr h
+reads_sorted_set own M cmp order is r held context s rest last h =
+    reads_items own (λ x. Collected M (λ ys y zs. zs ≡ insert_key cmp ys y) (held x)) (λ x. MeansList M (held x)) (λ ms. sequence (put_all (put_sorted_item order) [] ms)) (λ x ms p. sorted-set-put M cmp order is (held x) ms p) r (read context s) rest last h
 
 -- ---- sets in order of arrival
 
@@ -150,37 +124,16 @@ unfolding IsDistinct Apart
 items-differ M eq is mean-none distinct = tt
 items-differ M eq is (mean-more x m xs ms h t) distinct = (apart-items M eq is x m h t distinct.0, items-differ M eq is t distinct.1)
 
-pub writes_placed_set : {K : Type 0} (M : K → Meaning ArcRef → Type 0) (eq : K → K → Bool) → IsSameOf M eq → (xs : List K) (n : Nesting) (s : Shape) (old mid new : Out) (count : ℕ) → IsDistinct eq xs → count ≡ length xs → mid ≡ added old (length_form count) [] → count ≤ longest → WritesSomeAll (MeanAll M xs) n s mid new
-    → WritesSome (MeansList M xs) n (placed_set s) old new
-writes_placed_set M eq is xs n s old mid new count distinct all counted le v =
-    let long : length v.ms ≡ count = mean-length v.is ∙ sym all in
-    let short : length v.ms ≤ longest = rw long le in
-    let first : mid ≡ added old (length_form (length v.ms)) [] = rw long counted in
-    record {
-      m = sequence v.ms;
-      is = record { ms = v.ms; each = v.is; is = refl };
-      wrote = record {
-        bytes = length_form (length v.ms) ++ v.wrote.bytes;
-        refs = v.wrote.refs;
-        form = placed-set-form _ s v.ms _ _ short (items-differ M eq is v.is distinct) v.wrote.form;
-        grown = and_then old mid new _ _ _ _ first v.wrote.grown;
-      };
-    }
+pub wraps_placed_set : {K : Type 0} (M : K → Meaning ArcRef → Type 0) (eq : K → K → Bool) → IsSameOf M eq → (xs : List K) (n : Nesting) (s : Shape) → IsDistinct eq xs → Wraps M xs (MeansList M xs) n (placed_set s) s
+wraps_placed_set M eq is xs n s distinct = wraps-sequence M xs n (placed_set s) s (placed-set-splits n s) (λ ms b k each le f. placed-set-form _ s ms b k le (items-differ M eq is each distinct) f)
 
-pub placed_set_collected : {K A : Type 0} (M : K → Meaning ArcRef → Type 0) (eq : K → K → Bool) → IsSameOf M eq → (context : Context A ArcRef) (s : Shape) (now : List K) (rest mid after : Rest A) (count : ℕ) → bytes_of length_at (λ n. n) rest ≡ Ok (count, mid)
-    → Gave (Collected M (λ ys y zs. zs ≡ placed.insert_key eq ys y) now) after (items (read context s) count mid) → Gave (MeansList M now) after (read context (placed_set s) rest)
-unfolding read read_with
-placed_set_collected M eq is context s now rest mid after count counted g =
-    let put = place-items M eq is [] [] mean-none g.is.each in
-    let each : MeanAll M now (put_all put_placed_item [] g.m) = rw (put-in-turn (λ ys y. placed.insert_key eq ys y) [] g.is.xs now g.is.is) put in
-    record { m = sequence (put_all put_placed_item [] g.m); is = record { ms = put_all put_placed_item [] g.m; each = each; is = refl }; gave = rw (counted, g.gave) refl }
+placed-set-put : {K : Type 0} (M : K → Meaning ArcRef → Type 0) (eq : K → K → Bool) → IsSameOf M eq → (now : List K) (ms : List (Meaning ArcRef)) → Collected M (λ ys y zs. zs ≡ placed.insert_key eq ys y) now ms → MeansList M now (sequence (put_all put_placed_item [] ms))
+placed-set-put M eq is now ms c =
+    let each : MeanAll M now (put_all put_placed_item [] ms) = rw (put-in-turn (λ ys y. placed.insert_key eq ys y) [] c.xs now c.is) (place-items M eq is [] [] mean-none c.each) in
+    record { ms = put_all put_placed_item [] ms; each = each; is = refl }
 
-pub placed_set_uncounted : {A : Type 0} (own : Error → Type 0) (context : Context A ArcRef) (s : Shape) (e : Error) (rest : Rest A) → (bytes_of length_at (λ n. n) rest ≡ Err e) ⊎ never e → (read context (placed_set s) rest ≡ Err e) ⊎ own e
+pub reads_placed_set : {X K A : Type 0} (own : Error → Type 0) (M : K → Meaning ArcRef → Type 0) (eq : K → K → Bool) → IsSameOf M eq → (r : Result X Error) (held : X → List K) (context : Context A ArcRef) (s : Shape) (rest last : Rest A)
+    → GivesSome own (λ x. Collected M (λ ys y zs. zs ≡ placed.insert_key eq ys y) (held x)) last r (counted (read context s) rest) → GivesSome own (λ x. MeansList M (held x)) last r (read context (placed_set s) rest)
 unfolding read read_with
-placed_set_uncounted own context s e rest (inl h) = inl (rw h refl)
-placed_set_uncounted own context s e rest (inr h) = absurd h
-
-pub placed_set_refused : {A : Type 0} (own : Error → Type 0) (context : Context A ArcRef) (s : Shape) (e : Error) (rest mid : Rest A) (count : ℕ) → bytes_of length_at (λ n. n) rest ≡ Ok (count, mid) → (items (read context s) count mid ≡ Err e) ⊎ own e → (read context (placed_set s) rest ≡ Err e) ⊎ own e
-unfolding read read_with
-placed_set_refused own context s e rest mid count counted (inl h) = inl (rw (counted, h) refl)
-placed_set_refused own context s e rest mid count counted (inr h) = inr h
+reads_placed_set own M eq is r held context s rest last h =
+    reads_items own (λ x. Collected M (λ ys y zs. zs ≡ placed.insert_key eq ys y) (held x)) (λ x. MeansList M (held x)) (λ ms. sequence (put_all put_placed_item [] ms)) (λ x ms p. placed-set-put M eq is (held x) ms p) r (read context s) rest last h

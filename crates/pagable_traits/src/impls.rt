@@ -25,3 +25,4 @@ pub mod texts;
 pub mod thin;
 pub mod times;
 pub mod tuples;
+pub mod walks;

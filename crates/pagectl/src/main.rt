@@ -1,7 +1,14 @@
 //! `pagectl HASH` keeps named texts in a pager, and answers one line for each line that it reads.
 #![tactic(auto)]
 
-use named_texts::serve::serve;
+mod command;
+#[cfg(test)]
+mod failing;
+mod lines;
+mod serve;
+mod session;
+
+use crate::serve::serve;
 use pagable::WeighHash;
 use std::io::{BufReader, BufWriter};
 use std::process::ExitCode;

@@ -1,7 +1,7 @@
 //! Blobs and their keys.
 
 use pagable::{DataKey, Error, InMemoryBlobs, PagableData, PagableStorage, WeighHash};
-use pagable_samples::TextEnv;
+use pagable_examples::TextEnv;
 use std::alloc::{AllocError, Global};
 
 type Blobs = InMemoryBlobs<TextEnv<WeighHash>>;

@@ -3,7 +3,7 @@
 use crate::values::{is_refused, is_written, read};
 use indexmap::IndexMap;
 use pagable::{Error, WeighHash};
-use pagable_samples::TextEnv;
+use pagable_examples::TextEnv;
 use std::alloc::Global;
 
 type AnyEnv = TextEnv<WeighHash>;

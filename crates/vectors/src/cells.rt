@@ -1,7 +1,9 @@
 //! Cells of texts, by the pure calls of the pager.
 
-use pagable::{Error, HandleNumber, InMemoryBlobs, OptionalDataKey, Pager, Pinning, WeighHash};
-use pagable_samples::{TextEnv, TextNode, paging};
+use pagable::{
+    Error, HandleNumber, InMemoryBlobs, OptionalDataKey, Pager, Pinning, WeighHash, paging,
+};
+use pagable_examples::{TextEnv, TextNode};
 use std::alloc::Global;
 
 type TextPager = Pager<TextEnv<WeighHash>, InMemoryBlobs<TextEnv<WeighHash>>>;

@@ -2,7 +2,7 @@
 
 use crate::values::{is_refused, is_unwritable, is_written, read};
 use pagable::{Error, WeighHash};
-use pagable_samples::TextEnv;
+use pagable_examples::TextEnv;
 use serde_json::Value;
 use std::alloc::Global;
 

@@ -2,7 +2,7 @@
 
 use crate::values::is_written;
 use pagable::{Error, PagableSlice, PagableVecFlavor, WeighHash};
-use pagable_samples::TextEnv;
+use pagable_examples::TextEnv;
 use std::alloc::Global;
 use std::time::Duration;
 

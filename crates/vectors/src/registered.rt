@@ -2,7 +2,7 @@
 
 use crate::values::{is_refused, is_written, read};
 use pagable::{Error, StaticBytes, StaticValueRegistry};
-use registry_samples::{Animal, AnimalReader, Zoo};
+use pagable_examples::{Animal, AnimalReader, Zoo};
 use std::alloc::Global;
 
 /// An environment with four texts and three lists of bytes, in which cats alone are registered.

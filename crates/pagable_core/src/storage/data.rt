@@ -4,8 +4,9 @@ ghost use Rattle.std.specs.Prelude.{◌≡◌};
 ghost use Rattle.pagable_model.specs.Blob.{key_of, number_of_hash};
 ghost use Rattle.pagable_core.specs.Data.{blob_of};
 
-use pagable_codec::KeyHash;
-use pagable_flavors::DataKey;
+pub use crate::storage::weigh::WeighHash;
+pub use pagable_codec::KeyHash;
+pub use pagable_flavors::{DataKey, OptionalDataKey};
 
 /// A value as it is stored: its bytes, and the keys of what it refers to, in the order of the references.
 #[derive(Debug, PartialEq, Drop)]

@@ -2,14 +2,14 @@
 
 ghost use Rattle.std.specs.Prelude.{◌≡◌, ℕ, List, [], OnOk, IfOk, IfErr};
 ghost use Rattle.pagable_model.specs.Gives.{memory, memory_or};
-ghost use Rattle.pagable_model.specs.Reading.{items, read};
+ghost use Rattle.pagable_model.specs.Reading.{items, counted, read};
 ghost use Rattle.pagable_model.specs.Standing.{handles_at, MovesOn, GivesSome};
 ghost use Rattle.pagable_model.specs.Collected.{Collected};
 
 use crate::traits::PagableDeserialize;
 use pagable_codec::deserializer::PagableDeserializer;
 use pagable_codec::env::Env;
-use pagable_codec::parts::places_for;
+use pagable_codec::parts::{places_for, read_count};
 use pagable_flavors::Error;
 use std::alloc::Global;
 
@@ -38,6 +38,7 @@ pub trait Collects<T>: Sized {
 
 /// Reads this many items and puts each in. A refusal is the first item's that is refused, or want of memory. As many
 /// places as bytes are left are reserved at most; items that take no byte need room one by one.
+#[tactic(auto, using(pagable_codec::proofs::Reading::parts))]
 pub fn collect_items<
     'de,
     E: Env,
@@ -58,4 +59,23 @@ pub fn collect_items<
         collected.put_in(value)?;
     }
     Ok(collected)
+}
+
+/// Reads how many items follow, and then the items, as `collect_items` does. TooLong above 4,294,967,295.
+#[tactic(auto, using(pagable_codec::proofs::Reading::parts))]
+pub fn read_collected<
+    'de,
+    E: Env,
+    T: PagableDeserialize<'de, E>,
+    C: Collects<T> + Drop,
+    D: PagableDeserializer<E>,
+>(alloc: Global, deserializer: &mut D) -> Result<C, Error>
+    ensures gives { GivesSome (memory_or T.read_causes) (λ c. Collected T.means C.puts (C.held c)) (D.rest deserializer.new) result
+        (counted (read (handles_at (D.levels deserializer.old) (E.parts (D.environment deserializer.old))) (T.shape (D.environment deserializer.old))) (D.rest deserializer.old)) }
+    ensures moves { MovesOn (D.standing deserializer.old) (D.standing deserializer.new) }
+    ensures same_env { D.environment deserializer.new ≡ D.environment deserializer.old }
+    ensures same_levels { D.levels deserializer.new ≡ D.levels deserializer.old }
+{
+    let count = read_count(deserializer)?;
+    collect_items(alloc, count, deserializer)
 }

@@ -1,6 +1,7 @@
 //! Lists, and the items of a list in turn.
 
-ghost use Rattle.std.specs.Prelude.{◌≡◌, ◌≤◌, length, map, min, OnOk, IfOk, IfErr, vec_len};
+ghost use Rattle.std.specs.Prelude.{◌≡◌, ◌≤◌, ◌++◌, ◌∷◌, [], map, OnOk, IfOk, IfErr, vec_len};
+ghost use Rattle.std.specs.Vec.{vec_capacity};
 ghost use Rattle.pagable_model.specs.Gives.{memory_or, long_or};
 ghost use Rattle.pagable_model.specs.Meaning.{sequence};
 ghost use Rattle.pagable_model.specs.Shape.{list};
@@ -10,11 +11,11 @@ ghost use Rattle.pagable_model.specs.Writing.{nesting, WritesSome, WritesSomeAll
 ghost use Rattle.pagable_model.specs.Causes.{memory_or_is_own_reading, memory_or_may_refuse_writing, long_or_may_refuse_writing};
 ghost use Rattle.pagable_model.specs.Lifted.{MeanAll, MeansList, list_has_meaning, list_is_meaning, list_single};
 
+use crate::impls::collecting::{Collects, collect_items, read_collected};
+use crate::impls::walks::{write_counted, write_each};
 use crate::traits::{Carried, OneMeaning, PagableDeserialize, PagableSerialize};
 use pagable_codec::deserializer::PagableDeserializer;
 use pagable_codec::env::Env;
-use pagable_codec::parts::{places_for, read_count, write_count};
-use pagable_codec::reader::Reader;
 use pagable_codec::serializer::PagableSerializer;
 use pagable_flavors::Error;
 use std::alloc::Global;
@@ -31,10 +32,7 @@ pub fn write_items<E: Env, T: PagableSerialize<E>, S: PagableSerializer<E>>(
     ensures same_env { S.environment serializer.new ≡ S.environment serializer.old }
     ensures same_levels { S.levels serializer.new ≡ S.levels serializer.old }
 {
-    for value in values {
-        value.pagable_serialize(serializer)?;
-    }
-    Ok(())
+    write_each(values.iter(), serializer)
 }
 
 /// Writes the count of the items, and then the items. TooLong above 4,294,967,295 items, before any item.
@@ -49,8 +47,7 @@ pub fn write_list<E: Env, T: PagableSerialize<E>, S: PagableSerializer<E>>(
     ensures same_env { S.environment serializer.new ≡ S.environment serializer.old }
     ensures same_levels { S.levels serializer.new ≡ S.levels serializer.old }
 {
-    write_count(values.len(), serializer)?;
-    write_items(values, serializer)
+    write_counted(values.len(), values.iter(), serializer)
 }
 
 /// Reads this many items. A refusal is the first item's that is refused, or want of memory. As many places as bytes are
@@ -67,13 +64,24 @@ pub fn read_items<'de, E: Env, T: PagableDeserialize<'de, E> + Drop, D: PagableD
     ensures same_env { D.environment deserializer.new ≡ D.environment deserializer.old }
     ensures same_levels { D.levels deserializer.new ≡ D.levels deserializer.old }
 {
-    let places = places_for(count, deserializer);
-    let mut values = Vec::with_capacity(alloc, places)?;
-    for index in 0..count {
-        let value = T::pagable_deserialize(alloc, deserializer)?;
-        values.push(value)?;
+    collect_items(alloc, count, deserializer)
+}
+
+impl<T: Drop> Collects<T> for Vec<T> {
+    ghost held = { λ v. v.items };
+
+    ghost puts = { λ xs x ys. ys ≡ xs ++ x ∷ [] };
+
+    ghost has_room = { λ v n. n ≤ vec_capacity v };
+
+    fn with_places(alloc: Global, places: usize) -> Result<Self, Error> {
+        Ok(Vec::with_capacity(alloc, places)?)
     }
-    Ok(values)
+
+    fn put_in(&mut self, item: T) -> Result<(), Error> {
+        self.push(item)?;
+        Ok(())
+    }
 }
 
 impl<E: Env, T: Carried<E>> Carried<E> for Vec<T> {
@@ -111,8 +119,6 @@ impl<'de, E: Env, T: PagableDeserialize<'de, E> + Drop> PagableDeserialize<'de, 
         alloc: Global,
         deserializer: &mut D,
     ) -> Result<Self, Error> {
-        let count = read_count(deserializer)?;
-        let values = read_items(alloc, count, deserializer)?;
-        Ok(values)
+        read_collected(alloc, deserializer)
     }
 }

@@ -1,47 +1,24 @@
 //! Maps in order of arrival.
 
-ghost use Rattle.std.specs.Prelude.{◌≡◌, ◌≤◌, map, OnOk, IfErr};
+ghost use Rattle.std.specs.Prelude.{◌≡◌, ◌≤◌, map};
 ghost use Rattle.indexmap.specs.IndexMap.{insert_entry, spare};
 ghost use Rattle.pagable_model.specs.Gives.{memory_or, either, long_or};
 ghost use Rattle.pagable_model.specs.Meaning.{pair, sequence};
-ghost use Rattle.pagable_model.specs.Shape.{both, placed_map};
-ghost use Rattle.pagable_model.specs.Writing.{nesting, WritesSomeAll, RefusedAll, Grows};
+ghost use Rattle.pagable_model.specs.Shape.{placed_map};
 ghost use Rattle.pagable_model.specs.Causes.{memory_or_is_own_reading, memory_or_may_refuse_writing, long_or_may_refuse_writing, either_is_own_reading, either_may_refuse_writing};
-ghost use Rattle.pagable_model.specs.Lifted.{MeanAll, MeansList, MeansPair, list_has_meaning, pair_has_meaning, list_is_meaning, pair_is_meaning, list_single, pair_single};
+ghost use Rattle.pagable_model.specs.Lifted.{MeansList, MeansPair, list_has_meaning, pair_has_meaning, list_is_meaning, pair_is_meaning, list_single, pair_single};
 
-use crate::impls::collecting::{Collects, collect_items};
-use crate::impls::maps::write_entry;
+use crate::impls::collecting::{Collects, read_collected};
+use crate::impls::walks::write_counted;
 use crate::keys::PagableKey;
 use crate::traits::{Carried, OneMeaning, PagableDeserialize, PagableSerialize};
 use indexmap::IndexMap;
 use pagable_codec::deserializer::PagableDeserializer;
 use pagable_codec::env::Env;
-use pagable_codec::parts::{read_count, write_count};
 use pagable_codec::serializer::PagableSerializer;
 use pagable_flavors::Error;
 use std::alloc::Global;
 use std::hash::Hash;
-
-/// Writes the entries in the order of the map, without their count. A refusal is that of the first entry that is
-/// refused.
-pub fn write_placed_entries<
-    E: Env,
-    K: PagableSerialize<E> + Eq + Hash,
-    V: PagableSerialize<E>,
-    S: PagableSerializer<E>,
->(entries: &IndexMap<K, V>, serializer: &mut S) -> Result<(), Error>
-    ensures ok { OnOk result (WritesSomeAll (MeanAll (MeansPair K.means V.means) entries.now.entries) (nesting (S.levels serializer.old) (E.parts (S.environment serializer.old))) (both (K.shape (S.environment serializer.old)) (V.shape (S.environment serializer.old))) (S.out serializer.old) (S.out serializer.new)) }
-    ensures refused { IfErr result (RefusedAll (MeanAll (MeansPair K.means V.means) entries.now.entries) (nesting (S.levels serializer.old) (E.parts (S.environment serializer.old))) (both (K.shape (S.environment serializer.old)) (V.shape (S.environment serializer.old)))) }
-    ensures only { IfErr result (either K.write_causes V.write_causes) }
-    ensures err { Grows (S.out serializer.old) (S.out serializer.new) }
-    ensures same_env { S.environment serializer.new ≡ S.environment serializer.old }
-    ensures same_levels { S.levels serializer.new ≡ S.levels serializer.old }
-{
-    for (key, value) in entries.iter() {
-        write_entry(key, value, serializer)?;
-    }
-    Ok(())
-}
 
 /// An entry whose key is there already gives its value to the key that stands, in its place.
 impl<K: Eq + Hash + Drop, V: Drop> Collects<(K, V)> for IndexMap<K, V> {
@@ -88,9 +65,7 @@ impl<
     ghost write_causes_may_refuse = { long_or_may_refuse_writing (memory_or (either K.write_causes V.write_causes)) (memory_or_may_refuse_writing (either K.write_causes V.write_causes) (either_may_refuse_writing K.write_causes V.write_causes K.write_causes_may_refuse V.write_causes_may_refuse)) };
 
     fn pagable_serialize<S: PagableSerializer<E>>(&self, serializer: &mut S) -> Result<(), Error> {
-        write_count(self.len(), serializer)?;
-        write_placed_entries(self, serializer)?;
-        Ok(())
+        write_counted(self.len(), self.iter(), serializer)
     }
 }
 
@@ -108,8 +83,6 @@ impl<
         alloc: Global,
         deserializer: &mut D,
     ) -> Result<Self, Error> {
-        let count = read_count(deserializer)?;
-        let entries: IndexMap<K, V> = collect_items(alloc, count, deserializer)?;
-        Ok(entries)
+        read_collected(alloc, deserializer)
     }
 }

@@ -1,46 +1,26 @@
 //! Sets.
 
-ghost use Rattle.std.specs.Prelude.{◌≡◌, ◌≤◌, map, OnOk, IfErr};
+ghost use Rattle.std.specs.Prelude.{◌≡◌, ◌≤◌, map};
 ghost use Rattle.std.specs.BTreeSet.{insert_key};
 ghost use Rattle.indexmap.specs.IndexSet as placed;
 ghost use Rattle.pagable_model.specs.Gives.{memory_or, long_or};
 ghost use Rattle.pagable_model.specs.Meaning.{sequence};
 ghost use Rattle.pagable_model.specs.Shape.{sorted_set, placed_set};
-ghost use Rattle.pagable_model.specs.Writing.{nesting, WritesSomeAll, RefusedAll, Grows};
 ghost use Rattle.pagable_model.specs.Causes.{memory_or_is_own_reading, memory_or_may_refuse_writing, long_or_may_refuse_writing};
-ghost use Rattle.pagable_model.specs.Lifted.{MeanAll, MeansList, list_has_meaning, list_is_meaning, list_single};
+ghost use Rattle.pagable_model.specs.Lifted.{MeansList, list_has_meaning, list_is_meaning, list_single};
 
-use crate::impls::collecting::{Collects, collect_items};
-use crate::impls::lists::write_items;
+use crate::impls::collecting::{Collects, read_collected};
+use crate::impls::walks::write_counted;
 use crate::keys::{PagableKey, PagableOrdKey};
 use crate::traits::{Carried, OneMeaning, PagableDeserialize, PagableSerialize};
 use indexmap::IndexSet;
 use pagable_codec::deserializer::PagableDeserializer;
 use pagable_codec::env::Env;
-use pagable_codec::parts::{read_count, write_count};
 use pagable_codec::serializer::PagableSerializer;
 use pagable_flavors::Error;
 use std::alloc::Global;
 use std::collections::BTreeSet;
 use std::hash::Hash;
-
-/// Writes the items in their order, without their count. A refusal is that of the first item that is refused.
-pub fn write_sorted_items<E: Env, T: PagableSerialize<E> + Ord, S: PagableSerializer<E>>(
-    items: &BTreeSet<T>,
-    serializer: &mut S,
-) -> Result<(), Error>
-    ensures ok { OnOk result (WritesSomeAll (MeanAll T.means items.now.keys) (nesting (S.levels serializer.old) (E.parts (S.environment serializer.old))) (T.shape (S.environment serializer.old)) (S.out serializer.old) (S.out serializer.new)) }
-    ensures refused { IfErr result (RefusedAll (MeanAll T.means items.now.keys) (nesting (S.levels serializer.old) (E.parts (S.environment serializer.old))) (T.shape (S.environment serializer.old))) }
-    ensures only { IfErr result T.write_causes }
-    ensures err { Grows (S.out serializer.old) (S.out serializer.new) }
-    ensures same_env { S.environment serializer.new ≡ S.environment serializer.old }
-    ensures same_levels { S.levels serializer.new ≡ S.levels serializer.old }
-{
-    for key in items.iter() {
-        key.pagable_serialize(serializer)?;
-    }
-    Ok(())
-}
 
 /// An item that is there already changes nothing.
 impl<T: Ord + Drop> Collects<T> for BTreeSet<T> {
@@ -82,9 +62,7 @@ impl<E: Env, T: PagableOrdKey<E> + PagableSerialize<E>> PagableSerialize<E> for 
     ghost write_causes_may_refuse = { long_or_may_refuse_writing (memory_or T.write_causes) (memory_or_may_refuse_writing T.write_causes T.write_causes_may_refuse) };
 
     fn pagable_serialize<S: PagableSerializer<E>>(&self, serializer: &mut S) -> Result<(), Error> {
-        write_count(self.len(), serializer)?;
-        write_sorted_items(self, serializer)?;
-        Ok(())
+        write_counted(self.len(), self.iter(), serializer)
     }
 }
 
@@ -100,9 +78,7 @@ impl<'de, E: Env, T: PagableOrdKey<E> + PagableDeserialize<'de, E> + Drop> Pagab
         alloc: Global,
         deserializer: &mut D,
     ) -> Result<Self, Error> {
-        let count = read_count(deserializer)?;
-        let values: BTreeSet<T> = collect_items(alloc, count, deserializer)?;
-        Ok(values)
+        read_collected(alloc, deserializer)
     }
 }
 
@@ -146,9 +122,7 @@ impl<E: Env, T: PagableKey<E> + Hash + PagableSerialize<E>> PagableSerialize<E> 
     ghost write_causes_may_refuse = { long_or_may_refuse_writing (memory_or T.write_causes) (memory_or_may_refuse_writing T.write_causes T.write_causes_may_refuse) };
 
     fn pagable_serialize<S: PagableSerializer<E>>(&self, serializer: &mut S) -> Result<(), Error> {
-        write_count(self.len(), serializer)?;
-        write_items(self.as_slice(), serializer)?;
-        Ok(())
+        write_counted(self.len(), self.iter(), serializer)
     }
 }
 
@@ -164,8 +138,6 @@ impl<'de, E: Env, T: PagableKey<E> + Hash + PagableDeserialize<'de, E> + Drop> P
         alloc: Global,
         deserializer: &mut D,
     ) -> Result<Self, Error> {
-        let count = read_count(deserializer)?;
-        let values: IndexSet<T> = collect_items(alloc, count, deserializer)?;
-        Ok(values)
+        read_collected(alloc, deserializer)
     }
 }

@@ -7,12 +7,11 @@ ghost use Rattle.pagable_model.specs.Shape.{list};
 ghost use Rattle.pagable_model.specs.Causes.{memory_or_is_own_reading, memory_or_may_refuse_writing, long_or_may_refuse_writing};
 ghost use Rattle.pagable_model.specs.Lifted.{MeansList, list_has_meaning, list_is_meaning, list_single};
 
-use crate::impls::collecting::{Collects, collect_items};
+use crate::impls::collecting::{Collects, read_collected};
 use crate::impls::lists::write_list;
 use crate::traits::{Carried, OneMeaning, PagableDeserialize, PagableSerialize};
 use pagable_codec::deserializer::PagableDeserializer;
 use pagable_codec::env::Env;
-use pagable_codec::parts::read_count;
 use pagable_codec::serializer::PagableSerializer;
 use pagable_flavors::Error;
 use smallvec::SmallVec;
@@ -76,8 +75,6 @@ impl<
         alloc: Global,
         deserializer: &mut D,
     ) -> Result<Self, Error> {
-        let count = read_count(deserializer)?;
-        let values: SmallVec<T, N> = collect_items(alloc, count, deserializer)?;
-        Ok(values)
+        read_collected(alloc, deserializer)
     }
 }

@@ -7,12 +7,3 @@ returns-clause-gives g c =
     let start = c.args.deserializer.now in
     let law = g.met.D.PagableDeserializer in
     text_is_read string_bytes c.read_string.result _ _ _ _ (law.bytes_are start) (law.rest_of_with start c.read_string.new.self) (rw c.serde.ensures.value at c.read_string.ensures.gives)
-
-pub returns-clause-moves : goal.returns-clause-moves
-returns-clause-moves g c = g.met.D.PagableDeserializer.moves_of_with c.args.deserializer.now c.read_string.new.self (rw c.serde.ensures.value at c.read_string.ensures.goes)
-
-pub returns-clause-same_env : goal.returns-clause-same_env
-returns-clause-same_env g c = g.met.D.PagableDeserializer.environment_of_with c.args.deserializer.now c.read_string.new.self
-
-pub returns-clause-same_levels : goal.returns-clause-same_levels
-returns-clause-same_levels g c = g.met.D.PagableDeserializer.levels_of_with c.args.deserializer.now c.read_string.new.self

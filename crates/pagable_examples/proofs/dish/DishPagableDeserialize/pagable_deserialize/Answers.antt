@@ -1,4 +1,3 @@
-use Rattle.std.proofs.Common.{◌∙◌}
 use Rattle.std.proofs.lemmas.Result.{err_from_is_err_and}
 use Rattle.std.specs.Int.{w16}
 use Rattle.std.specs.String.{string_bytes}
@@ -8,7 +7,6 @@ use Rattle.pagable_model.specs.Meaning as meanings
 use Rattle.pagable_model.specs.Shape.{unsigned}
 use Rattle.pagable_model.specs.Shape as shapes
 use Rattle.pagable_model.specs.Standing.{Is, handles_at}
-use Rattle.pagable_codec.proofs.Reading.{moves_trans}
 use Rattle.pagable_traits.proofs.Held.{pair_gave}
 use Rattle.pagable_examples.proofs.Dishes.{first_refused, second_refused}
 use Rattle.pagable_examples.proofs.dish.DishPagableDeserialize.pagable_deserialize.Goals as goal
@@ -20,15 +18,6 @@ returns-in_err-name-clause-gives g c =
     let context = handles_at (g.D.PagableDeserializer.levels c.args.deserializer.now) (g.E.Env.parts env) in
     rw (p.1, p.2) (first_refused memory context shapes.text (unsigned w16) _ (g.D.PagableDeserializer.rest c.args.deserializer.now) c.in_err-name.ensures.gives)
 
-pub returns-in_err-name-clause-moves : goal.returns-in_err-name-clause-moves
-returns-in_err-name-clause-moves g c = c.in_err-name.ensures.moves
-
-pub returns-in_err-name-clause-same_env : goal.returns-in_err-name-clause-same_env
-returns-in_err-name-clause-same_env g c = c.in_err-name.ensures.same_env
-
-pub returns-in_err-name-clause-same_levels : goal.returns-in_err-name-clause-same_levels
-returns-in_err-name-clause-same_levels g c = c.in_err-name.ensures.same_levels
-
 pub returns-in_err-grams-clause-gives : goal.returns-in_err-grams-clause-gives
 returns-in_err-grams-clause-gives g c =
     let p = err_from_is_err_and c.from_residual-in_err-grams.result c.from_residual-in_err-grams.ensures.1 in
@@ -37,27 +26,9 @@ returns-in_err-grams-clause-gives g c =
     let named = c.in_ok-name.ensures in
     rw (p.1, p.2) (second_refused _ memory context shapes.text (unsigned w16) _ (g.D.PagableDeserializer.rest c.args.deserializer.now) _ named.gives (rw (named.same_levels, named.same_env) at c.in_err-grams.ensures.gives))
 
-pub returns-in_err-grams-clause-moves : goal.returns-in_err-grams-clause-moves
-returns-in_err-grams-clause-moves g c = moves_trans _ _ _ c.in_ok-name.ensures.moves c.in_err-grams.ensures.moves
-
-pub returns-in_err-grams-clause-same_env : goal.returns-in_err-grams-clause-same_env
-returns-in_err-grams-clause-same_env g c = c.in_err-grams.ensures.same_env ∙ c.in_ok-name.ensures.same_env
-
-pub returns-in_err-grams-clause-same_levels : goal.returns-in_err-grams-clause-same_levels
-returns-in_err-grams-clause-same_levels g c = c.in_err-grams.ensures.same_levels ∙ c.in_ok-name.ensures.same_levels
-
 pub returns-clause-gives : goal.returns-clause-gives
 returns-clause-gives g c =
     let env = g.D.PagableDeserializer.environment c.args.deserializer.now in
     let context = handles_at (g.D.PagableDeserializer.levels c.args.deserializer.now) (g.E.Env.parts env) in
     let named = c.in_ok-name.ensures in
     pair_gave (Is (λ s. meanings.text (string_bytes s))) (Is number) context shapes.text (unsigned w16) _ _ (g.D.PagableDeserializer.rest c.args.deserializer.now) _ _ named.gives (rw (named.same_levels, named.same_env) at c.in_ok-grams.ensures.gives)
-
-pub returns-clause-moves : goal.returns-clause-moves
-returns-clause-moves g c = moves_trans _ _ _ c.in_ok-name.ensures.moves c.in_ok-grams.ensures.moves
-
-pub returns-clause-same_env : goal.returns-clause-same_env
-returns-clause-same_env g c = c.in_ok-grams.ensures.same_env ∙ c.in_ok-name.ensures.same_env
-
-pub returns-clause-same_levels : goal.returns-clause-same_levels
-returns-clause-same_levels g c = c.in_ok-grams.ensures.same_levels ∙ c.in_ok-name.ensures.same_levels

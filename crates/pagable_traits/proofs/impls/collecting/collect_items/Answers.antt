@@ -56,43 +56,7 @@ returns-in_err-collected-clause-gives g c =
     let p = err_from_is_err_and c.from_residual.result c.from_residual.ensures.1 in
     rw (p.1, p.2) (inr (inl c.in_err-collected.ensures.only))
 
-pub returns-in_err-collected-clause-moves : goal.returns-in_err-collected-clause-moves
-returns-in_err-collected-clause-moves g c = c.places_for-places.ensures.moves
-
-pub returns-in_err-collected-clause-same_env : goal.returns-in_err-collected-clause-same_env
-returns-in_err-collected-clause-same_env g c = c.places_for-places.ensures.same_env
-
-pub returns-in_err-collected-clause-same_levels : goal.returns-in_err-collected-clause-same_levels
-returns-in_err-collected-clause-same_levels g c = c.places_for-places.ensures.same_levels
-
-pub returns-in_err-value-clause-moves : goal.returns-in_err-value-clause-moves
-returns-in_err-value-clause-moves g c = moves_trans _ _ _ c.loop-index.invariant.moves c.in_err-value.ensures.moves
-
-pub returns-in_err-value-clause-same_env : goal.returns-in_err-value-clause-same_env
-returns-in_err-value-clause-same_env g c = c.in_err-value.ensures.same_env ∙ c.loop-index.invariant.same_env
-
-pub returns-in_err-value-clause-same_levels : goal.returns-in_err-value-clause-same_levels
-returns-in_err-value-clause-same_levels g c = c.in_err-value.ensures.same_levels ∙ c.loop-index.invariant.same_levels
-
 pub returns-in_err-put_in-clause-gives : goal.returns-in_err-put_in-clause-gives
 returns-in_err-put_in-clause-gives g c =
     let p = err_from_is_err_and c.from_residual-in_err-put_in.result c.from_residual-in_err-put_in.ensures.1 in
     rw (p.1, p.2) (inr (inl c.in_err-put_in.ensures.only))
-
-pub returns-in_err-put_in-clause-moves : goal.returns-in_err-put_in-clause-moves
-returns-in_err-put_in-clause-moves g c = moves_trans _ _ _ c.loop-index.invariant.moves c.in_ok-value.ensures.moves
-
-pub returns-in_err-put_in-clause-same_env : goal.returns-in_err-put_in-clause-same_env
-returns-in_err-put_in-clause-same_env g c = c.in_ok-value.ensures.same_env ∙ c.loop-index.invariant.same_env
-
-pub returns-in_err-put_in-clause-same_levels : goal.returns-in_err-put_in-clause-same_levels
-returns-in_err-put_in-clause-same_levels g c = c.in_ok-value.ensures.same_levels ∙ c.loop-index.invariant.same_levels
-
-pub returns-clause-moves : goal.returns-clause-moves
-returns-clause-moves g c = c.loop-index.invariant.moves
-
-pub returns-clause-same_env : goal.returns-clause-same_env
-returns-clause-same_env g c = c.loop-index.invariant.same_env
-
-pub returns-clause-same_levels : goal.returns-clause-same_levels
-returns-clause-same_levels g c = c.loop-index.invariant.same_levels

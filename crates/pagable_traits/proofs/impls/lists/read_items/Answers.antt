@@ -1,112 +1,14 @@
-use Rattle.std.proofs.Common.{inl, inr, ◌∙◌, ◌++◌, ◌∷◌, [], arith}
-use Rattle.std.proofs.lemmas.Result.{err_from_is_err_and}
+use Rattle.pagable_model.specs.Gives.{memory_or}
 use Rattle.pagable_model.specs.Reading.{items, read}
 use Rattle.pagable_model.specs.Standing.{handles_at}
-use Rattle.pagable_model.specs.Lifted.{mean-none}
-use Rattle.pagable_traits.proofs.Items.{mean_last, starts, goes_on, ends, is_done}
-use Rattle.pagable_codec.proofs.Reading.{moves_trans}
+use Rattle.pagable_traits.proofs.Collecting.{gives_along, collected_list, list_length}
 use Rattle.pagable_traits.proofs.impls.lists.read_items.Goals as goal
-
-pub loop-index-init : goal.loop-index-init
-loop-index-init g c =
-    let env = g.D.PagableDeserializer.environment c.args.deserializer.now in
-    let get = read (handles_at (g.D.PagableDeserializer.levels c.args.deserializer.now) (g.E.Env.parts env)) (g.T.Carried.shape env) in
-    record {
-      count = c.in_ok-values.ensures.len;
-      gives = ([], rw c.in_ok-values.ensures.items mean-none, rw c.places_for-places.ensures.same_rest (starts get c.args.count (g.D.PagableDeserializer.rest c.args.deserializer.now)));
-      moves = c.places_for-places.ensures.moves;
-      same_env = c.places_for-places.ensures.same_env;
-      same_levels = c.places_for-places.ensures.same_levels;
-    }
-
-pub loop-index-preserved : goal.loop-index-preserved
-loop-index-preserved g c =
-    let env = g.D.PagableDeserializer.environment c.args.deserializer.now in
-    let get = read (handles_at (g.D.PagableDeserializer.levels c.args.deserializer.now) (g.E.Env.parts env)) (g.T.Carried.shape env) in
-    let i = c.loop-index.invariant in
-    let gave = rw (i.same_levels, i.same_env) at c.in_ok-value.ensures.gives in
-    record {
-      count = omega (arith, c.in_ok-push.ensures.len, i.count);
-      gives = (
-        i.gives.0 ++ gave.m ∷ [],
-        rw c.in_ok-push.ensures.items (mean_last g.T.Carried.means c.loop-index.values.items i.gives.0 c.in_ok-value.value gave.m i.gives.1 gave.is),
-        goes_on get i.gives.0 c.args.count c.loop-index.index (g.D.PagableDeserializer.rest c.loop-index.deserializer) gave.m _ (items get c.args.count (g.D.PagableDeserializer.rest c.args.deserializer.now)) c.loop-index-test.true gave.gave i.gives.2,
-      );
-      moves = moves_trans _ _ _ i.moves c.in_ok-value.ensures.moves;
-      same_env = c.in_ok-value.ensures.same_env ∙ i.same_env;
-      same_levels = c.in_ok-value.ensures.same_levels ∙ i.same_levels;
-    }
-
-pub returns-in_err-value-clause-gives : goal.returns-in_err-value-clause-gives
-returns-in_err-value-clause-gives g c =
-    let p = err_from_is_err_and c.from_residual-in_err-value.result c.from_residual-in_err-value.ensures.1 in
-    let env = g.D.PagableDeserializer.environment c.args.deserializer.now in
-    let get = read (handles_at (g.D.PagableDeserializer.levels c.args.deserializer.now) (g.E.Env.parts env)) (g.T.Carried.shape env) in
-    let i = c.loop-index.invariant in
-    rw (p.1, p.2) (ends g.T.PagableDeserialize.read_causes get _ i.gives.0 c.args.count c.loop-index.index (g.D.PagableDeserializer.rest c.loop-index.deserializer) (items get c.args.count (g.D.PagableDeserializer.rest c.args.deserializer.now)) c.loop-index-test.true
-    (rw (i.same_levels, i.same_env) at c.in_err-value.ensures.gives) i.gives.2)
 
 pub returns-clause-gives : goal.returns-clause-gives
 returns-clause-gives g c =
     let env = g.D.PagableDeserializer.environment c.args.deserializer.now in
     let get = read (handles_at (g.D.PagableDeserializer.levels c.args.deserializer.now) (g.E.Env.parts env)) (g.T.Carried.shape env) in
-    let i = c.loop-index.invariant in
-    record { m = i.gives.0; is = i.gives.1; gave = is_done get i.gives.0 c.args.count c.loop-index.index (g.D.PagableDeserializer.rest c.loop-index.deserializer) (items get c.args.count (g.D.PagableDeserializer.rest c.args.deserializer.now)) c.loop-index-test.false i.gives.2 }
-
-pub returns-in_err-values-clause-gives : goal.returns-in_err-values-clause-gives
-returns-in_err-values-clause-gives g c =
-    let p = err_from_is_err_and c.from_residual.result c.from_residual.ensures.1 in
-    rw p.1 (inr (inl p.2))
-
-pub returns-in_err-values-clause-count : goal.returns-in_err-values-clause-count
-returns-in_err-values-clause-count g c = rw (err_from_is_err_and c.from_residual.result c.from_residual.ensures.1).1 tt
-
-pub returns-in_err-values-clause-moves : goal.returns-in_err-values-clause-moves
-returns-in_err-values-clause-moves g c = c.places_for-places.ensures.moves
-
-pub returns-in_err-values-clause-same_env : goal.returns-in_err-values-clause-same_env
-returns-in_err-values-clause-same_env g c = c.places_for-places.ensures.same_env
-
-pub returns-in_err-values-clause-same_levels : goal.returns-in_err-values-clause-same_levels
-returns-in_err-values-clause-same_levels g c = c.places_for-places.ensures.same_levels
-
-pub returns-in_err-value-clause-count : goal.returns-in_err-value-clause-count
-returns-in_err-value-clause-count g c = rw (err_from_is_err_and c.from_residual-in_err-value.result c.from_residual-in_err-value.ensures.1).1 tt
-
-pub returns-in_err-value-clause-moves : goal.returns-in_err-value-clause-moves
-returns-in_err-value-clause-moves g c = moves_trans _ _ _ c.loop-index.invariant.moves c.in_err-value.ensures.moves
-
-pub returns-in_err-value-clause-same_env : goal.returns-in_err-value-clause-same_env
-returns-in_err-value-clause-same_env g c = c.in_err-value.ensures.same_env ∙ c.loop-index.invariant.same_env
-
-pub returns-in_err-value-clause-same_levels : goal.returns-in_err-value-clause-same_levels
-returns-in_err-value-clause-same_levels g c = c.in_err-value.ensures.same_levels ∙ c.loop-index.invariant.same_levels
-
-pub returns-in_err-push-clause-gives : goal.returns-in_err-push-clause-gives
-returns-in_err-push-clause-gives g c =
-    let p = err_from_is_err_and c.from_residual-in_err-push.result c.from_residual-in_err-push.ensures.1 in
-    rw p.1 (inr (inl p.2))
-
-pub returns-in_err-push-clause-count : goal.returns-in_err-push-clause-count
-returns-in_err-push-clause-count g c = rw (err_from_is_err_and c.from_residual-in_err-push.result c.from_residual-in_err-push.ensures.1).1 tt
-
-pub returns-in_err-push-clause-moves : goal.returns-in_err-push-clause-moves
-returns-in_err-push-clause-moves g c = moves_trans _ _ _ c.loop-index.invariant.moves c.in_ok-value.ensures.moves
-
-pub returns-in_err-push-clause-same_env : goal.returns-in_err-push-clause-same_env
-returns-in_err-push-clause-same_env g c = c.in_ok-value.ensures.same_env ∙ c.loop-index.invariant.same_env
-
-pub returns-in_err-push-clause-same_levels : goal.returns-in_err-push-clause-same_levels
-returns-in_err-push-clause-same_levels g c = c.in_ok-value.ensures.same_levels ∙ c.loop-index.invariant.same_levels
+    gives_along (memory_or g.T.PagableDeserialize.read_causes) _ _ _ c.collect_items.result (items get c.args.count (g.D.PagableDeserializer.rest c.args.deserializer.now)) (λ v ms h. collected_list g.T.Carried.means v.items ms h) c.collect_items.ensures.gives
 
 pub returns-clause-count : goal.returns-clause-count
-returns-clause-count g c = omega (arith, c.loop-index.invariant.count)
-
-pub returns-clause-moves : goal.returns-clause-moves
-returns-clause-moves g c = c.loop-index.invariant.moves
-
-pub returns-clause-same_env : goal.returns-clause-same_env
-returns-clause-same_env g c = c.loop-index.invariant.same_env
-
-pub returns-clause-same_levels : goal.returns-clause-same_levels
-returns-clause-same_levels g c = c.loop-index.invariant.same_levels
+returns-clause-count g c = list_length (memory_or g.T.PagableDeserialize.read_causes) g.T.Carried.means c.collect_items.result _ c.args.count _ _ c.collect_items.ensures.gives

@@ -1,5 +1,0 @@
-use Rattle.std.proofs.Common.{rules}
-use Rattle.pagable_blobs.proofs.in_memory.InMemoryBlobsPagableStorage.fetch_data_blocking.Goals as goal
-
-pub returns-in_ok-clone-in-Some-clause-ok : goal.returns-in_ok-clone-in-Some-clause-ok
-returns-in_ok-clone-in-Some-clause-ok g c = search rules

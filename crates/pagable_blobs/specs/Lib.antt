@@ -1,2 +1,0 @@
-pub mod Blobs
-pub mod Found

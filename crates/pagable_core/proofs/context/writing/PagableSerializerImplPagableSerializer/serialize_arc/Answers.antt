@@ -1,5 +1,0 @@
-use Rattle.std.proofs.Common.{rules}
-use Rattle.pagable_core.proofs.context.writing.PagableSerializerImplPagableSerializer.serialize_arc.Goals as goal
-
-pub returns-clause-ok : goal.returns-clause-ok
-returns-clause-ok g c = search rules

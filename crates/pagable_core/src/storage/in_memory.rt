@@ -1,0 +1,163 @@
+//! Blobs in memory: a storage for tests, and for stores that one run fills and forgets.
+
+ghost use Rattle.std.specs.Prelude.{◌≡◌, ◌↔◌, ◌==◌, if◌then◌else◌, ℕ, IsTrue, OnOk, OnErr, IfErr, None, Some, false, true};
+ghost use Rattle.pagable_model.specs.Gives.{memory};
+ghost use Rattle.pagable_core.specs.Data.{blob_of};
+ghost use Rattle.pagable_core.specs.Blobs.{stored_in};
+ghost use Rattle.pagable_model.specs.Stored.{IsCount};
+ghost use Rattle.pagable_core.specs.Found.{IsFound};
+
+use crate::storage::data::PagableData;
+use crate::storage::traits::PagableStorage;
+use pagable_codec::Env;
+use pagable_flavors::{DataKey, Error};
+use std::alloc::Global;
+use std::collections::HashMap;
+use std::marker::PhantomData;
+use std::sync::Arc;
+
+/// A map of blobs by key, in memory. Another blob under a taken key is refused, and the first stays.
+#[derive(Drop)]
+pub struct InMemoryBlobs<E> {
+    blobs: HashMap<DataKey, Arc<PagableData>>,
+    closed: bool,
+    environment: PhantomData<E>,
+}
+
+impl<E: Env> InMemoryBlobs<E> {
+    /// An open storage without blobs. It takes no memory.
+    pub fn new(alloc: Global) -> InMemoryBlobs<E>
+        ensures empty { (key : ℕ) → ⟦<InMemoryBlobs<E> as PagableStorage<E>>⟧.stored result key ≡ None }
+        ensures open { ⟦<InMemoryBlobs<E> as PagableStorage<E>>⟧.is_closed result ≡ false }
+    {
+        InMemoryBlobs {
+            blobs: HashMap::new(alloc),
+            closed: false,
+            environment: PhantomData,
+        }
+    }
+
+    /// How many blobs are stored, each under a key of its own.
+    pub fn len(&self) -> usize
+        ensures { IsCount (⟦<InMemoryBlobs<E> as PagableStorage<E>>⟧.stored self.now) result }
+    {
+        self.blobs.len()
+    }
+}
+
+/// Whether two texts of bytes are one.
+fn are_same_bytes(left: &[u8], right: &[u8]) -> bool
+    ensures { IsTrue result ↔ (left.now ≡ right.now) }
+{
+    left == right
+}
+
+/// Whether two lists of keys are one.
+fn are_same_keys(left: &[DataKey], right: &[DataKey]) -> bool
+    ensures { IsTrue result ↔ (left.now ≡ right.now) }
+{
+    left == right
+}
+
+/// Whether two blobs are one.
+fn is_same(left: &PagableData, right: &PagableData) -> bool
+    ensures { IsTrue result ↔ (blob_of left.now ≡ blob_of right.now) }
+{
+    if !are_same_bytes(left.bytes.as_slice(), right.bytes.as_slice()) {
+        return false;
+    }
+    are_same_keys(left.arcs.as_slice(), right.arcs.as_slice())
+}
+
+/// What stands under a blob's key.
+enum Found {
+    Nothing,
+    TheBlob,
+    Another,
+}
+
+/// What stands under the key of the blob.
+fn found_under(
+    blobs: &HashMap<DataKey, Arc<PagableData>>,
+    key: DataKey,
+    blob: &PagableData,
+) -> Found
+    ensures { IsFound (stored_in blobs.now key) (blob_of blob.now) result }
+{
+    match blobs.get(&key) {
+        None => Found::Nothing,
+        Some(found) => {
+            if is_same(found.as_ref(), blob) {
+                Found::TheBlob
+            } else {
+                Found::Another
+            }
+        }
+    }
+}
+
+/// Puts a blob under a key where nothing stands.
+fn put(
+    alloc: Global,
+    blobs: &mut HashMap<DataKey, Arc<PagableData>>,
+    key: DataKey,
+    blob: PagableData,
+) -> Result<(), Error>
+    ensures ok { OnOk result ((q : ℕ) → stored_in blobs.new q ≡ (if q == key then Some (blob_of blob) else stored_in blobs.old q)) }
+    ensures only { IfErr result memory }
+    ensures err { OnErr result (stored_in blobs.new ≡ stored_in blobs.old) }
+{
+    let kept = Arc::new(alloc, blob)?;
+    blobs.insert(key, kept)?;
+    Ok(())
+}
+
+impl<E: Env> PagableStorage<E> for InMemoryBlobs<E> {
+    ghost use Rattle.pagable_core.specs.Blobs.{blobs_of, has_closed};
+
+    ghost stored = { blobs_of };
+
+    ghost is_closed = { has_closed };
+
+    ghost failed = { λ s. 0 };
+
+    fn fetch_data_blocking(
+        &mut self,
+        _alloc: Global,
+        key: DataKey,
+    ) -> Result<Arc<PagableData>, Error> {
+        match self.blobs.get(&key) {
+            None => Err(Error::NoData(key)),
+            Some(found) => Ok(found.clone()?),
+        }
+    }
+
+    #[tactic(auto, using(crate::proofs::Adding::adding))]
+    fn store_data(&mut self, alloc: Global, blob: PagableData) -> Result<DataKey, Error> {
+        if self.closed {
+            return Err(Error::Closed);
+        }
+        let key = blob.compute_key::<E::Hash>();
+        match found_under(&self.blobs, key, &blob) {
+            Found::TheBlob => Ok(key),
+            Found::Another => Err(Error::KeyTaken),
+            Found::Nothing => {
+                put(alloc, &mut self.blobs, key, blob)?;
+                Ok(key)
+            }
+        }
+    }
+
+    fn flush(&mut self) -> Result<(), Error> {
+        Ok(())
+    }
+
+    fn close(&mut self) {
+        self.blobs.clear();
+        self.closed = true;
+    }
+
+    fn failures(&self) -> u64 {
+        0
+    }
+}

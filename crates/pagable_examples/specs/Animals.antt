@@ -1,0 +1,51 @@
+-- The tags of animals, and what stands under each.
+use Rattle.std.specs.Prelude.{refl, ℕ, List, [], ◌∷◌, cond}
+use Rattle.std.specs.Int.{w8}
+use Rattle.std.specs.Str.{bytes_eq}
+use Rattle.pagable_model.specs.declared.numbers.ArcRef.{ArcRef}
+use Rattle.pagable_model.specs.Carried.{of_tagged}
+use Rattle.pagable_model.specs.Meaning.{Meaning, none, number}
+use Rattle.pagable_model.specs.Shape.{Shape, nothing, unsigned}
+use Rattle.pagable_model.specs.Standing.{Is, SomeMeaning}
+use Rattle.pagable_model.specs.Tagged.{MeansTagged}
+use Rattle.pagable_examples.specs.declared.animal.Animal.{Animal}
+use Rattle.pagable_examples.specs.declared.animal.Animal.TheVariants as animals
+use Rattle.pagable_examples.specs.declared.animal.AnimalReader.{AnimalReader}
+use Rattle.pagable_examples.specs.declared.animal.AnimalReader.TheVariants as readers
+
+-- "Cat" and "Dog"
+abbrev pub cat : List ℕ
+cat = 67 ∷ 97 ∷ 116 ∷ []
+
+abbrev pub dog : List ℕ
+dog = 68 ∷ 111 ∷ 103 ∷ []
+
+abbrev pub tag_of : Animal → List ℕ
+tag_of animals.Cat = cat
+tag_of (animals.OldCat lives) = cat
+tag_of (animals.Dog age) = dog
+
+-- a dog's age is written, and nothing of a cat
+abbrev pub written : List ℕ → Shape
+written tag = cond (bytes_eq tag dog) (unsigned w8) nothing
+
+abbrev pub body_of : Animal → Meaning ArcRef
+body_of animals.Cat = none
+body_of (animals.OldCat lives) = number lives
+body_of (animals.Dog age) = number age
+
+abbrev pub animal_means : Animal → Meaning ArcRef → Type 0
+animal_means x = MeansTagged (tag_of x) (Is body_of x)
+
+pub animal_has_meaning : (x : Animal) → SomeMeaning (animal_means x)
+animal_has_meaning x = (of_tagged (tag_of x) (body_of x), record { body = body_of x; is_body = refl; is = refl })
+
+abbrev pub tag_read : AnimalReader → List ℕ
+tag_read readers.Cat = cat
+tag_read readers.OldCat = cat
+tag_read readers.Dog = dog
+
+abbrev pub grammar_of : AnimalReader → Shape
+grammar_of readers.Cat = nothing
+grammar_of readers.OldCat = unsigned w8
+grammar_of readers.Dog = unsigned w8

@@ -1,0 +1,26 @@
+-- What a sighting means: the animal, the place, and how many there were.
+use Rattle.std.specs.Prelude.{refl, ℕ, List}
+use Rattle.std.specs.Borrow.{Bor}
+use Rattle.pagable_model.specs.declared.numbers.ArcRef.{ArcRef}
+use Rattle.pagable_model.specs.Lifted.{MeansPair, pair_has_meaning}
+use Rattle.pagable_model.specs.Meaning.{Meaning, number, lifted}
+use Rattle.pagable_model.specs.Standing.{Is, SomeMeaning}
+use Rattle.pagable_registries.specs.declared.static_value.StaticValue.{StaticValue}
+use Rattle.pagable_examples.specs.Animals.{animal_means, animal_has_meaning}
+use Rattle.pagable_examples.specs.Words.{word}
+use Rattle.pagable_examples.specs.declared.sighting.Sighting.{Sighting}
+
+-- a place means its text, whatever its index
+abbrev pub place_of : StaticValue (Bor (List ℕ)) → Meaning ArcRef
+place_of p = lifted (word p.0.value)
+
+-- the place, and how many
+abbrev pub rest_means : StaticValue (Bor (List ℕ)) × ℕ → Meaning ArcRef → Type 0
+rest_means = MeansPair (Is place_of) (Is number)
+
+abbrev pub sighting_means : Sighting → Meaning ArcRef → Type 0
+sighting_means s = MeansPair animal_means rest_means (s.animal, (s.place, s.count))
+
+pub sighting_has_meaning : (s : Sighting) → SomeMeaning (sighting_means s)
+sighting_has_meaning s =
+    pair_has_meaning animal_means rest_means animal_has_meaning (pair_has_meaning (Is place_of) (Is number) (λ p. (place_of p, refl)) (λ n. (number n, refl))) (s.animal, (s.place, s.count))

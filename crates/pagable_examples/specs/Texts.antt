@@ -1,0 +1,23 @@
+-- What the nodes of texts mean, and how they are spelled.
+use Rattle.std.specs.Prelude.{◌≡◌, refl, ℕ, zero, suc, [], Option, Some, None}
+use Rattle.std.specs.Arc.{arc_value}
+use Rattle.std.specs.String.{string_bytes}
+use Rattle.pagable_model.specs.Meaning.{Meaning}
+use Rattle.pagable_model.specs.Meaning as meanings
+use Rattle.pagable_model.specs.References.{references_in, SameReferences}
+use Rattle.pagable_model.specs.Shape.{Shape, text}
+use Rattle.pagable_model.specs.declared.numbers.ArcRef.{ArcRef}
+use Rattle.pagable_examples.specs.declared.text.TextNode.{TextNode}
+
+-- the one type of texts has the number 0
+abbrev pub shape_of : ℕ → Option Shape
+shape_of zero = Some text
+shape_of (suc n) = None
+
+abbrev pub text_of : TextNode → Meaning ArcRef
+text_of n = meanings.text (string_bytes (arc_value n.0))
+
+-- a text refers to nothing
+pub texts_refer : (n : TextNode) (m : Meaning ArcRef) → m ≡ text_of n → SameReferences [] (references_in m)
+unfolding references_in
+texts_refer n m is test = rw is refl

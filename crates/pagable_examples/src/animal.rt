@@ -1,0 +1,151 @@
+//! Animals, which are written as a tag and a body, and the readers of the bodies.
+
+ghost use Rattle.std.specs.Prelude.{◌≡◌, refl};
+ghost use Rattle.pagable_model.specs.Carried.{tagged_by};
+ghost use Rattle.pagable_model.specs.Causes.{memory_or_is_own_reading, memory_or_may_refuse_writing, long_or_may_refuse_writing, never_is_own_reading};
+ghost use Rattle.pagable_model.specs.Gives.{memory_or, long_or, never};
+ghost use Rattle.pagable_model.specs.Standing.{Is};
+ghost use Rattle.pagable_model.specs.Statics.{unregistered, unregistered_may_refuse_writing};
+ghost use Rattle.pagable_model.specs.Tagged.{grammars};
+ghost use Rattle.pagable_examples.specs.Animals.{animal_means, animal_has_meaning, tag_of, written, body_of, tag_read, grammar_of};
+
+use crate::zoo::Zoo;
+use pagable::{
+    Carried, Error, ForTag, PagableDeserialize, PagableDeserializer, PagableSerialize,
+    PagableSerializer, PagableTagged, TagReader,
+};
+use pagable_registries::typetag::deserialize_tagged;
+use std::alloc::Global;
+
+/// An animal. Of a cat of old, its lives were written; it is read, and not written any more.
+#[derive(Debug, PartialEq, Drop)]
+pub enum Animal {
+    Cat,
+    /// So many lives.
+    OldCat(u8),
+    /// So many years old.
+    Dog(u8),
+}
+
+/// The readers of animals.
+#[derive(Clone, Copy, Debug, PartialEq)]
+pub enum AnimalReader {
+    Cat,
+    OldCat,
+    Dog,
+}
+
+impl AnimalReader {
+    /// The tag of the animals that it reads.
+    pub fn tag(self) -> &'static str
+        ensures { result.now ≡ tag_read self }
+    {
+        match self {
+            AnimalReader::Cat => "Cat",
+            AnimalReader::OldCat => "Cat",
+            AnimalReader::Dog => "Dog",
+        }
+    }
+}
+
+impl PagableTagged<Zoo> for Animal {
+    ghost tag = { tag_of };
+
+    ghost bodies = { λ e. written };
+
+    ghost body_means = { Is body_of };
+
+    ghost body_causes = { memory_or unregistered };
+
+    ghost body_has_meaning = { λ x. (body_of x, refl) };
+
+    ghost body_causes_may_refuse = { memory_or_may_refuse_writing unregistered unregistered_may_refuse_writing };
+
+    fn pagable_type_tag(&self) -> &'static str {
+        match self {
+            Animal::Cat => "Cat",
+            Animal::OldCat(_) => "Cat",
+            Animal::Dog(_) => "Dog",
+        }
+    }
+
+    /// Writes nothing of a cat, and a dog's age. A cat of old is refused with Unregistered.
+    #[tactic(auto, using(pagable_codec::proofs::Writing::parts))]
+    fn pagable_serialize_body<S: PagableSerializer<Zoo>>(
+        &self,
+        serializer: &mut S,
+    ) -> Result<(), Error> {
+        match self {
+            Animal::Cat => ().pagable_serialize(serializer),
+            Animal::OldCat(_) => Err(Error::Unregistered),
+            Animal::Dog(age) => age.pagable_serialize(serializer),
+        }
+    }
+}
+
+impl ForTag for AnimalReader {
+    ghost own_tag = { tag_read };
+}
+
+impl TagReader<Zoo, Animal> for AnimalReader {
+    ghost grammar = { λ r e. grammar_of r };
+
+    ghost read_causes = { never };
+
+    ghost read_causes_are_own = { never_is_own_reading };
+
+    fn read<D: PagableDeserializer<Zoo>>(
+        &self,
+        alloc: Global,
+        deserializer: &mut D,
+    ) -> Result<Animal, Error> {
+        match self {
+            AnimalReader::Cat => {
+                let () = PagableDeserialize::pagable_deserialize(alloc, deserializer)?;
+                Ok(Animal::Cat)
+            }
+            AnimalReader::OldCat => {
+                let lives = u8::pagable_deserialize(alloc, deserializer)?;
+                Ok(Animal::OldCat(lives))
+            }
+            AnimalReader::Dog => {
+                let age = u8::pagable_deserialize(alloc, deserializer)?;
+                Ok(Animal::Dog(age))
+            }
+        }
+    }
+}
+
+impl Carried<Zoo> for Animal {
+    ghost shape = { λ e. tagged_by written (grammars (λ r e. grammar_of r) e e.animals) };
+
+    ghost means = { animal_means };
+
+    ghost has_meaning = { animal_has_meaning };
+}
+
+impl PagableSerialize<Zoo> for Animal {
+    ghost write_causes = { long_or (memory_or (memory_or unregistered)) };
+
+    ghost write_causes_may_refuse = { long_or_may_refuse_writing (memory_or (memory_or unregistered)) (memory_or_may_refuse_writing (memory_or unregistered) (memory_or_may_refuse_writing unregistered unregistered_may_refuse_writing)) };
+
+    fn pagable_serialize<S: PagableSerializer<Zoo>>(
+        &self,
+        serializer: &mut S,
+    ) -> Result<(), Error> {
+        self.serialize_tagged(serializer)
+    }
+}
+
+impl<'de> PagableDeserialize<'de, Zoo> for Animal {
+    ghost read_causes = { memory_or never };
+
+    ghost read_causes_are_own = { memory_or_is_own_reading never never_is_own_reading };
+
+    fn pagable_deserialize<D: PagableDeserializer<Zoo>>(
+        alloc: Global,
+        deserializer: &mut D,
+    ) -> Result<Self, Error> {
+        deserialize_tagged(alloc, deserializer)
+    }
+}

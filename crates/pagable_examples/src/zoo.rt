@@ -1,0 +1,126 @@
+//! An environment with registries.
+
+ghost use Rattle.pagable_examples.specs.Words.{word, bytes_of, word_meets_equal, word_is_equal, word_refers_to_nothing, bytes_meet_equal, bytes_are_equal, bytes_refer_to_nothing};
+
+use crate::animal::{Animal, AnimalReader};
+use pagable::{
+    Env, Error, HasStaticValueRegistry, HasTypetagRegistry, StaticValueEntry, StaticValueRegistry,
+    TypetagRegistration, TypetagRegistry, WeighHash,
+};
+use std::alloc::{AllocError, Global};
+
+/// An environment without nodes, whose fields are its registries.
+#[derive(Drop)]
+pub struct Zoo {
+    pub words: StaticValueRegistry<&'static str>,
+    pub blobs: StaticValueRegistry<&'static [u8]>,
+    pub animals: TypetagRegistry<Animal, AnimalReader>,
+}
+
+/// The entries of these values. Their indices don't count yet.
+fn entries_of<T: Copy>(
+    alloc: Global,
+    values: &[T],
+) -> Result<Vec<StaticValueEntry<T>>, AllocError> {
+    let mut entries = Vec::new(alloc);
+    for value in values {
+        entries.push(StaticValueEntry {
+            value: *value,
+            index: 0,
+        })?;
+    }
+    Ok(entries)
+}
+
+/// A registration of each reader under its own tag, in their order.
+fn registrations_of(
+    alloc: Global,
+    readers: &[AnimalReader],
+) -> Result<Vec<TypetagRegistration<Animal, AnimalReader>>, AllocError> {
+    let mut registrations = Vec::new(alloc);
+    for reader in readers {
+        let tag = String::from_str(alloc, reader.tag())?;
+        registrations.push(TypetagRegistration::new(tag, *reader))?;
+    }
+    Ok(registrations)
+}
+
+impl Zoo {
+    /// An environment with these static texts and bytes, in which these readers are registered in their order. Refused by
+    /// want of memory, or with TooLong above 4,294,967,295 texts or lists of bytes.
+    pub fn new(
+        alloc: Global,
+        words: &[&'static str],
+        blobs: &[&'static [u8]],
+        readers: &[AnimalReader],
+    ) -> Result<Zoo, Error> {
+        let words = entries_of(alloc, words)?;
+        let blobs = entries_of(alloc, blobs)?;
+        let readers = registrations_of(alloc, readers)?;
+        Ok(Zoo {
+            words: StaticValueRegistry::from_entries(alloc, words)?,
+            blobs: StaticValueRegistry::from_entries(alloc, blobs)?,
+            animals: TypetagRegistry::from_registrations(readers),
+        })
+    }
+}
+
+/// No node.
+#[derive(Drop)]
+pub struct NoNode;
+
+impl Env for Zoo {
+    type Node = NoNode;
+
+    type Hash = WeighHash;
+
+    type CtxKey = ();
+
+    type CtxValue = ();
+
+    ghost use Rattle.pagable_model.specs.Shape.{nothing};
+
+    ghost parts = { λ e number. nothing };
+}
+
+impl HasStaticValueRegistry<Zoo> for &'static str {
+    ghost plain = { word };
+
+    ghost known = { λ e. e.words };
+
+    fn registry(env: &Zoo) -> &StaticValueRegistry<&'static str> {
+        &env.words
+    }
+
+    ghost same_meaning = { word_meets_equal };
+
+    ghost same_value = { word_is_equal };
+
+    ghost holds_no_reference = { word_refers_to_nothing };
+}
+
+impl HasStaticValueRegistry<Zoo> for &'static [u8] {
+    ghost plain = { bytes_of };
+
+    ghost known = { λ e. e.blobs };
+
+    fn registry(env: &Zoo) -> &StaticValueRegistry<&'static [u8]> {
+        &env.blobs
+    }
+
+    ghost same_meaning = { bytes_meet_equal };
+
+    ghost same_value = { bytes_are_equal };
+
+    ghost holds_no_reference = { bytes_refer_to_nothing };
+}
+
+impl HasTypetagRegistry<Zoo> for Animal {
+    type Reader = AnimalReader;
+
+    ghost readers = { λ e. e.animals };
+
+    fn typetag_registry(env: &Zoo) -> &TypetagRegistry<Animal, AnimalReader> {
+        &env.animals
+    }
+}

@@ -1,0 +1,342 @@
+-- A form goes along: where each reference is replaced by one of the same kind, the bytes are a form of what results.
+use Rattle.std.proofs.Common.{◌≡◌, ℕ, ℤ, Bool, true, false, List, [], ◌∷◌, ◌++◌, length, ◌⊎◌, inl, inr, refl, sym, ap, ◌∙◌, arith}
+use Rattle.std.specs.declared.cmp.Ordering.{Ordering}
+use Rattle.std.specs.declared.cmp.Ordering.TheVariants as answers
+use Rattle.std.specs.Ordering.{match_ordering, eq_by_cmp}
+use Rattle.std.proofs.lemmas.Map.Text.{is_eq-slice_cmp}
+use Rattle.pagable_model.specs.Meaning.{Meaning, number, integer, text, pattern, none, pair, variant, reference, followed, sequence, plain, lifted, rename}
+use Rattle.pagable_model.specs.Meaning as meanings
+use Rattle.pagable_model.specs.Keys.{Entry, KeyOrder, ordered, same_key, code, code_order, text_order, put_all, put_sorted, Apart, AllAfter, Ascends, ItemsAscend, Differ, ItemsDiffer}
+use Rattle.pagable_model.specs.Carried.{of_entries, of_hash_map}
+use Rattle.pagable_model.specs.Shape.{Shape}
+use Rattle.pagable_model.specs.Form.{Form, Forms, Entries}
+use Rattle.pagable_model.specs.Form.{nothing-form, unsigned-form, signed-form, flag-form, text-form, letter-form, duration-form, pattern-form, none-form, some-form, err-form, ok-form, list-form, run-form, array-form, both-form}
+use Rattle.pagable_model.specs.Form.{sorted-map-form, placed-map-form, hash-map-form, sorted-set-form, placed-set-form, static-form, tagged-form, case-form, reference-form, nested-form}
+use Rattle.pagable_model.specs.Form.{json-null-form, json-flag-form, json-number-form, json-text-form, json-array-form, json-object-form, no-forms, more-forms, no-entries, more-entries}
+use Rattle.pagable_laws.proofs.Putting.{After, AllAfterThose, after_none}
+use Rattle.pagable_model.specs.Canonical.{HasNoReference}
+
+-- the same meaning but for its references, which are as R says; references that are followed already stand in it only if F
+pub data Along {A B : Type 0} (F : Type 0) (R : A → B → Type 0) : Meaning A → Meaning B → Type 0 where
+  number-along : (n : ℕ) → Along F R (number n) (number n)
+  integer-along : (z : ℤ) → Along F R (integer z) (integer z)
+  text-along : (t : List ℕ) → Along F R (text t) (text t)
+  pattern-along : (t : List ℕ) → Along F R (pattern t) (pattern t)
+  none-along : Along F R none none
+  pair-along : (x y : Meaning A) (a b : Meaning B) → Along F R x a → Along F R y b → Along F R (pair x y) (pair a b)
+  variant-along : (n : ℕ) (x : Meaning A) (a : Meaning B) → Along F R x a → Along F R (variant n x) (variant n a)
+  reference-along : (a : A) (b : B) → R a b → Along F R (reference a) (reference b)
+  followed-along : (kind : ℕ) (x : Meaning A) (a : Meaning B) → F → Along F R x a → Along F R (followed kind x) (followed kind a)
+
+-- as many, and R of each two
+pub data AllTwo {X Y : Type 0} (R : X → Y → Type 0) : List X → List Y → Type 0 where
+  no-two : AllTwo R [] []
+  more-two : (x : X) (y : Y) (xs : List X) (ys : List Y) → R x y → AllTwo R xs ys → AllTwo R (x ∷ xs) (y ∷ ys)
+
+pub length-two : {X Y : Type 0} {R : X → Y → Type 0} {xs : List X} {ys : List Y} → AllTwo R xs ys → length xs ≡ length ys
+length-two no-two = refl
+length-two (more-two x y xs ys r h) = omega (arith, length-two h)
+
+pub append-two : {X Y : Type 0} {R : X → Y → Type 0} {xs us : List X} {ys vs : List Y} → AllTwo R xs ys → AllTwo R us vs → AllTwo R (xs ++ us) (ys ++ vs)
+append-two no-two g = g
+append-two (more-two x y xs ys r h) g = more-two x y _ _ r (append-two h g)
+
+-- a relation of items goes over to those that they are along with
+pub apart-two : {X Y : Type 0} {V : X → Y → Type 0} (R : X → X → Type 0) (S : Y → Y → Type 0) → ((x x2 : X) (y y2 : Y) → V x y → V x2 y2 → R x x2 → S y y2) → {xs : List X} {ys : List Y} → AllTwo V xs ys → Apart R xs → Apart S ys
+unfolding Apart AllAfter
+apart-two R S k no-two a = tt
+apart-two {X} {Y} {V} R S k (more-two x y xs ys v h) a = (each h a.0, apart-two R S k h a.1)
+  where
+    each : {us : List X} {vs : List Y} → AllTwo V us vs → AllAfter R x us → AllAfter S y vs
+    each no-two b = tt
+    each (more-two u w us vs p g) b = (k u x w y p v b.0, each g b.1)
+
+module _ {A B : Type 0} {F : Type 0} {R : A → B → Type 0} where
+  pub plain-along : {m : Meaning A} {n : Meaning B} → Along F R m n → plain m ≡ plain n
+  unfolding plain
+  plain-along (number-along n) = refl
+  plain-along (integer-along z) = refl
+  plain-along (text-along t) = refl
+  plain-along (pattern-along t) = refl
+  plain-along none-along = refl
+  plain-along (pair-along x y a b h g) = rw (plain-along h, plain-along g) refl
+  plain-along (variant-along n x a h) = rw (plain-along h) refl
+  plain-along (reference-along a b r) = refl
+  plain-along (followed-along kind x a f h) = rw (plain-along h) refl
+
+  pub lifted-along : (m : Meaning ⊥) → F ⊎ HasNoReference m → Along F R (lifted m) (lifted m)
+  unfolding rename HasNoReference
+  lifted-along (number n) h = number-along n
+  lifted-along (integer z) h = integer-along z
+  lifted-along (text t) h = text-along t
+  lifted-along (pattern t) h = pattern-along t
+  lifted-along none h = none-along
+  lifted-along (pair a b) (inl f) = pair-along _ _ _ _ (lifted-along a (inl f)) (lifted-along b (inl f))
+  lifted-along (pair a b) (inr h) = pair-along _ _ _ _ (lifted-along a (inr h.0)) (lifted-along b (inr h.1))
+  lifted-along (variant n a) (inl f) = variant-along _ _ _ (lifted-along a (inl f))
+  lifted-along (variant n a) (inr h) = variant-along _ _ _ (lifted-along a (inr h))
+  lifted-along (reference a) h = absurd a
+  lifted-along (followed kind a) (inl f) = followed-along _ _ _ f (lifted-along a (inl f))
+  lifted-along (followed kind a) (inr h) = absurd h
+
+-- entries whose keys and values are along
+pub record EntryAlong {A B : Type 0} (F : Type 0) (R : A → B → Type 0) (e : Entry A) (f : Entry B) : Type 0 where
+  pub key : Along F R e.0 f.0
+  pub value : Along F R e.1 f.1
+
+-- what a list of items is along with
+pub record Items {A B : Type 0} (F : Type 0) (R : A → B → Type 0) (ms : List (Meaning A)) (n : Meaning B) : Type 0 where
+  pub items : List (Meaning B)
+  pub each : AllTwo (Along F R) ms items
+  pub whole : n ≡ sequence items
+
+pub record EntriesAlong {A B : Type 0} (F : Type 0) (R : A → B → Type 0) (es : List (Entry A)) (n : Meaning B) : Type 0 where
+  pub entries : List (Entry B)
+  pub each : AllTwo (EntryAlong F R) es entries
+  pub whole : n ≡ of_entries entries
+
+module _ {A B : Type 0} {F : Type 0} {R : A → B → Type 0} where
+  pub sequence-along : (ms : List (Meaning A)) {n : Meaning B} → Along F R (sequence ms) n → Items F R ms n
+  sequence-along [] none-along = record { items = []; each = no-two; whole = refl }
+  sequence-along (m ∷ ms) (pair-along x y a b h g) =
+      let rest = sequence-along ms g in
+      record { items = a ∷ rest.items; each = more-two m a ms rest.items h rest.each; whole = ap (λ (z : Meaning B). pair a z) rest.whole }
+
+  pub entries-along : (es : List (Entry A)) {n : Meaning B} → Along F R (of_entries es) n → EntriesAlong F R es n
+  entries-along [] none-along = record { entries = []; each = no-two; whole = refl }
+  entries-along (e ∷ es) (pair-along x y a b (pair-along u v c d h k) g) =
+      let rest = entries-along es g in
+      record { entries = (c, d) ∷ rest.entries; each = more-two e (c, d) es rest.entries (record { key = h; value = k }) rest.each; whole = ap (λ (z : Meaning B). pair (pair c d) z) rest.whole }
+
+-- ---- a hash map's entries, put in order
+
+abbrev pub apart : {A : Type 0} → Entry A → Entry A → Type 0
+apart e f = same_key e.0 f.0 ≡ false
+
+not_equal : {A : Type 0} (a b : Meaning A) → same_key a b ≡ false → ordered code_order a b ≡ answers.Equal → ⊥
+not_equal a b h e =
+    let test : eq_by_cmp code_order (plain a) (plain b) ≡ true = rw e refl in
+    let same = is_eq-slice_cmp (code (plain a)) (code (plain b)) in
+    cc
+
+-- what differs from all that is there, and from what is put in, differs from all that is there then
+after_put : {A : Type 0} (x e : Entry A) (acc : List (Entry A)) → After apart x acc → apart x e → After apart x (put_sorted code_order acc e)
+unfolding After
+after_put x e [] h d = (d, tt)
+after_put {A} x e (f ∷ acc) h d = at (ordered code_order e.0 f.0) (after_put x e acc h.1 d)
+  where
+    at : (o : Ordering) → After apart x (put_sorted code_order acc e) → After apart x (match_ordering o (e ∷ f ∷ acc) ((f.0, e.1) ∷ acc) (f ∷ put_sorted code_order acc e))
+    at answers.Less rest = (d, h)
+    at answers.Equal rest = h
+    at answers.Greater rest = (h.0, rest)
+
+those_put : {A : Type 0} (e : Entry A) (acc es : List (Entry A)) → AllAfterThose apart acc es → AllAfter apart e es → AllAfterThose apart (put_sorted code_order acc e) es
+unfolding AllAfterThose AllAfter
+those_put e acc [] h d = tt
+those_put e acc (x ∷ es) h d = (after_put x e acc h.0 d.0, those_put e acc es h.1 d.1)
+
+-- entries that fs is along with, when one was put into them
+record Unput {A B : Type 0} (F : Type 0) (R : A → B → Type 0) (acc : List (Entry A)) (e : Entry A) (fs : List (Entry B)) : Type 0 where
+  before : List (Entry B)
+  entry : Entry B
+  each : AllTwo (EntryAlong F R) acc before
+  one : EntryAlong F R e entry
+  put : put_sorted code_order before entry ≡ fs
+
+-- and when several were put in, one after another
+record UnputAll {A B : Type 0} (F : Type 0) (R : A → B → Type 0) (acc es : List (Entry A)) (fs : List (Entry B)) : Type 0 where
+  before : List (Entry B)
+  entries : List (Entry B)
+  first : AllTwo (EntryAlong F R) acc before
+  each : AllTwo (EntryAlong F R) es entries
+  put : put_all (put_sorted code_order) before entries ≡ fs
+
+module _ {A B : Type 0} {F : Type 0} {R : A → B → Type 0} where
+  same_order : {e x : Entry A} {f y : Entry B} {o : Ordering} → EntryAlong F R e f → EntryAlong F R x y → ordered code_order e.0 x.0 ≡ o → ordered code_order f.0 y.0 ≡ o
+  same_order r s q = rw (← plain-along r.key, ← plain-along s.key) q
+
+  unput : (acc : List (Entry A)) (e : Entry A) {fs : List (Entry B)} → After apart e acc → AllTwo (EntryAlong F R) (put_sorted code_order acc e) fs → Unput F R acc e fs
+  unfolding After
+  unput [] e h (more-two x f xs ys r no-two) = record { before = []; entry = f; each = no-two; one = r; put = refl }
+  unput (x ∷ acc) e h a = at (λ gs g. unput acc e {fs = gs} h.1 g) (ordered code_order e.0 x.0) refl a
+    where
+      at : ((gs : List (Entry B)) → AllTwo (EntryAlong F R) (put_sorted code_order acc e) gs → Unput F R acc e gs) → (o : Ordering) → ordered code_order e.0 x.0 ≡ o → {fs : List (Entry B)} → AllTwo (EntryAlong F R) (match_ordering o (e ∷ x ∷ acc) ((x.0, e.1) ∷ acc) (x ∷ put_sorted code_order acc e)) fs → Unput F R (x ∷ acc) e fs
+      at back answers.Less q (more-two u f us vs r (more-two w y ws ys s g)) =
+          record { before = y ∷ ys; entry = f; each = more-two x y acc ys s g; one = r; put = rw (same_order r s q) refl }
+      at back answers.Equal q b = absurd (not_equal e.0 x.0 h.0 q)
+      at back answers.Greater q (more-two u y us ys s g) =
+          let rest = back ys g in
+          record { before = y ∷ rest.before; entry = rest.entry; each = more-two x y acc rest.before s rest.each; one = rest.one; put = rw (same_order rest.one s q) (ap (λ (z : List (Entry B)). y ∷ z) rest.put) }
+
+  unput_all : (es acc : List (Entry A)) {fs : List (Entry B)} → AllAfterThose apart acc es → Apart apart es → AllTwo (EntryAlong F R) (put_all (put_sorted code_order) acc es) fs → UnputAll F R acc es fs
+  unfolding AllAfterThose Apart put_all
+  unput_all [] acc {fs} h d a = record { before = fs; entries = []; first = a; each = no-two; put = refl }
+  unput_all (e ∷ es) acc h d a =
+      let rest = unput_all es (put_sorted code_order acc e) (those_put e acc es h.1 d.0) d.1 a in
+      let one = unput acc e h.0 rest.first in
+      record {
+        before = one.before;
+        entries = one.entry ∷ rest.entries;
+        first = one.each;
+        each = more-two e one.entry es rest.entries one.one rest.each;
+        put = ap (λ (z : List (Entry B)). put_all (put_sorted code_order) z rest.entries) one.put ∙ rest.put;
+      }
+
+-- what a hash map's meaning is along with
+pub record MapAlong {A B : Type 0} (F : Type 0) (R : A → B → Type 0) (es : List (Entry A)) (n : Meaning B) : Type 0 where
+  pub entries : List (Entry B)
+  pub each : AllTwo (EntryAlong F R) es entries
+  pub whole : n ≡ of_hash_map entries
+
+from_none : {A B : Type 0} {F : Type 0} {R : A → B → Type 0} {fs : List (Entry B)} (gs hs : List (Entry B)) → AllTwo (EntryAlong F R) [] fs → put_all (put_sorted code_order) fs gs ≡ hs → put_all (put_sorted code_order) [] gs ≡ hs
+from_none gs hs no-two p = p
+
+pub hash_map-along : {A B : Type 0} {F : Type 0} {R : A → B → Type 0} (es : List (Entry A)) {n : Meaning B} → Differ es → Along F R (of_hash_map es) n → MapAlong F R es n
+hash_map-along es d a =
+    let sorted = entries-along _ a in
+    let back = unput_all es [] (after_none apart es) d sorted.each in
+    record { entries = back.entries; each = back.each; whole = sorted.whole ∙ ap of_entries (sym (from_none back.entries sorted.entries back.first back.put)) }
+
+-- ---- forms
+
+-- a form of n of these bytes, over references that k goes along with
+pub record FormTo {A B : Type 0} (R : A → B → Type 0) (kind_of : B → ℕ) (parts : ℕ → Shape) (left : ℕ) (s : Shape) (n : Meaning B) (b : List ℕ) (k : List A) : Type 0 where
+  pub refs : List B
+  pub each : AllTwo R k refs
+  pub form : Form B kind_of parts left s n b refs
+
+pub record FormsTo {A B : Type 0} (R : A → B → Type 0) (kind_of : B → ℕ) (parts : ℕ → Shape) (left : ℕ) (s : Shape) (ns : List (Meaning B)) (b : List ℕ) (k : List A) : Type 0 where
+  pub refs : List B
+  pub each : AllTwo R k refs
+  pub form : Forms B kind_of parts left s ns b refs
+
+pub record EntriesTo {A B : Type 0} (R : A → B → Type 0) (kind_of : B → ℕ) (parts : ℕ → Shape) (left : ℕ) (s t : Shape) (fs : List (Entry B)) (b : List ℕ) (k : List A) : Type 0 where
+  pub refs : List B
+  pub each : AllTwo R k refs
+  pub form : Entries B kind_of parts left s t fs b refs
+
+to_nothing : {A B : Type 0} {R : A → B → Type 0} {kind_of : B → ℕ} {parts : ℕ → Shape} {left : ℕ} {s : Shape} {n : Meaning B} {b : List ℕ} → Form B kind_of parts left s n b [] → FormTo R kind_of parts left s n b []
+to_nothing f = record { refs = []; each = no-two; form = f }
+
+module _ {A B : Type 0} {F : Type 0} {R : A → B → Type 0} where
+  pub ascend-two : (order : KeyOrder) {es : List (Entry A)} {fs : List (Entry B)} → AllTwo (EntryAlong F R) es fs → Ascends order es → Ascends order fs
+  ascend-two order h a = apart-two _ _ (λ x x2 y y2 v w r. rw (← plain-along v.key, ← plain-along w.key) r) h a
+
+  pub differ-two : {es : List (Entry A)} {fs : List (Entry B)} → AllTwo (EntryAlong F R) es fs → Differ es → Differ fs
+  differ-two h a = apart-two _ _ (λ x x2 y y2 v w r. rw (← plain-along v.key, ← plain-along w.key) r) h a
+
+  pub items_ascend-two : (order : KeyOrder) {ms : List (Meaning A)} {ns : List (Meaning B)} → AllTwo (Along F R) ms ns → ItemsAscend order ms → ItemsAscend order ns
+  items_ascend-two order h a = apart-two {V = Along F R} _ _ (λ x x2 y y2 v w r. rw (← plain-along v, ← plain-along w) r) h a
+
+  pub items_differ-two : {ms : List (Meaning A)} {ns : List (Meaning B)} → AllTwo (Along F R) ms ns → ItemsDiffer ms → ItemsDiffer ns
+  items_differ-two h a = apart-two {V = Along F R} _ _ (λ x x2 y y2 v w r. rw (← plain-along v, ← plain-along w) r) h a
+
+  flag-along : (b : Bool) {n : Meaning B} → Along F R (meanings.flag b) n → n ≡ meanings.flag b
+  flag-along true (variant-along n x a none-along) = refl
+  flag-along false (variant-along n x a none-along) = refl
+
+  lifted-same : (m : Meaning ⊥) {n : Meaning B} → Along F R (lifted m) n → n ≡ lifted m
+  unfolding rename
+  lifted-same (number n) (number-along x) = refl
+  lifted-same (integer z) (integer-along x) = refl
+  lifted-same (text t) (text-along x) = refl
+  lifted-same (pattern t) (pattern-along x) = refl
+  lifted-same none none-along = refl
+  lifted-same (pair a b) (pair-along x y c d h g) = rw (lifted-same a h, lifted-same b g) refl
+  lifted-same (variant n a) (variant-along k x c h) = rw (lifted-same a h) refl
+  lifted-same (reference a) h = absurd a
+  lifted-same (followed kind a) (followed-along k x c f h) = rw (lifted-same a h) refl
+
+module _ {A B : Type 0} {F : Type 0} {R : A → B → Type 0} {kind_of : A → ℕ} {kind_of2 : B → ℕ} {parts : ℕ → Shape} (kinds : (a : A) (b : B) → R a b → kind_of2 b ≡ kind_of a) where
+  mutual
+    pub form-along : {left : ℕ} {s : Shape} {m : Meaning A} {n : Meaning B} {b : List ℕ} {k : List A} → Form A kind_of parts left s m b k → Along F R m n → FormTo R kind_of2 parts left s n b k
+    form-along (nothing-form left) none-along = to_nothing (nothing-form left)
+    form-along (unsigned-form left w n h) (number-along x) = to_nothing (unsigned-form left w n h)
+    form-along (signed-form left w z h) (integer-along x) = to_nothing (signed-form left w z h)
+    form-along (flag-form left b) a = rw (flag-along b a) (to_nothing (flag-form left b))
+    form-along (text-form left t u h) (text-along x) = to_nothing (text-form left t u h)
+    form-along (letter-form left c u) (number-along x) = to_nothing (letter-form left c u)
+    form-along (duration-form left seconds nanos h l) (pair-along x y a b (number-along i) (number-along j)) = to_nothing (duration-form left seconds nanos h l)
+    form-along (pattern-form left t u h) (pattern-along x) = to_nothing (pattern-form left t u h)
+    form-along (none-form left s) (variant-along n x a none-along) = to_nothing (none-form left s)
+    form-along (some-form left s m b k h) (variant-along n x y a) = let p = form-along h a in record { refs = p.refs; each = p.each; form = some-form left s y b p.refs p.form }
+    form-along (err-form left s t m b k h) (variant-along n x y a) = let p = form-along h a in record { refs = p.refs; each = p.each; form = err-form left s t y b p.refs p.form }
+    form-along (ok-form left s t m b k h) (variant-along n x y a) = let p = form-along h a in record { refs = p.refs; each = p.each; form = ok-form left s t y b p.refs p.form }
+    form-along (list-form left s ms b k le h) a =
+        let q = sequence-along ms a in
+        let p = forms-along h q.each in
+        let long = length-two q.each in
+        rw (q.whole, long) (record { refs = p.refs; each = p.each; form = list-form left s q.items b p.refs (rw long at le) p.form })
+    form-along (run-form left s ms b k le h) a =
+        let q = sequence-along ms a in
+        let p = forms-along h q.each in
+        rw q.whole (record { refs = p.refs; each = p.each; form = run-form left s q.items b p.refs (rw (length-two q.each) at le) p.form })
+    form-along (array-form left n s ms b k e h) a =
+        let q = sequence-along ms a in
+        let p = forms-along h q.each in
+        rw q.whole (record { refs = p.refs; each = p.each; form = array-form left n s q.items b p.refs (sym (length-two q.each) ∙ e) p.form })
+    form-along (both-form left s t m n b c k l h g) (pair-along x y u v a d) =
+        let p = form-along h a in
+        let q = form-along g d in
+        record { refs = p.refs ++ q.refs; each = append-two p.each q.each; form = both-form left s t u v b c p.refs q.refs p.form q.form }
+    form-along (sorted-map-form left o s t es b k le up h) a =
+        let q = entries-along es a in
+        let p = entries_form-along h q.each in
+        let long = length-two q.each in
+        rw (q.whole, long) (record { refs = p.refs; each = p.each; form = sorted-map-form left o s t q.entries b p.refs (rw long at le) (ascend-two o q.each up) p.form })
+    form-along (placed-map-form left s t es b k le up h) a =
+        let q = entries-along es a in
+        let p = entries_form-along h q.each in
+        let long = length-two q.each in
+        rw (q.whole, long) (record { refs = p.refs; each = p.each; form = placed-map-form left s t q.entries b p.refs (rw long at le) (differ-two q.each up) p.form })
+    form-along (hash-map-form left s t es b k le up h) a =
+        let q = hash_map-along es up a in
+        let p = entries_form-along h q.each in
+        let long = length-two q.each in
+        rw (q.whole, long) (record { refs = p.refs; each = p.each; form = hash-map-form left s t q.entries b p.refs (rw long at le) (differ-two q.each up) p.form })
+    form-along (sorted-set-form left o s ms b k le up h) a =
+        let q = sequence-along ms a in
+        let p = forms-along h q.each in
+        let long = length-two q.each in
+        rw (q.whole, long) (record { refs = p.refs; each = p.each; form = sorted-set-form left o s q.items b p.refs (rw long at le) (items_ascend-two o q.each up) p.form })
+    form-along (placed-set-form left s ms b k le up h) a =
+        let q = sequence-along ms a in
+        let p = forms-along h q.each in
+        let long = length-two q.each in
+        rw (q.whole, long) (record { refs = p.refs; each = p.each; form = placed-set-form left s q.items b p.refs (rw long at le) (items_differ-two q.each up) p.form })
+    form-along (static-form left registry i m lt e) a = rw (lifted-same m a) (to_nothing (static-form left registry i m lt e))
+    form-along (tagged-form left written known body tag m b k u le h) (pair-along x y c d (text-along t) a) =
+        let p = form-along h a in record { refs = p.refs; each = p.each; form = tagged-form left written known body tag d b p.refs u le p.form }
+    form-along (case-form left w known part n m b k lt is h) (variant-along i x y a) =
+        let p = form-along h a in record { refs = p.refs; each = p.each; form = case-form left w known part n y b p.refs lt is p.form }
+    form-along (reference-form left kind x e) (reference-along x2 y r) = record { refs = y ∷ []; each = more-two x y [] [] r no-two; form = reference-form left kind y (kinds x y r ∙ e) }
+    form-along (nested-form left less n m b k e h) a = let p = form-along h a in record { refs = p.refs; each = p.each; form = nested-form left less n _ b p.refs e p.form }
+    form-along (json-null-form left) (variant-along n x a none-along) = to_nothing (json-null-form left)
+    form-along (json-flag-form left b) (variant-along n x y a) = rw (flag-along b a) (to_nothing (json-flag-form left b))
+    form-along (json-number-form left z h) (variant-along n x y (integer-along i)) = to_nothing (json-number-form left z h)
+    form-along (json-text-form left t u h) (variant-along n x y (text-along i)) = to_nothing (json-text-form left t u h)
+    form-along (json-array-form left less ms b k e le h) (variant-along n x y a) =
+        let q = sequence-along ms a in
+        let p = forms-along h q.each in
+        let long = length-two q.each in
+        rw (q.whole, long) (record { refs = p.refs; each = p.each; form = json-array-form left less q.items b p.refs e (rw long at le) p.form })
+    form-along (json-object-form left less es b k e le up h) (variant-along n x y a) =
+        let q = entries-along es a in
+        let p = entries_form-along h q.each in
+        let long = length-two q.each in
+        rw (q.whole, long) (record { refs = p.refs; each = p.each; form = json-object-form left less q.entries b p.refs e (rw long at le) (ascend-two text_order q.each up) p.form })
+
+    pub forms-along : {left : ℕ} {s : Shape} {ms : List (Meaning A)} {ns : List (Meaning B)} {b : List ℕ} {k : List A} → Forms A kind_of parts left s ms b k → AllTwo (Along F R) ms ns → FormsTo R kind_of2 parts left s ns b k
+    forms-along (no-forms left s) no-two = record { refs = []; each = no-two; form = no-forms left s }
+    forms-along (more-forms left s m ms b c k l h g) (more-two x y xs ys a d) =
+        let p = form-along h a in
+        let q = forms-along g d in
+        record { refs = p.refs ++ q.refs; each = append-two p.each q.each; form = more-forms left s y ys b c p.refs q.refs p.form q.form }
+
+    pub entries_form-along : {left : ℕ} {s t : Shape} {es : List (Entry A)} {fs : List (Entry B)} {b : List ℕ} {k : List A} → Entries A kind_of parts left s t es b k → AllTwo (EntryAlong F R) es fs → EntriesTo R kind_of2 parts left s t fs b k
+    entries_form-along (no-entries left s t) no-two = record { refs = []; each = no-two; form = no-entries left s t }
+    entries_form-along (more-entries left s t m n es b c d j k l h g f) (more-two x y xs ys a i) =
+        let p = form-along h a.key in
+        let q = form-along g a.value in
+        let r = entries_form-along f i in
+        record { refs = p.refs ++ (q.refs ++ r.refs); each = append-two p.each (append-two q.each r.each); form = more-entries left s t y.0 y.1 ys b c d p.refs q.refs r.refs p.form q.form r.form }

@@ -1,0 +1,25 @@
+-- JSON numbers that have no form.
+use Rattle.std.proofs.Common.{◌≡◌, ℕ, ℤ, List, refl, subst}
+use Rattle.std.specs.Int.{w64}
+use Rattle.std.specs.Float.Ieee.{Float}
+use Rattle.pagable_model.specs.Numbers.{IsSigned}
+use Rattle.pagable_model.specs.Meaning.{Meaning}
+use Rattle.pagable_model.specs.Shape.{Shape, json}
+use Rattle.pagable_model.specs.Form.{Form, json-number-form}
+use Rattle.pagable_model.specs.Json.{whole, float, of_json}
+use Rattle.pagable_laws.specs.JsonLaws.{FloatHasNoForm, WholeIsBounded}
+
+module _ {A : Type 0} {kind_of : A → ℕ} {parts : ℕ → Shape} where
+  no-float : (x : Float) {left : ℕ} {m : Meaning A} {b : List ℕ} {k : List A} → Form A kind_of parts left json m b k → m ≡ of_json (float x) → ⊥
+  no-float x (json-number-form left z h) e = cc
+  no-float x f e = cc
+
+  bounded : (z : ℤ) {left : ℕ} {m : Meaning A} {b : List ℕ} {k : List A} → Form A kind_of parts left json m b k → m ≡ of_json (whole z) → IsSigned w64 z
+  bounded z (json-number-form left y h) e = let same : y ≡ z = cc in subst (IsSigned w64) same h
+  bounded z f e = absurd cc
+
+pub float_none : {A : Type 0} → FloatHasNoForm A
+float_none kind_of parts left x b k f = no-float x f refl
+
+pub whole_bounded : {A : Type 0} → WholeIsBounded A
+whole_bounded kind_of parts left z b k f = bounded z f refl

@@ -1,0 +1,77 @@
+-- Sums over the elements of a list, and what they count.
+use Rattle.std.proofs.Common.{◌≡◌, ℕ, suc, zero, ◌+◌, ◌<◌, ◌≤◌, ◌==◌, Bool, true, false, List, [], ◌∷◌, sum_by, cond, refl, ap, ◌∙◌, arith}
+use Rattle.std.specs.Prelude.{filter, length}
+use Rattle.std.proofs.lemmas.Bool.Decides.{nat_tests}
+use Rattle.std.proofs.lemmas.List.Sums.{sum_by-cons}
+use Rattle.pagable_world.specs.State.{one}
+use Rattle.pagable_world.specs.Words.{Among, times}
+use Rattle.pagable_laws.specs.FallLaws.{PinsAreAFilter}
+
+-- a number is itself by the test too
+pub self-number : (a : ℕ) → (a == a) ≡ true
+self-number a = grind (arith, nat_tests)
+
+-- what counts is true
+pub one-true : (b : Bool) → 0 < one b → b ≡ true
+one-true true p = refl
+one-true false p = absurd (omega arith)
+
+-- one element counts once at most
+pub one-small : (b : Bool) → one b ≤ 1
+one-small true = omega arith
+one-small false = omega arith
+
+-- smaller at each element, so in sum
+pub sum-le : {X : Type 0} (f g : X → ℕ) (xs : List X) → ((x : X) → Among xs x → f x ≤ g x) → sum_by f xs ≤ sum_by g xs
+sum-le f g [] h = omega arith
+sum-le f g (x ∷ xs) h =
+    let a : f x ≤ g x = h x (zero, refl) in
+    let b = sum-le f g xs (λ y among. h y (suc among.0, among.1)) in
+    let c = sum_by-cons f x xs in let d = sum_by-cons g x xs in omega arith
+
+-- each element is part of the sum
+pub at-most-sum : {X : Type 0} (f : X → ℕ) (xs : List X) (x : X) → Among xs x → f x ≤ sum_by f xs
+at-most-sum f [] x among = absurd (cc)
+at-most-sum f (y ∷ ys) x (zero, is) =
+    let e : y ≡ x = cc in
+    let a : f y ≡ f x = ap f e in
+    let c = sum_by-cons f y ys in omega arith
+at-most-sum f (y ∷ ys) x (suc i, is) =
+    let b = at-most-sum f ys x (i, is) in
+    let c = sum_by-cons f y ys in omega arith
+
+-- a sum is the one of two functions
+pub sum-plus : {X : Type 0} (f g : X → ℕ) (xs : List X) → sum_by (λ x. f x + g x) xs ≡ sum_by f xs + sum_by g xs
+sum-plus f g [] = refl
+sum-plus f g (x ∷ xs) =
+    let b = sum-plus f g xs in
+    let c = sum_by-cons f x xs in let d = sum_by-cons g x xs in let e = sum_by-cons (λ y. f y + g y) x xs in omega arith
+
+zeros : {X : Type 0} (xs : List X) → sum_by (λ (x : X). 0) xs ≡ 0
+zeros [] = refl
+zeros {X} (x ∷ xs) = let a = zeros xs in let b = sum_by-cons (λ (y : X). 0) x xs in omega arith
+
+-- zero at each element
+pub sum-zero : {X : Type 0} (f : X → ℕ) (xs : List X) → ((x : X) → Among xs x → f x ≡ 0) → sum_by f xs ≡ 0
+sum-zero {X} f xs h = let a = sum-le f (λ (x : X). 0) xs (λ x among. let b = h x among in omega arith) in let b = zeros xs in omega arith
+
+pick : {X : Type 0} (f : X → ℕ) (x : X) (xs : List X) (n : ℕ) → f x ≡ n → (f x ≡ 0 → (y : X) × Among xs y × (0 < f y)) → (y : X) × Among (x ∷ xs) y × (0 < f y)
+pick f x xs zero e rest = let r = rest e in (r.0, (suc r.1.0, r.1.1), r.2)
+pick f x xs (suc n) e rest = (x, (zero, refl), omega arith)
+
+-- a sum above zero has an element that counts
+pub counted : {X : Type 0} (f : X → ℕ) (xs : List X) → 0 < sum_by f xs → (x : X) × Among xs x × (0 < f x)
+counted f [] some = absurd (omega arith)
+counted f (x ∷ xs) some = pick f x xs (f x) refl (λ z. let c = sum_by-cons f x xs in counted f xs (omega arith))
+
+length-cond : {X : Type 0} (b : Bool) (x : X) (ys : List X) → one b + length ys ≡ length (cond b (x ∷ ys) ys)
+length-cond {X} true x ys = omega arith
+length-cond {X} false x ys = omega arith
+
+-- how many pass is the length of what passes
+times-filter : {X : Type 0} (test : X → Bool) (xs : List X) → times test xs ≡ length (filter test xs)
+times-filter test [] = refl
+times-filter test (x ∷ xs) = sum_by-cons (λ y. one (test y)) x xs ∙ (ap (λ n. one (test x) + n) (times-filter test xs) ∙ length-cond (test x) x (filter test xs))
+
+pub pins_filter : PinsAreAFilter
+pins_filter n rows = times-filter _ rows

@@ -1,0 +1,68 @@
+-- Whole numbers are read again.
+use Rattle.std.proofs.Common.{◌≡◌, ℕ, zero, suc, ◌+◌, ◌-◌, ◌*◌, ◌/◌, ◌%◌, ◌^◌, ◌<◌, refl, arith, Ok, inl, inr, List, ◌++◌, ℤ, pos, negsuc}
+use Rattle.std.proofs.lemmas.Bool.{cases_lt, le-ltb, lt-ltb, le-leb}
+use Rattle.std.specs.Int.{Width, w8, w16, w32, w64, w128}
+use Rattle.pagable_model.specs.Numbers.{varint, varint_at, varint_limit, bound, unsigned_form, unsigned_at, signed_byte, from_signed_byte, unsigned_of, signed_from, IsSigned, signed_form, signed_at}
+use Rattle.pagable_model.specs.Codes.{zigzag-again}
+
+-- what is written is read again, whatever follows
+pub varint-again : (more last n : ℕ) (rest : List ℕ) → n < varint_limit more last → last < 128 → varint_at more last (varint more n ++ rest) ≡ Ok (n, rest)
+unfolding varint_limit varint varint_at
+varint-again zero last n rest h l = rw (le-leb n last (omega arith)) refl
+varint-again (suc more) last n rest h l = elim (cases_lt n 128) [
+  | inl lt ↦ rw (lt-ltb n 128 lt, lt-ltb n 128 lt) refl
+  | inr le ↦ rw (le-ltb n 128 le, le-ltb (128 + n % 128) 128 (omega arith), varint-again more last (n / 128) rest (omega arith) l)
+      (let e : 128 + n % 128 - 128 + 128 * (n / 128) ≡ n = omega arith in rw e refl)
+]
+
+limit-16 : varint_limit 2 3 ≡ 65536
+unfolding varint_limit
+limit-16 = refl
+
+limit-32 : varint_limit 4 15 ≡ 2 ^ 32
+unfolding varint_limit
+limit-32 = refl
+
+limit-64 : varint_limit 9 1 ≡ 2 ^ 64
+unfolding varint_limit
+limit-64 = refl
+
+limit-128 : varint_limit 18 3 ≡ 2 ^ 128
+unfolding varint_limit
+limit-128 = refl
+
+pub unsigned-again : (w : Width) (n : ℕ) (rest : List ℕ) → n < bound w → unsigned_at w (unsigned_form w n ++ rest) ≡ Ok (n, rest)
+unsigned-again w8 n rest h = refl
+unsigned-again w16 n rest h = varint-again 2 3 n rest (omega (arith, limit-16)) (omega arith)
+unsigned-again w32 n rest h = varint-again 4 15 n rest (omega (arith, limit-32)) (omega arith)
+unsigned-again w64 n rest h = varint-again 9 1 n rest (omega (arith, limit-64)) (omega arith)
+unsigned-again w128 n rest h = varint-again 18 3 n rest (omega (arith, limit-128)) (omega arith)
+
+byte-again : (z : ℤ) → IsSigned w8 z → from_signed_byte (signed_byte z) ≡ z
+byte-again (pos n) h = rw (lt-ltb n 128 (omega arith)) refl
+byte-again (negsuc n) h =
+    let back : 255 - (255 - n) ≡ n = omega arith in
+    rw (le-ltb (255 - n) 128 (omega arith), back) refl
+
+-- a number with a sign is one without, and back
+pub signed-back : (w : Width) (z : ℤ) → IsSigned w z → signed_from w (unsigned_of w z) ≡ z
+signed-back w8 z h = byte-again z h
+signed-back w16 z h = zigzag-again z
+signed-back w32 z h = zigzag-again z
+signed-back w64 z h = zigzag-again z
+signed-back w128 z h = zigzag-again z
+
+pub signed-bound : (w : Width) (z : ℤ) → IsSigned w z → unsigned_of w z < bound w
+signed-bound w8 (pos n) h = omega arith
+signed-bound w8 (negsuc n) h = omega arith
+signed-bound w16 (pos n) h = omega arith
+signed-bound w16 (negsuc n) h = omega arith
+signed-bound w32 (pos n) h = omega arith
+signed-bound w32 (negsuc n) h = omega arith
+signed-bound w64 (pos n) h = omega arith
+signed-bound w64 (negsuc n) h = omega arith
+signed-bound w128 (pos n) h = omega arith
+signed-bound w128 (negsuc n) h = omega arith
+
+pub signed-again : (w : Width) (z : ℤ) (rest : List ℕ) → IsSigned w z → signed_at w (signed_form w z ++ rest) ≡ Ok (z, rest)
+signed-again w z rest h = rw (unsigned-again w (unsigned_of w z) rest (signed-bound w z h), signed-back w z h) refl

@@ -1,0 +1,5 @@
+use Rattle.pagable_laws.proofs.Inside.{canonical_inside}
+use Rattle.pagable_laws.proofs.values.is_canonical_inside.Goals as goal
+
+pub returns : goal.returns
+returns c = canonical_inside

@@ -1,0 +1,15 @@
+-- The laws of JSON values.
+use Rattle.std.specs.Prelude.{ℕ, ℤ, List}
+use Rattle.std.specs.Float.Ieee.{Float}
+use Rattle.pagable_model.specs.Numbers.{IsSigned}
+use Rattle.std.specs.Int.{w64}
+use Rattle.pagable_model.specs.Shape.{Shape, json}
+use Rattle.pagable_model.specs.Form.{Form}
+use Rattle.pagable_model.specs.Json.{whole, float, of_json}
+
+-- A float has no form, and a whole number has none outside 64 bits with a sign.
+abbrev pub FloatHasNoForm : Type 0 → Type 0
+FloatHasNoForm A = (kind_of : A → ℕ) (parts : ℕ → Shape) (left : ℕ) (x : Float) (b : List ℕ) (k : List A) → Form A kind_of parts left json (of_json (float x)) b k → ⊥
+
+abbrev pub WholeIsBounded : Type 0 → Type 0
+WholeIsBounded A = (kind_of : A → ℕ) (parts : ℕ → Shape) (left : ℕ) (z : ℤ) (b : List ℕ) (k : List A) → Form A kind_of parts left json (of_json (whole z)) b k → IsSigned w64 z

@@ -1,0 +1,8 @@
+//! The laws of the definitions of values and of the pager's world: each is the contract of a function that does nothing.
+//! No library of the product stands on this one.
+#![tactic(auto)]
+
+pub mod refused;
+pub mod values;
+pub mod worked;
+pub mod world;

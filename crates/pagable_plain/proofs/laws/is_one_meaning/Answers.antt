@@ -1,5 +1,0 @@
-use Rattle.pagable_model.specs.Codes.{one-meaning}
-use Rattle.pagable_plain.proofs.laws.is_one_meaning.Goals as goal
-
-pub returns : goal.returns
-returns c = one-meaning

@@ -1,2 +1,0 @@
-pub mod Refusing
-pub mod Nesting

@@ -1,4 +1,0 @@
-pub mod Texts
-pub mod Counting
-pub mod Failing
-pub mod Cells

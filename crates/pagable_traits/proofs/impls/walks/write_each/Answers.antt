@@ -1,0 +1,45 @@
+use Rattle.std.proofs.Common.{refl, ◌∙◌}
+use Rattle.std.proofs.lemmas.Result.{err_from_is_err_and}
+use Rattle.pagable_model.specs.Writing.{nesting}
+use Rattle.pagable_codec.proofs.Writing.{grows_trans}
+use Rattle.pagable_traits.proofs.Items.{writes_no_items, grows_some_all}
+use Rattle.pagable_traits.proofs.Maps.{writes-next}
+use Rattle.pagable_traits.proofs.impls.walks.write_each.Goals as goal
+
+pub loop-item-init : goal.loop-item-init
+loop-item-init g c = record { ok = writes_no_items _ _ _ _; same_env = refl; same_levels = refl }
+
+pub loop-item-preserved : goal.loop-item-preserved
+loop-item-preserved g c =
+    let env = g.S.PagableSerializer.environment c.args.serializer.now in
+    let n = nesting (g.S.PagableSerializer.levels c.args.serializer.now) (g.E.Env.parts env) in
+    let i = c.loop-item.invariant in
+    let wrote = c.in_ok-pagable_serialize.ensures in
+    record {
+      ok = writes-next g.T.Carried.means _ _ n (g.T.Carried.shape env) _ _ _ i.ok (rw (i.same_levels, i.same_env) at wrote.ok);
+      same_env = wrote.same_env ∙ i.same_env;
+      same_levels = wrote.same_levels ∙ i.same_levels;
+    }
+
+pub returns-in_err-pagable_serialize-clause-refused : goal.returns-in_err-pagable_serialize-clause-refused
+returns-in_err-pagable_serialize-clause-refused g c =
+    let p = err_from_is_err_and c.from_residual.result c.from_residual.ensures.1 in
+    let i = c.loop-item.invariant in
+    rw (p.1, p.2) (record {
+      before = c.loop-item.yielded;
+      x = c.in-Some.item;
+      after = c.next.new.self;
+      yields = (c.loop-item.item-iterator, rw c.into_iter-item-iterator.ensures.into_iter_gives at c.loop-item.yielded_by, c.in-Some.ensures.steps);
+      refused = rw (i.same_levels, i.same_env) at c.in_err-pagable_serialize.ensures.refused;
+    })
+
+pub returns-in_err-pagable_serialize-clause-err : goal.returns-in_err-pagable_serialize-clause-err
+returns-in_err-pagable_serialize-clause-err g c = grows_trans _ _ _ (grows_some_all _ _ _ _ _ c.loop-item.invariant.ok) c.in_err-pagable_serialize.ensures.err
+
+pub returns-clause-ok : goal.returns-clause-ok
+returns-clause-ok g c =
+    let by = rw c.into_iter-item-iterator.ensures.into_iter_gives at c.loop-item.yielded_by in
+    record { xs = c.loop-item.yielded; all = (c.next.new.self, (c.loop-item.item-iterator, by, c.in-None.ensures.steps)); wrote = c.loop-item.invariant.ok }
+
+pub returns-clause-err : goal.returns-clause-err
+returns-clause-err g c = grows_some_all _ _ _ _ _ c.loop-item.invariant.ok

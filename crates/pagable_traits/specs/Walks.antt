@@ -1,0 +1,34 @@
+-- What writing each item that a walk yields owes, where next says what the walk gives from one state to the other.
+use Rattle.std.specs.Prelude.{ℕ, ◌≤◌, List, [], Option, Some, ◌⊎◌}
+use Rattle.std.specs.Iterator.{YieldsThen, Drains}
+use Rattle.pagable_model.specs.declared.error.Error.{Error}
+use Rattle.pagable_model.specs.declared.numbers.ArcRef.{ArcRef}
+use Rattle.pagable_model.specs.Basic.{length_form, longest}
+use Rattle.pagable_model.specs.Lengths.{long_or_memory}
+use Rattle.pagable_model.specs.Lifted.{MeanAll}
+use Rattle.pagable_model.specs.Meaning.{Meaning}
+use Rattle.pagable_model.specs.Shape.{Shape}
+use Rattle.pagable_model.specs.Writing.{Out, Nesting, WritesSomeAll, Refused, added}
+
+-- these items were yielded, and then no more, and each was written
+pub record WritesEach {W T : Type 0} (next : W → Option T → W → Type 0) (M : T → Meaning ArcRef → Type 0) (walk : W) (n : Nesting) (s : Shape) (old new : Out) : Type 0 where
+  pub xs : List T
+  pub all : Drains next walk xs
+  pub wrote : WritesSomeAll (MeanAll M xs) n s old new
+
+-- the same after their count
+pub record WritesCounted {W T : Type 0} (next : W → Option T → W → Type 0) (M : T → Meaning ArcRef → Type 0) (walk : W) (count : ℕ) (n : Nesting) (s : Shape) (old new : Out) : Type 0 where
+  pub within : count ≤ longest
+  pub each : WritesEach next M walk n s (added old (length_form count) []) new
+
+-- an item is refused that was yielded after these
+pub record RefusedAmong {W T : Type 0} (next : W → Option T → W → Type 0) (M : T → Meaning ArcRef → Type 0) (walk : W) (n : Nesting) (s : Shape) (e : Error) : Type 0 where
+  pub before : List T
+  pub x : T
+  pub after : W
+  pub yields : YieldsThen next walk before (Some x) after
+  pub refused : Refused (M x) n s e
+
+-- the count is refused, or an item
+abbrev pub RefusedCounted : {W T : Type 0} → (W → Option T → W → Type 0) → (T → Meaning ArcRef → Type 0) → W → ℕ → Nesting → Shape → Error → Type 0
+RefusedCounted next M walk count n s e = long_or_memory count e ⊎ RefusedAmong next M walk n s e

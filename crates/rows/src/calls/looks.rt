@@ -1,0 +1,42 @@
+//! Looks at a pager, which change nothing.
+
+use crate::calls::CellPager;
+use pagable::{Error, HandleNumber, OptionalDataKey};
+use std::alloc::Global;
+
+/// The number of a key, or 0 for none.
+fn number(key: OptionalDataKey) -> u128 {
+    match key {
+        OptionalDataKey::None => 0,
+        OptionalDataKey::Some(key) => key.get(),
+    }
+}
+
+/// Adds a live handle: its number, its node, the node's count and key, whether the value is in memory, and the value.
+fn push(
+    alloc: Global,
+    text: &mut String,
+    pager: &CellPager,
+    handle: HandleNumber,
+) -> Result<(), Error> {
+    let node = pager.node_of(handle)?.0;
+    let count = pager.count(handle)?;
+    let key = number(pager.key(handle)?);
+    let is_away = pager.is_paged_out(handle)?;
+    let place = if is_away { "away" } else { "here" };
+    text.push_str(format!(in alloc; "; {}: {node} {count} {key} {place}", handle.0)?.as_str())?;
+    if let Some(value) = pager.value(handle)? {
+        text.push_str(" = ")?;
+        text.push_str(value.as_str())?;
+    }
+    Ok(())
+}
+
+/// How long the list is, and each live handle from 1 up to this number.
+pub fn look(alloc: Global, pager: &CellPager, last: u64) -> anyhow::Result<String> {
+    let mut text = format!(in alloc; "pending {}", pager.pending())?;
+    for number in 1..=last {
+        let _ = push(alloc, &mut text, pager, HandleNumber(number));
+    }
+    Ok(text)
+}

@@ -1,0 +1,101 @@
+//! A line of values, and its answer.
+
+use crate::carried::{AnyEnv, written};
+use crate::{blobs, drawn, types};
+use serde_json::Value;
+use std::alloc::{AllocError, Global};
+
+/// These bytes so often.
+fn repeated(alloc: Global, hex: &str, times: &str) -> anyhow::Result<Vec<u8>> {
+    let once = hex::decode(alloc, hex)?;
+    let mut bytes = Vec::new(alloc);
+    for _ in 0..times.parse::<u32>()? {
+        bytes.extend_from_slice(once.as_slice())?;
+    }
+    Ok(bytes)
+}
+
+/// The bytes of an input: parts in hex, each perhaps with how often it stands, as `0401*127+0400`. `-` is none.
+pub fn bytes_of(alloc: Global, input: &str) -> anyhow::Result<Vec<u8>> {
+    let mut bytes = Vec::new(alloc);
+    if input == "-" {
+        return Ok(bytes);
+    }
+    for part in input.split('+') {
+        let (hex, times) = part.split_once('*').unwrap_or((part, "1"));
+        let part = repeated(alloc, hex, times)?;
+        bytes.extend_from_slice(part.as_slice())?;
+    }
+    Ok(bytes)
+}
+
+/// What comes of the bytes of a type.
+fn read_bytes(alloc: Global, name: &str, bytes: &[u8]) -> Result<String, AllocError> {
+    match types::answer(alloc, name, bytes) {
+        Some(outcome) => outcome.text(alloc, bytes),
+        None => String::from_str(alloc, "no such type"),
+    }
+}
+
+/// What every front of an input but the whole comes to, which has to be the same.
+fn cut(alloc: Global, name: &str, input: &str) -> anyhow::Result<String> {
+    let bytes = bytes_of(alloc, input)?;
+    let mut common = String::new(alloc);
+    for end in 0..bytes.len() {
+        let front = &bytes.as_slice()[..end];
+        let answer = read_bytes(alloc, name, front)?;
+        if end > 0 && answer != common {
+            return Ok(String::from_str(alloc, "unlike")?);
+        }
+        common = answer;
+    }
+    Ok(common)
+}
+
+/// What the JSON value of a text is written as.
+fn json(alloc: Global, text: &str) -> Result<String, AllocError> {
+    let Ok(value) = Value::from_str(alloc, text) else {
+        return String::from_str(alloc, "no JSON");
+    };
+    match written(alloc, &AnyEnv::new(), &value) {
+        Ok(bytes) => hex::encode(alloc, bytes.as_slice()),
+        Err(number) => format!(in alloc; "refused {number}"),
+    }
+}
+
+/// The answer to an input of a line.
+fn answer_input(alloc: Global, name: &str, verb: &str, input: &str) -> anyhow::Result<String> {
+    match verb {
+        "read" => Ok(read_bytes(alloc, name, bytes_of(alloc, input)?.as_slice())?),
+        "cut" => cut(alloc, name, input),
+        "weigh" => blobs::answer(alloc, input),
+        _ => Ok(String::from_str(alloc, "no such verb")?),
+    }
+}
+
+/// The answers to the inputs of a line, in their order.
+fn answer_all(alloc: Global, name: &str, verb: &str, inputs: &str) -> anyhow::Result<String> {
+    let mut answers = String::new(alloc);
+    for input in inputs.split(' ') {
+        if !answers.is_empty() {
+            answers.push_str("; ")?;
+        }
+        let answer = answer_input(alloc, name, verb, input)?;
+        answers.push_str(answer.as_str())?;
+    }
+    Ok(answers)
+}
+
+/// The answer to a line. A comment is its own answer.
+pub fn answer(alloc: Global, line: &str) -> anyhow::Result<String> {
+    if line.is_empty() || line.starts_with('#') {
+        return Ok(String::from_str(alloc, line)?);
+    }
+    let (name, rest) = line.split_once(' ').unwrap_or((line, ""));
+    let (verb, inputs) = rest.split_once(' ').unwrap_or((rest, ""));
+    match verb {
+        "write" => Ok(json(alloc, inputs)?),
+        "drawn" => drawn::answer(alloc, name, inputs.parse::<u32>()?),
+        _ => answer_all(alloc, name, verb, inputs),
+    }
+}
