@@ -24,8 +24,4 @@ mod Existing
 mod Two
 mod Joining
 mod Telling
-mod Missing
-mod Lone
-mod Headlines
-mod NoFacts
-mod NoGrammars
+mod Nexts

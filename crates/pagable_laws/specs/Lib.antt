@@ -4,8 +4,5 @@ pub mod KeyLaws
 pub mod JsonLaws
 pub mod Rows
 pub mod SmallWorlds
-pub mod SmallMoments
 pub mod FallLaws
 pub mod RunLaws
-pub mod NearMisses
-pub mod Refused
