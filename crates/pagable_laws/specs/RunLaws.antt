@@ -9,7 +9,7 @@ use Rattle.pagable_world.specs.declared.events.Took.{Took}
 use Rattle.pagable_model.specs.declared.numbers.ArcRef.{ArcRef}
 use Rattle.pagable_world.specs.World.{Frame, Places, Todo, Written}
 use Rattle.pagable_world.specs.Values.{Values, Seen}
-use Rattle.pagable_world.specs.Decoding.{reads, asks, is_faulty, next_in}
+use Rattle.pagable_world.specs.Loads.{reads, asks, is_faulty, next_in}
 use Rattle.pagable_world.specs.Workers.{Site, WalkDoes}
 use Rattle.pagable_world.specs.Pager.{MachineState, IsNew, IsIdle, IsMachineWhole}
 use Rattle.pagable_world.specs.Trees.{StandsFor}

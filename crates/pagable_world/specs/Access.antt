@@ -31,7 +31,7 @@ use Rattle.pagable_world.specs.Workers.{Site, WalkDoes, IsPublished, is_open_slo
 use Rattle.pagable_world.specs.Events.{Ends, IsEntry, entry_task, with_entry_taken, with_worker, reading_of_load, no_shelf}
 use Rattle.pagable_world.specs.Pager.{PagerState, WellFormed, Moves, ReadingBrings, TodoBrings, TookWrites}
 use Rattle.pagable_world.specs.Trees.{ValueStands, Represents, SameTrees}
-use Rattle.pagable_world.specs.Premises.{ReadsItsTypes, HoldsSettled, TakesWell, TodoTakesWell}
+use Rattle.pagable_world.specs.Runs.{ReadsItsTypes, HoldsSettled, TakesWell, TodoTakesWell}
 use Rattle.pagable_world.specs.Headline.{ReadIsRight, IsKeyOfTask}
 
 -- ---- what is told

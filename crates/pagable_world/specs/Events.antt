@@ -23,11 +23,10 @@ use Rattle.pagable_world.specs.Kinds.{loose_kind, HasKinds, HasNoKinds}
 use Rattle.pagable_world.specs.World.{Core, OpenLoad, of_cell, of_key, Root, Shelf, Frame, Reading, Task, of_item, of_entry, Walking, Work, World, row_at, type_at, one_more, Alike, SameShelf}
 use Rattle.pagable_world.specs.Cascade.{only_handle}
 use Rattle.pagable_world.specs.Refusals.{earlier, load_fault}
-use Rattle.pagable_world.specs.Replies.{RepliesCall, RepliesStart, RepliesLoad, RepliesTable, RepliesMade, RepliesWorker}
+use Rattle.pagable_world.specs.Steps.{RepliesCall, RepliesStart, RepliesLoad, RepliesTable, RepliesMade, RepliesWorker, CallStep}
 use Rattle.pagable_world.specs.Values.{Values, Seen}
 use Rattle.pagable_world.specs.HandleCalls.{moved}
 use Rattle.pagable_world.specs.LoadCalls.{BeginCall, BeginKeyCall}
-use Rattle.pagable_world.specs.Steps.{CallStep}
 use Rattle.pagable_world.specs.Loads.{ReadingDoes, gone_on}
 use Rattle.pagable_world.specs.Workers.{Site, WalkDoes, WorkerEnds, first_todo, fresh, answer_after, is_counted}
 

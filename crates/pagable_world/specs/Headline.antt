@@ -35,10 +35,8 @@ use Rattle.pagable_world.specs.Workers.{IsPublished, is_workers_load}
 use Rattle.pagable_world.specs.Events.{reading_at}
 use Rattle.pagable_world.specs.Pager.{PagerState, MachineState, world_of, IsMachineWhole, IsIdle}
 use Rattle.pagable_world.specs.Trees.{ValueStands, StandsFor, kids_of}
-use Rattle.pagable_world.specs.Premises.{ReadsItsTypes, HoldsSettled}
-use Rattle.pagable_world.specs.Runs.{Moment, AreMoments, state_after, events_of, replies_of, Fact, TreesAlong}
-use Rattle.pagable_world.specs.Order.{steps_of, InOrder, OnceEach, MetError}
-use Rattle.pagable_world.specs.Bounds.{IsBounded, HasStepLeft, IsWithinBound}
+use Rattle.pagable_world.specs.Runs.{ReadsItsTypes, HoldsSettled, Moment, AreMoments, state_after, events_of, replies_of, Fact, TreesAlong}
+use Rattle.pagable_world.specs.Order.{steps_of, InOrder, OnceEach, MetError, IsBounded, HasStepLeft, IsWithinBound}
 
 -- ---- what is read and pinned
 

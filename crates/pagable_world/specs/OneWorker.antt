@@ -30,17 +30,15 @@ use Rattle.pagable_world.specs.declared.events.Event.TheVariants as events
 use Rattle.pagable_world.specs.declared.events.EventReply.{EventReply}
 use Rattle.pagable_world.specs.declared.events.EventReply.TheVariants as answers
 use Rattle.pagable_world.specs.Lists.{Among}
-use Rattle.pagable_world.specs.Kinds.{fits_mode}
-use Rattle.pagable_world.specs.Depth.{longest_path, above, height, deepest_path}
+use Rattle.pagable_world.specs.Kinds.{fits_mode, longest_path, above, height, deepest_path}
 use Rattle.pagable_world.specs.World.{Core, OpenLoad, of_cell, Task, of_item, of_entry, Walking, row_at, key_at, is_here}
 use Rattle.pagable_world.specs.Values.{Values, Seen, IsLawful}
 use Rattle.pagable_world.specs.LoadCalls.{from_cache, AskCall, Adopts, LazyCall}
 use Rattle.pagable_world.specs.Workers.{IsPublished}
-use Rattle.pagable_world.specs.Pager.{MachineState}
+use Rattle.pagable_world.specs.Pager.{MachineState, IsWhole, IsMachineWhole}
 use Rattle.pagable_world.specs.Trees.{StandsFor}
-use Rattle.pagable_world.specs.Premises.{ReadsItsTypes, HoldsSettled}
-use Rattle.pagable_world.specs.Runs.{Moment, AreMoments, state_after, Fact, TreesAlong}
-use Rattle.pagable_world.specs.Bounds.{ReadsTooDeep}
+use Rattle.pagable_world.specs.Runs.{ReadsItsTypes, HoldsSettled, Moment, AreMoments, state_after, Fact, TreesAlong}
+use Rattle.pagable_world.specs.Order.{ReadsTooDeep}
 use Rattle.pagable_world.specs.Headline.{Meets}
 
 -- ---- turns
@@ -203,9 +201,11 @@ pub record HaveOneIdentity {N E B W : Type 0} (kind other_kind : Kind) (key othe
 abbrev pub OneIdentityLaw : {N B W : Type 0} → (E : Type 0) → Seen N B W → Type 0
 OneIdentityLaw {N} {B} {W} E m =
     (w : Core) (first : MachineState N E) (between : List (Moment N E B W)) (last : Core) (kind other_kind : Kind) (key other_key n other_n : ℕ)
+    → IsWhole w
     → IsFilledByReading w
     → w.closed ≡ false
     → GetsReference w kind key n first.pager.core
+    → IsMachineWhole m.values first
     → AreMoments m first between
     → ((x : Moment N E B W) → Among between x → LeavesCache x.event)
     → GetsReference (state_after first between).pager.core other_kind other_key other_n last

@@ -1,6 +1,11 @@
 -- One call of the pager: the step of its plain world that it is, by the call alone, with a reply of the call's type.
-use Rattle.std.specs.Prelude.{◌≡◌, length}
+use Rattle.std.specs.Prelude.{◌≡◌, length, ℕ, Bool, Option, Result}
 use Rattle.pagable_model.specs.Blob.{Blob}
+use Rattle.pagable_model.specs.declared.error.Error.{Error}
+use Rattle.pagable_model.specs.declared.data_key.OptionalDataKey.{OptionalDataKey}
+use Rattle.pagable_model.specs.declared.numbers.HandleNumber.{HandleNumber}
+use Rattle.pagable_model.specs.declared.numbers.NodeNumber.{NodeNumber}
+use Rattle.pagable_model.specs.declared.numbers.WorkerNumber.{WorkerNumber}
 use Rattle.pagable_world.specs.declared.rows.Mode.TheVariants as modes
 use Rattle.pagable_world.specs.declared.handles.Owner.{Owner}
 use Rattle.pagable_world.specs.declared.calls.Call.{Call}
@@ -8,12 +13,113 @@ use Rattle.pagable_world.specs.declared.calls.Call.TheVariants as calls
 use Rattle.pagable_world.specs.declared.calls.Found.{Found}
 use Rattle.pagable_world.specs.declared.calls.Found.TheVariants as founds
 use Rattle.pagable_world.specs.declared.calls.Reply.{Reply}
+use Rattle.pagable_world.specs.declared.answers.Pinning.{Pinning}
+use Rattle.pagable_world.specs.declared.answers.Beginning.{Beginning}
+use Rattle.pagable_world.specs.declared.calls.Reply.TheVariants as replies
+use Rattle.pagable_world.specs.declared.events.TableNumber.{TableNumber}
+use Rattle.pagable_world.specs.declared.events.LoadReply.{LoadReply}
+use Rattle.pagable_world.specs.declared.events.WorkerReply.{WorkerReply}
+use Rattle.pagable_world.specs.declared.events.EventReply.{EventReply}
+use Rattle.pagable_world.specs.declared.events.EventReply.TheVariants as answers
 use Rattle.pagable_world.specs.World.{Core, Alike}
-use Rattle.pagable_world.specs.Replies.{AnswersMade, AnswersHandle, AnswersPin, AnswersDone, AnswersCount, AnswersKey, AnswersAway, AnswersNode, AnswersType, AnswersLength, AnswersTaken, AnswersCache, AnswersBlob, AnswersStored, AnswersBegun, AnswersFound, AnswersEnded}
 use Rattle.pagable_world.specs.Values.{Seen, digest, seen_as}
 use Rattle.pagable_world.specs.HandleCalls.{BirthCall, AwayBirthCall, CloneCall, PinCall, UnpinCall, ReleaseCall, LoosenCall, SetKeyCall, CountCall, KeyCall, AwayCall, NodeCall, TypeCall, ScheduleCall, TakeCall, room, ReserveCall}
 use Rattle.pagable_world.specs.CacheCalls.{RecallCall, OfferCall, ClearCall, FetchCall, StoreCall, FlushCall, CloseCall}
 use Rattle.pagable_world.specs.LoadCalls.{BeginCall, BeginKeyCall, Given, from_cache, from_store, AskCall, AdoptCall, LazyCall, EndCall, HandOverCall, DropCall}
+
+-- of a call: P of its answer
+abbrev pub AnswersMade : {N B : Type 0} → Reply N B → (Result HandleNumber (Error × N) → Type 0) → Type 0
+AnswersMade (replies.Made r) P = P r
+AnswersMade _ P = ⊥
+
+abbrev pub AnswersHandle : {N B : Type 0} → Reply N B → (Result HandleNumber Error → Type 0) → Type 0
+AnswersHandle (replies.Handle r) P = P r
+AnswersHandle _ P = ⊥
+
+abbrev pub AnswersPin : {N B : Type 0} → Reply N B → (Result Pinning Error → Type 0) → Type 0
+AnswersPin (replies.Pin r) P = P r
+AnswersPin _ P = ⊥
+
+abbrev pub AnswersDone : {N B : Type 0} → Reply N B → (Result (Unit {0}) Error → Type 0) → Type 0
+AnswersDone (replies.Done r) P = P r
+AnswersDone _ P = ⊥
+
+abbrev pub AnswersCount : {N B : Type 0} → Reply N B → (Result ℕ Error → Type 0) → Type 0
+AnswersCount (replies.Count r) P = P r
+AnswersCount _ P = ⊥
+
+abbrev pub AnswersKey : {N B : Type 0} → Reply N B → (Result OptionalDataKey Error → Type 0) → Type 0
+AnswersKey (replies.KeyFound r) P = P r
+AnswersKey _ P = ⊥
+
+abbrev pub AnswersAway : {N B : Type 0} → Reply N B → (Result Bool Error → Type 0) → Type 0
+AnswersAway (replies.Away r) P = P r
+AnswersAway _ P = ⊥
+
+abbrev pub AnswersNode : {N B : Type 0} → Reply N B → (Result NodeNumber Error → Type 0) → Type 0
+AnswersNode (replies.Node r) P = P r
+AnswersNode _ P = ⊥
+
+abbrev pub AnswersType : {N B : Type 0} → Reply N B → (Option ℕ → Type 0) → Type 0
+AnswersType (replies.NodeType t) P = P t
+AnswersType _ P = ⊥
+
+abbrev pub AnswersLength : {N B : Type 0} → Reply N B → (ℕ → Type 0) → Type 0
+AnswersLength (replies.Length n) P = P n
+AnswersLength _ P = ⊥
+
+abbrev pub AnswersTaken : {N B : Type 0} → Reply N B → (Option HandleNumber → Type 0) → Type 0
+AnswersTaken (replies.Taken h) P = P h
+AnswersTaken _ P = ⊥
+
+abbrev pub AnswersCache : {N B : Type 0} → Reply N B → (Result (Option HandleNumber) Error → Type 0) → Type 0
+AnswersCache (replies.FromCache r) P = P r
+AnswersCache _ P = ⊥
+
+abbrev pub AnswersBlob : {N B : Type 0} → Reply N B → (Result B Error → Type 0) → Type 0
+AnswersBlob (replies.Fetched r) P = P r
+AnswersBlob _ P = ⊥
+
+abbrev pub AnswersStored : {N B : Type 0} → Reply N B → (Result ℕ Error → Type 0) → Type 0
+AnswersStored (replies.Stored r) P = P r
+AnswersStored _ P = ⊥
+
+abbrev pub AnswersBegun : {N B : Type 0} → Reply N B → (Result Beginning Error → Type 0) → Type 0
+AnswersBegun (replies.Begun r) P = P r
+AnswersBegun _ P = ⊥
+
+abbrev pub AnswersFound : {N B : Type 0} → Reply N B → (Result (Found B) Error → Type 0) → Type 0
+AnswersFound (replies.LoadFound r) P = P r
+AnswersFound _ P = ⊥
+
+abbrev pub AnswersEnded : {N B : Type 0} → Reply N B → (Result HandleNumber (Error × Option N) → Type 0) → Type 0
+AnswersEnded (replies.LoadEnded r) P = P r
+AnswersEnded _ P = ⊥
+
+-- of an event: P of its answer
+abbrev pub RepliesCall : {N B W : Type 0} → EventReply N B W → (Reply N B → Type 0) → Type 0
+RepliesCall (answers.CallReply r) P = P r
+RepliesCall _ P = ⊥
+
+abbrev pub RepliesStart : {N B W : Type 0} → EventReply N B W → (Result Beginning Error → Type 0) → Type 0
+RepliesStart (answers.Started r) P = P r
+RepliesStart _ P = ⊥
+
+abbrev pub RepliesLoad : {N B W : Type 0} → EventReply N B W → (Result (LoadReply N) Error → Type 0) → Type 0
+RepliesLoad (answers.LoadMoved r) P = P r
+RepliesLoad _ P = ⊥
+
+abbrev pub RepliesTable : {N B W : Type 0} → EventReply N B W → (Result TableNumber Error → Type 0) → Type 0
+RepliesTable (answers.TableMade r) P = P r
+RepliesTable _ P = ⊥
+
+abbrev pub RepliesMade : {N B W : Type 0} → EventReply N B W → (Result WorkerNumber Error → Type 0) → Type 0
+RepliesMade (answers.WorkerMade r) P = P r
+RepliesMade _ P = ⊥
+
+abbrev pub RepliesWorker : {N B W : Type 0} → EventReply N B W → (Result (WorkerReply W) Error → Type 0) → Type 0
+RepliesWorker (answers.WorkerMoved r) P = P r
+RepliesWorker _ P = ⊥
 
 -- what was found, with the blob as it is seen
 abbrev pub given_of : {B : Type 0} → (B → Blob) → Found B → Given

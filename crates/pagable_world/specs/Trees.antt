@@ -11,7 +11,7 @@ use Rattle.pagable_model.specs.Trees.{Tree, Types, tree, type_of, ReadsTree}
 use Rattle.pagable_world.specs.Owners.{held}
 use Rattle.pagable_world.specs.World.{OpenLoad, of_cell, Frame, Reading, to_load, Todo, Walking, Work, type_at, key_at}
 use Rattle.pagable_world.specs.Values.{Values}
-use Rattle.pagable_world.specs.Decoding.{asks, next_in}
+use Rattle.pagable_world.specs.Loads.{asks, next_in}
 use Rattle.pagable_world.specs.Pager.{PagerState, MachineState}
 
 -- ---- what a node stands for

@@ -24,8 +24,7 @@ use Rattle.pagable_world.specs.declared.events.Took.TheVariants as took
 use Rattle.pagable_world.specs.declared.events.WorkerAnswer.{WorkerAnswer}
 use Rattle.pagable_world.specs.declared.events.WorkerAnswer.TheVariants as finals
 use Rattle.pagable_world.specs.Lists.{updated}
-use Rattle.pagable_world.specs.Kinds.{is_eager, fits_mode, identity_of}
-use Rattle.pagable_world.specs.Depth.{longest_path, above}
+use Rattle.pagable_world.specs.Kinds.{is_eager, fits_mode, identity_of, longest_path, above}
 use Rattle.pagable_world.specs.Owners.{is_owner, is_loose, worker}
 use Rattle.pagable_world.specs.World.{Core, OpenLoad, Shelf, Slot, Outcome, no_result, published, failed, Written, Frame, Reading, Fault, was_refused, was_failed, answer_of_fault, Todo, to_start, to_pin, to_load, to_write, to_finish, to_item, to_set, to_publish, to_release, to_fail, Task, of_item, of_entry, row_at, type_at, is_identity, Alike, SameShelf}
 use Rattle.pagable_world.specs.Values.{Values, Seen, digest, seen_as}
