@@ -1,5 +1,5 @@
 -- Chains join, and a new machine is whole.
-use Rattle.std.proofs.Common.{ℕ, [], ◌∷◌, ◌++◌, List, refl, inl, arith}
+use Rattle.std.proofs.Common.{◌≡◌, ℕ, [], ◌∷◌, ◌++◌, List, refl, inl, arith}
 use Rattle.std.specs.Prelude.{Option}
 use Rattle.pagable_model.specs.Blob.{Blob}
 use Rattle.pagable_model.specs.Trees.{Tree}
@@ -12,10 +12,12 @@ use Rattle.pagable_laws.specs.SmallWorlds.{new_pager, new_machine}
 use Rattle.pagable_laws.specs.RunLaws.{ChainsJoin, NewIsWhole}
 
 joins : {N E B W : Type 0} (m : Seen N B W) (s : MachineState N E) (xs ys : List (Moment N E B W)) → AreMoments m s xs → AreMoments m (state_after s xs) ys → AreMoments m s (xs ++ ys)
+unfolding state_after
 joins m s [] ys first second = second
 joins m s (x ∷ xs) ys (does, first) second = (does, joins m x.after xs ys first second)
 
 ends : {N E B W : Type 0} (s : MachineState N E) (xs ys : List (Moment N E B W)) → state_after s (xs ++ ys) ≡ state_after (state_after s xs) ys
+unfolding state_after
 ends s [] ys = refl
 ends s (x ∷ xs) ys = ends x.after xs ys
 

@@ -25,3 +25,5 @@ mod Two
 mod Joining
 mod Telling
 mod Nexts
+mod Headlines
+mod Working

@@ -8,7 +8,7 @@ use Rattle.pagable_world.specs.declared.handles.Owner.TheVariants as owners
 use Rattle.pagable_world.specs.declared.rows.Mode.TheVariants as modes
 use Rattle.pagable_world.specs.declared.handles.HandleRow.{HandleRow}
 use Rattle.pagable_world.specs.Lists.{one, times}
-use Rattle.pagable_world.specs.Owners.{pins, held, is_at}
+use Rattle.pagable_world.specs.Owners.{pins, held, is_at, find_row}
 use Rattle.pagable_world.specs.World.{Last}
 use Rattle.pagable_world.specs.Cascade.{is_keyed, owned_outside, loses_value, IsClosed, IsWithin, IsLeast, MustList, Falls, fallen, nobody}
 use Rattle.pagable_world.specs.HandleCalls.{row_of, with_mode, UnpinCall}
@@ -98,6 +98,7 @@ fell stored =
     same-cells n false is = let a : (n == 1) ≡ false = grind (arith, nat_tests) in rw (a, is) refl
 
 lone-unpinned : (stored : ℕ → Option Blob) → UnpinCall (lone stored) owners.Caller first (Ok tt) (lone_listed stored)
+unfolding find_row
 lone-unpinned stored = record { does = inr (row_of 1 first_node modes.LoosePinned owners.Caller, record { live = refl; own = refl; as_asked = refl }, inr (refl, fell stored)) }
 
 lone-must-unlisted : (stored : ℕ → Option Blob) → MustList (lone stored) (with_mode (lone stored) first modes.LooseUnpinned) (lone_unlisted stored) 1

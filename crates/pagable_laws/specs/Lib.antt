@@ -6,3 +6,6 @@ pub mod Rows
 pub mod SmallWorlds
 pub mod FallLaws
 pub mod RunLaws
+pub mod SmallMoments
+pub mod SmallWork
+pub mod MetLaws

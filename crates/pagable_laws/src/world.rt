@@ -2,6 +2,7 @@
 
 ghost use Rattle.pagable_world.specs.Values.{Seen};
 ghost use Rattle.pagable_laws.specs.FallLaws.{IsThere, IsOne, IsGivenAlone, PinsAreAFilter, TwoLevelsFall, LoneIsListed};
+ghost use Rattle.pagable_laws.specs.MetLaws.{HeadlineIsMet, WorkIsDone};
 ghost use Rattle.pagable_laws.specs.RunLaws.{ChainsJoin, NewIsWhole, NextIsOneOf, StepsFollow, KeysTellTheirTrees};
 
 use crate::values::is_key_of_one_tree;
@@ -76,3 +77,13 @@ pub fn keys_tell_trees<N: SeenAs<B, W>, B, W>()
 {
     is_key_of_one_tree()
 }
+
+/// The headline is met with all that it asks: by a child, a parent that refers to it, and a count.
+pub fn headline_is_met<E>()
+    ensures { HeadlineIsMet E }
+{}
+
+/// An item is paged out and read back, each step as it is defined.
+pub fn work_is_done<E>()
+    ensures { WorkIsDone E }
+{}
