@@ -27,3 +27,4 @@ mod Telling
 mod Nexts
 mod Headlines
 mod Working
+mod Doing

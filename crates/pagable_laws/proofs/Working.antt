@@ -95,7 +95,7 @@ started-first zero is = omega arith
 started-first (suc zero) is = omega arith
 started-first (suc (suc v)) is = let a : (suc (suc v) == 1) ≡ false = grind (arith, nat_tests) in let f : updated 1 true (λ v. false) (suc (suc v)) ≡ false = rw a refl in absurd (cc)
 
-abbrev the-load : OpenLoad
+abbrev pub the-load : OpenLoad
 the-load = record { owner = owners.Caller; key = item_key; root = of_key }
 
 start-whole : {E : Type 0} (stored : ℕ → Option Blob) (env : E) → IsMachineWhole sample (machine (empty stored some_places) table_work env)
@@ -152,7 +152,7 @@ loading-whole stored env r first_is =
       all_there = λ n is. let f = stopped n in absurd (cc);
     }
 
-closed-loads : (l : ℕ) → updated 1 None (only the-load) l ≡ None
+pub closed-loads : (l : ℕ) → updated 1 None (only the-load) l ≡ None
 closed-loads zero = refl
 closed-loads (suc zero) = refl
 closed-loads (suc (suc l)) = let a : (suc (suc l) == 1) ≡ false = grind (arith, nat_tests) in rw a refl

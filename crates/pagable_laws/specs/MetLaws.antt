@@ -24,3 +24,7 @@ pub record HeadlineIsMet (E : Type 0) : Type 0 where
 -- An item is paged out by a worker on a table, and its key read back by a load: a chain, over each storage that has nothing else there.
 abbrev pub WorkIsDone : Type 0 → Type 0
 WorkIsDone E = (stored : ℕ → Option Blob) (env : E) → (stored item_key ≡ None) ⊎ (stored item_key ≡ Some item_blob) → AreMoments sample_seen (new_machine stored some_places env) (work.moments stored env)
+
+-- It meets the headline too: the worker's key is the item's, and what is read back is what the key reads as.
+abbrev pub WorkMeetsHeadline : Type 0 → Type 0
+WorkMeetsHeadline E = (stored : ℕ → Option Blob) (env : E) → (stored item_key ≡ None) ⊎ (stored item_key ≡ Some item_blob) → Headline sample_seen (new_machine stored some_places env) (work.moments stored env)

@@ -2,7 +2,7 @@
 
 ghost use Rattle.pagable_world.specs.Values.{Seen};
 ghost use Rattle.pagable_laws.specs.FallLaws.{IsThere, IsOne, IsGivenAlone, PinsAreAFilter, TwoLevelsFall, LoneIsListed};
-ghost use Rattle.pagable_laws.specs.MetLaws.{HeadlineIsMet, WorkIsDone};
+ghost use Rattle.pagable_laws.specs.MetLaws.{HeadlineIsMet, WorkIsDone, WorkMeetsHeadline};
 ghost use Rattle.pagable_laws.specs.RunLaws.{ChainsJoin, NewIsWhole, NextIsOneOf, StepsFollow, KeysTellTheirTrees};
 
 use crate::values::is_key_of_one_tree;
@@ -83,7 +83,8 @@ pub fn headline_is_met<E>()
     ensures { HeadlineIsMet E }
 {}
 
-/// An item is paged out and read back, each step as it is defined.
-pub fn work_is_done<E>()
-    ensures { WorkIsDone E }
+/// An item is paged out and read back, each step as it is defined, and that meets the headline.
+pub fn work_meets_headline<E>()
+    ensures done { WorkIsDone E }
+    ensures headline { WorkMeetsHeadline E }
 {}
