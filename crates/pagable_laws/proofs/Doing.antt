@@ -1,9 +1,8 @@
 -- The chain of a worker and a load meets the headline.
-use Rattle.std.proofs.Common.{◌≡◌, ℕ, zero, suc, ◌+◌, ◌<◌, ◌≤◌, ◌==◌, Bool, true, false, List, [], ◌∷◌, refl, ap, sym, subst, ◌∙◌, inl, inr, arith, Ok, cond}
-use Rattle.std.specs.Prelude.{Result, Err, Option, Some, None, is_some, ◌⊎◌, if◌then◌else◌}
+use Rattle.std.proofs.Common.{◌≡◌, ℕ, zero, suc, ◌+◌, ◌≤◌, ◌==◌, Bool, true, false, List, [], ◌∷◌, refl, ap, sym, subst, ◌∙◌, inl, inr, arith, Ok, cond}
+use Rattle.std.specs.Prelude.{Result, Err, Option, Some, None, is_some, ◌⊎◌}
 use Rattle.std.proofs.lemmas.Bool.Decides.{nat_tests}
 use Rattle.pagable_model.specs.declared.error.Error.{Error}
-use Rattle.pagable_model.specs.declared.numbers.ArcRef.{ArcRef}
 use Rattle.pagable_model.specs.declared.numbers.Identity.{Identity}
 use Rattle.pagable_model.specs.Blob.{Blob}
 use Rattle.pagable_model.specs.Meaning.{Meaning, number, integer, text, pattern, none, pair, variant, reference, followed}
@@ -11,29 +10,27 @@ use Rattle.pagable_model.specs.Blob.{key_of}
 use Rattle.pagable_model.specs.Merkle.{KeyOfItem, KeysOf, no-keys, blob_of}
 use Rattle.pagable_model.specs.Reading as grammar
 use Rattle.pagable_model.specs.Trees.{Tree, KeyRef, IsFollowed, none-followed, ReadsTree, blob_context, rest_of}
-use Rattle.pagable_world.specs.declared.handles.Owner.TheVariants as owners
-use Rattle.pagable_world.specs.declared.events.Took.{Took}
 use Rattle.pagable_world.specs.declared.events.Took.TheVariants as took
 use Rattle.pagable_world.specs.declared.events.LoadAnswer.TheVariants as ends
 use Rattle.pagable_world.specs.declared.events.Event.TheVariants as events
 use Rattle.pagable_world.specs.declared.events.EventReply.TheVariants as answers
-use Rattle.pagable_world.specs.declared.events.WorkerAnswer.{WorkerAnswer}
 use Rattle.pagable_world.specs.declared.events.WorkerAnswer.TheVariants as finals
-use Rattle.pagable_world.specs.Lists.{Among, updated}
+use Rattle.pagable_world.specs.Lists.{Among}
 use Rattle.pagable_world.specs.Owners.{held}
-use Rattle.pagable_world.specs.World.{Core, OpenLoad, of_key, of_cell, Written, of_item, Reading, Walking, Work, Shelf, Last, to_load, to_item}
+use Rattle.pagable_world.specs.World.{Core, OpenLoad, of_key, Written, of_item, Reading, Walking, Work, Shelf, to_item}
+use Rattle.pagable_world.specs.Loads.{answers_from, need_of, to_end}
 use Rattle.pagable_world.specs.Workers.{is_workers_load}
 use Rattle.pagable_world.specs.Events.{no_shelf}
-use Rattle.pagable_world.specs.Pager.{MachineState, world_of}
+use Rattle.pagable_world.specs.Pager.{world_of}
 use Rattle.pagable_world.specs.Trees.{ValueStands, MeaningStands, none-stands, ReadingFits, FramesFit, IsReadingOf, of_caller, of_worker, StandsFor}
-use Rattle.pagable_world.specs.Runs.{state_after, events_of, replies_of, TreesAlong}
-use Rattle.pagable_world.specs.Order.{steps_of, OnceEach, LaterKind, pins, writes, stores, sets_key, publishes, releases, is_later_of}
-use Rattle.pagable_world.specs.Headline.{Headline, IsRight, Meets, meets-of-item, meets-entry, meets-below, IsKeyOfTask, LeavesAll, ReadIsRight, claims_made, ClaimsAreRight, IsMetFailure, HasLetGo, WorkerIsRight, WorkIsRight, StepIsWithin, StepsAreWithin}
-use Rattle.pagable_laws.specs.SmallWorlds.{empty, new_machine, no_work, some_places}
+use Rattle.pagable_world.specs.Runs.{state_after, events_of, replies_of, TakesWell, TodoTakesWell, TreesAlong}
+use Rattle.pagable_world.specs.Order.{steps_of, LaterKind, pins, writes, stores, sets_key, publishes, releases, is_later_of}
+use Rattle.pagable_world.specs.Headline.{Headline, IsRight, Meets, meets-of-item, meets-entry, meets-below, IsKeyOfTask, LeavesAll, ReadIsRight, claims_made, IsMetFailure, WorkerIsRight, WorkIsRight, StepIsWithin}
+use Rattle.pagable_laws.specs.SmallWorlds.{empty, new_machine, some_places}
 use Rattle.pagable_laws.specs.SmallMoments.{Sample, leaf, sample, sample_seen, sample_types}
-use Rattle.pagable_laws.specs.SmallWork.{first_load, item, item_blob, item_key, bare, with_item, started, paged_out, loading, read_back, walking, answered, reading, fetched, only, table_work, walking_work, reading_work, machine, moments}
-use Rattle.pagable_laws.specs.MetLaws.{WorkIsDone, WorkMeetsHeadline}
-use Rattle.pagable_laws.proofs.Headlines.{lawful, reads-types}
+use Rattle.pagable_laws.specs.SmallWork.{first_load, item, item_blob, item_key, bare, with_item, started, paged_out, loading, read_back, walking, answered, reading, fetched, table_work, walking_work, reading_work, machine, moments}
+use Rattle.pagable_laws.specs.MetLaws.{ArePremised, WorkMeetsHeadline}
+use Rattle.pagable_laws.proofs.Headlines.{settled, no-premise}
 use Rattle.pagable_laws.proofs.Working.{only-one, the-load, closed-loads, works}
 
 -- ---- what the worker did
@@ -223,11 +220,11 @@ along stored env trees free =
         the-fits : (load : OpenLoad) → (loading stored).loads r.load.0 ≡ Some load → FramesFit sample_types (with_item stored) trees load.key r.node_type r.frames
         the-fits load is = only-one the-load (λ l x. FramesFit sample_types (with_item stored) trees x.key r.node_type r.frames) fits r.load.0 load is
 
-pub work_meets : (E : Type 0) → WorkMeetsHeadline E
+meets : {E : Type 0} (stored : ℕ → Option Blob) (env : E) → (stored item_key ≡ None) ⊎ (stored item_key ≡ Some item_blob) → Headline sample_seen (new_machine stored some_places env) (moments stored env)
 unfolding state_after
-work_meets E stored env free =
+meets stored env free =
     record {
-      chain = works E stored env free;
+      chain = works stored env free;
       work = work-right stored env;
       loads = (tt, (tt, (tt, (tt, (within-first, (within-second, tt))))));
       trees = λ trees stands lawful types settled. along stored env trees free;
@@ -238,3 +235,38 @@ work_meets E stored env free =
 
     within-second : StepIsWithin {N = Sample} {B = Blob} {W = Written} sample (machine (loading stored) (reading_work fetched) env) (events.LoadStep first_load) (answers.LoadMoved (Ok (record { ended = Some (ends.Read leaf); steps = 2 })))
     within-second r load at there many longest unfolds_so = (omega arith, λ is. refl)
+
+-- what is asked of a load's step: at its first it asks for its root, at its second the root is read
+no-lazy-first : {E : Type 0} (stored : ℕ → Option Blob) (env : E) (r : Reading) → Some reading ≡ Some r → TakesWell sample (bare (loading stored) env) r
+no-lazy-first stored env r is = let e : reading ≡ r = cc in subst (TakesWell sample (bare (loading stored) env)) e (λ kind key needs. absurd (cc))
+
+read-to-end : need_of sample_types fetched.frames ≡ to_end
+unfolding grammar.read grammar.read_with answers_from
+read-to-end = refl
+
+no-lazy-second : {E : Type 0} (stored : ℕ → Option Blob) (env : E) (r : Reading) → Some fetched ≡ Some r → TakesWell sample (bare (loading stored) env) r
+no-lazy-second stored env r is = let e : fetched ≡ r = cc in subst (TakesWell sample (bare (loading stored) env)) e (λ kind key needs. let f = sym read-to-end ∙ needs in absurd (cc))
+
+premises : {E : Type 0} (stored : ℕ → Option Blob) (env : E) (trees : ℕ → Tree) → ArePremised (new_machine stored some_places env) trees (moments stored env)
+premises stored env trees = (
+  no-premise _ _ trees _ _ tt tt refl,
+  (
+    no-premise _ _ trees _ _ tt tt refl,
+    (
+      no-premise _ _ trees _ _ tt (λ w there. only-one walking (λ n w. TodoTakesWell sample (bare (started stored) env) w.todo) tt 1 w there) refl,
+      (
+        no-premise _ _ trees _ _ tt tt refl,
+        (
+          no-premise _ _ trees _ _ tt (no-lazy-first stored env) refl,
+          (
+            record { settled = λ n x is. settled x; reads_settled = λ x is. settled x; stays_open = tt; well = no-lazy-second stored env },
+            tt,
+          ),
+        ),
+      ),
+    ),
+  ),
+)
+
+pub work_meets : (E : Type 0) → WorkMeetsHeadline E
+work_meets E = record { premised = premises; headline = meets }

@@ -6,9 +6,9 @@ use Rattle.std.proofs.lemmas.Bool.{and_parts}
 use Rattle.pagable_world.specs.declared.handles.Owner.{Owner}
 use Rattle.pagable_world.specs.declared.handles.Owner.TheVariants as owners
 use Rattle.pagable_world.specs.declared.handles.HandleRow.{HandleRow}
-use Rattle.pagable_world.specs.Lists.{one, Among, times}
+use Rattle.pagable_world.specs.Lists.{one, Among}
 use Rattle.pagable_world.specs.Owners.{is_owner, is_owned_by, value, is_at, is_pin, held}
-use Rattle.pagable_world.specs.Cascade.{is_outside, held_outside, pins_outside, owned_outside, loses_value, IsClosed, IsWithin, IsLeast}
+use Rattle.pagable_world.specs.Cascade.{is_outside, held_outside, pins_outside, loses_value, IsClosed, IsWithin, IsLeast}
 use Rattle.pagable_laws.specs.FallLaws.{OwnsNothing, IsGivenAlone}
 use Rattle.pagable_laws.proofs.Sums.{self-number, one-true, sum-le, at-most-sum, sum-plus, sum-zero, counted}
 

@@ -1,12 +1,11 @@
 -- A chain that meets the headline, with its premises: a child, a parent that refers to it, and a count.
-use Rattle.std.proofs.Common.{◌≡◌, ℕ, zero, suc, ◌+◌, ◌<◌, ◌≤◌, ◌==◌, Bool, true, false, List, [], ◌∷◌, refl, ap, sym, subst, ◌∙◌, inl, inr, arith, Ok}
-use Rattle.std.specs.Prelude.{Option, Some, None, nat_lt, is_some, if◌then◌else◌, length, ◌&&◌, ◌⊎◌}
+use Rattle.std.proofs.Common.{◌≡◌, ℕ, zero, suc, ◌<◌, ◌≤◌, ◌==◌, true, false, [], ◌∷◌, refl, ap, sym, subst, ◌∙◌, inl, inr, arith}
+use Rattle.std.specs.Prelude.{Option, Some, None, nat_lt, is_some, ◌&&◌, ◌⊎◌}
 use Rattle.std.proofs.lemmas.Bool.Decides.{nat_tests}
 use Rattle.std.specs.List.{AllPairs}
-use Rattle.pagable_model.specs.declared.data_key.OptionalDataKey.TheVariants as optional
 use Rattle.pagable_model.specs.declared.numbers.ArcRef.{ArcRef}
 use Rattle.pagable_model.specs.Blob.{Blob}
-use Rattle.pagable_model.specs.Meaning.{Meaning, none, reference, followed}
+use Rattle.pagable_model.specs.Meaning.{none, reference, followed}
 use Rattle.pagable_model.specs.References.{references_in, SameReferences}
 use Rattle.pagable_model.specs.Canonical.{IsReadable, LiesIn, Throughout, throughout-in}
 use Rattle.pagable_model.specs.Shape as shapes
@@ -23,12 +22,12 @@ use Rattle.pagable_world.specs.Values.{IsLawful, IsSettled}
 use Rattle.pagable_world.specs.Refusals.{references_fault, IsReference}
 use Rattle.pagable_world.specs.HandleCalls.{row_of, is_named_by}
 use Rattle.pagable_world.specs.Events.{WorkStays}
-use Rattle.pagable_world.specs.Pager.{MachineState, IsHandleBefore, HandlesAreWhole, OwnersAreThere, IsWhole, WellFormed, IsMachineWhole, world_of}
+use Rattle.pagable_world.specs.Pager.{MachineState, IsHandleBefore, HandlesAreWhole, OwnersAreThere, WellFormed, IsMachineWhole}
 use Rattle.pagable_world.specs.Trees.{KeyFits, NodeStands, here, none-stands, reference-stands, IsReadingOf, of_caller, of_worker, StandsFor, SameTrees}
 use Rattle.pagable_world.specs.Runs.{Does, AreMoments, state_after, events_of, replies_of, TreesAlong, ReadsItsTypes, KeepsOpen, IsWellAsked, read_out, IsPremised}
 use Rattle.pagable_world.specs.Headline.{Headline, IsRight, WorkIsRight, claims_made}
-use Rattle.pagable_laws.specs.SmallWorlds.{new_machine, no_work, some_places, first, first_node}
-use Rattle.pagable_laws.specs.SmallMoments.{Sample, leaf, parent, sample_type, sample_meaning, sample_references, sample, sample_seen, sample_types, second, to_child, one_core, two_core, one_machine, two_machine, child_born, parent_born, counted, moments, one_tree, two_trees}
+use Rattle.pagable_laws.specs.SmallWorlds.{new_machine, no_work, some_places, first_node}
+use Rattle.pagable_laws.specs.SmallMoments.{Sample, leaf, parent, sample_type, sample_meaning, sample_references, sample, sample_seen, sample_types, to_child, one_core, two_core, one_machine, two_machine, child_born, parent_born, counted, moments, one_tree, two_trees}
 use Rattle.pagable_laws.specs.MetLaws.{HeadlineIsMet}
 
 -- ---- values
@@ -64,7 +63,7 @@ pub reads-types : ReadsItsTypes sample_types
 reads-types zero s is = reference-readable s (cc)
 reads-types (suc n) s is = nothing-readable s (cc)
 
-settled : (x : Sample) → IsSettled sample x
+pub settled : (x : Sample) → IsSettled sample x
 settled x a b is other = other ∙ sym is
 
 -- ---- small words
@@ -355,7 +354,7 @@ two-stand stored env trees =
 
 -- ---- the headline
 
-no-premise : {E : Type 0} (s s' : MachineState Sample E) (trees : ℕ → Tree) (event : Event Sample Blob Written) (reply : EventReply Sample Blob Written)
+pub no-premise : {E : Type 0} (s s' : MachineState Sample E) (trees : ℕ → Tree) (event : Event Sample Blob Written) (reply : EventReply Sample Blob Written)
     → KeepsOpen event → IsWellAsked sample s trees event reply → read_out reply ≡ None → IsPremised sample s trees event reply s'
 no-premise s s' trees event reply open_still well none_read = record { settled = λ n x is. settled x; reads_settled = λ x is. absurd (cc); stays_open = open_still; well = well }
 

@@ -1,13 +1,13 @@
 -- What falls of a value of two levels; and a lone cell that is unpinned.
-use Rattle.std.proofs.Common.{◌≡◌, ℕ, ◌+◌, ◌<◌, ◌≤◌, ◌==◌, ◌&&◌, Bool, true, false, List, [], ◌∷◌, length, refl, ap, inl, inr, sym, subst, ◌∙◌, arith}
-use Rattle.std.specs.Prelude.{not, Option, Ok, Some}
+use Rattle.std.proofs.Common.{◌≡◌, ℕ, ◌+◌, ◌<◌, ◌≤◌, ◌==◌, ◌&&◌, Bool, true, false, List, [], ◌∷◌, length, refl, ap, inl, inr, subst, arith}
+use Rattle.std.specs.Prelude.{not, Option, Ok}
 use Rattle.std.proofs.lemmas.List.Sums.{sum_by-cons}
 use Rattle.std.proofs.lemmas.Bool.Decides.{nat_tests}
 use Rattle.pagable_model.specs.Blob.{Blob}
 use Rattle.pagable_world.specs.declared.handles.Owner.TheVariants as owners
 use Rattle.pagable_world.specs.declared.rows.Mode.TheVariants as modes
 use Rattle.pagable_world.specs.declared.handles.HandleRow.{HandleRow}
-use Rattle.pagable_world.specs.Lists.{one, times}
+use Rattle.pagable_world.specs.Lists.{one}
 use Rattle.pagable_world.specs.Owners.{pins, held, is_at, find_row}
 use Rattle.pagable_world.specs.World.{Last}
 use Rattle.pagable_world.specs.Cascade.{is_keyed, owned_outside, loses_value, IsClosed, IsWithin, IsLeast, MustList, Falls, fallen, nobody}

@@ -1,5 +1,5 @@
 -- A worker and a load: each moment is a step that leaves the machine whole.
-use Rattle.std.proofs.Common.{◌≡◌, ℕ, zero, suc, ◌+◌, ◌<◌, ◌≤◌, ◌==◌, Bool, true, false, List, [], ◌∷◌, refl, ap, sym, subst, ◌∙◌, inl, inr, arith, Ok}
+use Rattle.std.proofs.Common.{◌≡◌, ℕ, zero, suc, ◌<◌, ◌≤◌, ◌==◌, Bool, true, false, [], ◌∷◌, refl, ap, sym, subst, inl, arith, Ok}
 use Rattle.std.specs.Prelude.{Option, Some, None, is_some, ◌⊎◌}
 use Rattle.std.proofs.lemmas.Bool.Decides.{nat_tests}
 use Rattle.pagable_model.specs.Blob.{Blob}
@@ -14,7 +14,7 @@ use Rattle.pagable_world.specs.declared.events.Event.TheVariants as events
 use Rattle.pagable_world.specs.declared.events.EventReply.TheVariants as answers
 use Rattle.pagable_world.specs.Lists.{updated}
 use Rattle.pagable_world.specs.Owners.{pins}
-use Rattle.pagable_world.specs.World.{Core, OpenLoad, of_key, Last, Reading, Walking, Alike, SameShelf, Shelf, greatest}
+use Rattle.pagable_world.specs.World.{Core, OpenLoad, of_key, Last, Reading, Walking, SameShelf, Shelf, greatest}
 use Rattle.pagable_world.specs.Cascade.{IsLeast, is_keyed, FallsAnyhow, fallen, nobody}
 use Rattle.pagable_world.specs.Refusals.{named_fault}
 use Rattle.pagable_world.specs.CacheCalls.{StoreCall}
@@ -22,14 +22,12 @@ use Rattle.pagable_world.specs.Values.{digest}
 use Rattle.pagable_world.specs.Loads.{answers_from, root_frame}
 use Rattle.pagable_world.specs.Workers.{without_worker, is_workers}
 use Rattle.pagable_world.specs.Events.{no_shelf, if_open, WorkStays}
-use Rattle.pagable_world.specs.Pager.{PagerState, WellFormed, MayOwnLoad, Moves, IsReadingWhole, IsWalkingWhole, IsMachineWhole}
-use Rattle.pagable_world.specs.Runs.{Does}
+use Rattle.pagable_world.specs.Pager.{WellFormed, MayOwnLoad, Moves, IsReadingWhole, IsWalkingWhole, IsMachineWhole}
+use Rattle.pagable_world.specs.Runs.{Does, AreMoments}
 use Rattle.pagable_laws.specs.SmallWorlds.{empty, new_machine, some_places}
 use Rattle.pagable_laws.specs.SmallMoments.{Sample, leaf, sample, sample_seen}
-use Rattle.pagable_laws.specs.SmallWork.{first_table, first_worker, first_load, item, item_blob, item_key, bare, with_item, started, paged_out, loading, read_back, walking, answered, reading, fetched, only, table_work, walking_work, reading_work, machine}
-use Rattle.pagable_laws.specs.MetLaws.{WorkIsDone}
+use Rattle.pagable_laws.specs.SmallWork.{first_table, first_worker, first_load, item, item_blob, item_key, bare, with_item, started, paged_out, loading, read_back, walking, answered, reading, fetched, only, table_work, walking_work, reading_work, machine, moments}
 use Rattle.pagable_laws.proofs.Headlines.{alike-self}
-use Rattle.pagable_laws.proofs.Sums.{self-number}
 
 -- ---- wholeness
 
@@ -381,5 +379,5 @@ read-step stored env =
     gone (suc (suc l)) = let a : (suc (suc l) == 1) ≡ false = grind (arith, nat_tests) in rw a refl
 
 -- an item is paged out and read back: a chain, over each storage that has nothing else under the key
-pub works : (E : Type 0) → WorkIsDone E
-works E stored env free = (table-step stored env, (begin-step stored env, (store-step stored env free, (key-step stored env, (fetch-step stored env, (read-step stored env, tt))))))
+pub works : {E : Type 0} (stored : ℕ → Option Blob) (env : E) → (stored item_key ≡ None) ⊎ (stored item_key ≡ Some item_blob) → AreMoments sample_seen (new_machine stored some_places env) (moments stored env)
+works stored env free = (table-step stored env, (begin-step stored env, (store-step stored env free, (key-step stored env, (fetch-step stored env, (read-step stored env, tt))))))

@@ -3,10 +3,12 @@ use Rattle.std.specs.Prelude.{ℕ, ◌≡◌, ◌⊎◌, Option, Some, None, Lis
 use Rattle.pagable_model.specs.Blob.{Blob}
 use Rattle.pagable_model.specs.Trees.{Tree}
 use Rattle.pagable_world.specs.Values.{IsLawful}
-use Rattle.pagable_world.specs.Runs.{AreMoments, ReadsItsTypes, HoldsSettled, IsPremised}
+use Rattle.pagable_world.specs.World.{Written}
+use Rattle.pagable_world.specs.Pager.{MachineState}
+use Rattle.pagable_world.specs.Runs.{Moment, AreMoments, ReadsItsTypes, IsPremised}
 use Rattle.pagable_world.specs.Headline.{Headline}
 use Rattle.pagable_laws.specs.SmallWorlds.{new_machine, some_places}
-use Rattle.pagable_laws.specs.SmallMoments.{sample, sample_seen, sample_types, one_machine, two_machine, child_born, parent_born, counted, moments}
+use Rattle.pagable_laws.specs.SmallMoments.{Sample, sample, sample_seen, sample_types, one_machine, two_machine, child_born, parent_born, counted, moments}
 use Rattle.pagable_laws.specs.SmallWork.{item_blob, item_key}
 use Rattle.pagable_laws.specs.SmallWork as work
 
@@ -21,10 +23,13 @@ pub record HeadlineIsMet (E : Type 0) : Type 0 where
   pub headline : (stored : ℕ → Option Blob) (env : E) → Headline sample_seen (new_machine stored some_places env) (moments stored env 1)
   pub not_two : (stored : ℕ → Option Blob) (env : E) → ¬ AreMoments sample_seen (new_machine stored some_places env) (moments stored env 2)
 
--- An item is paged out by a worker on a table, and its key read back by a load: a chain, over each storage that has nothing else there.
-abbrev pub WorkIsDone : Type 0 → Type 0
-WorkIsDone E = (stored : ℕ → Option Blob) (env : E) → (stored item_key ≡ None) ⊎ (stored item_key ≡ Some item_blob) → AreMoments sample_seen (new_machine stored some_places env) (work.moments stored env)
+-- what is asked of each moment of a chain that makes no node, where the nodes' trees are these
+abbrev pub ArePremised : {E : Type 0} → MachineState Sample E → (ℕ → Tree) → List (Moment Sample E Blob Written) → Type 0
+ArePremised s trees [] = Unit {0}
+ArePremised s trees (x ∷ xs) = IsPremised sample s trees x.event x.reply x.after × ArePremised x.after trees xs
 
--- It meets the headline too: the worker's key is the item's, and what is read back is what the key reads as.
-abbrev pub WorkMeetsHeadline : Type 0 → Type 0
-WorkMeetsHeadline E = (stored : ℕ → Option Blob) (env : E) → (stored item_key ≡ None) ⊎ (stored item_key ≡ Some item_blob) → Headline sample_seen (new_machine stored some_places env) (work.moments stored env)
+-- An item is paged out by a worker on a table, and its key read back by a load, over each storage that has nothing else under the key: a chain
+-- that meets the headline, whose premises are met at each moment.
+pub record WorkMeetsHeadline (E : Type 0) : Type 0 where
+  pub premised : (stored : ℕ → Option Blob) (env : E) (trees : ℕ → Tree) → ArePremised (new_machine stored some_places env) trees (work.moments stored env)
+  pub headline : (stored : ℕ → Option Blob) (env : E) → (stored item_key ≡ None) ⊎ (stored item_key ≡ Some item_blob) → Headline sample_seen (new_machine stored some_places env) (work.moments stored env)

