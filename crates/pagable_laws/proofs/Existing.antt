@@ -7,7 +7,7 @@ use Rattle.pagable_world.specs.declared.handles.Owner.{Owner}
 use Rattle.pagable_world.specs.declared.handles.Owner.TheVariants as owners
 use Rattle.pagable_world.specs.declared.handles.HandleRow.{HandleRow}
 use Rattle.pagable_world.specs.Lists.{one, Among}
-use Rattle.pagable_world.specs.Owners.{is_owner, is_owned_by, value, is_at, is_pin, held}
+use Rattle.pagable_world.specs.Owners.{is_owner, is_owned_by, owner_value, is_at, is_pin, held}
 use Rattle.pagable_world.specs.Cascade.{is_outside, held_outside, pins_outside, loses_value, IsClosed, IsWithin, IsLeast}
 use Rattle.pagable_laws.specs.FallLaws.{OwnsNothing, IsGivenAlone}
 use Rattle.pagable_laws.proofs.Sums.{self-number, one-true, sum-le, at-most-sum, sum-plus, sum-zero, counted}
@@ -23,7 +23,7 @@ abbrev pin_out : (ℕ → Bool) → ℕ → HandleRow → ℕ
 pin_out s n h = one (is_pin n h && is_outside s h)
 
 abbrev owned_out : (ℕ → Bool) → ℕ → HandleRow → ℕ
-owned_out s n h = one (is_owned_by (value n) h && is_outside s h)
+owned_out s n h = one (is_owned_by (owner_value n) h && is_outside s h)
 
 abbrev only_in : (ℕ → Bool) → (ℕ → Bool) → HandleRow → ℕ
 only_in s t h = one (s h.number.0 && not (t h.number.0))
@@ -44,14 +44,14 @@ follows lost q h = one (h.number.0 == q && owner_goes lost h.owner)
 abbrev grown : List HandleRow → (ℕ → Bool) → List HandleRow → (ℕ → Bool) → ℕ → Bool
 grown rows keyed entries s q = s q || nat_lt 0 (sum_by (follows (loses_value rows keyed entries s) q) rows)
 
-owned-by : (lost : ℕ → Bool) (n : ℕ) (o : Owner) → is_owner (value n) o ≡ true → lost n ≡ true → owner_goes lost o ≡ true
+owned-by : (lost : ℕ → Bool) (n : ℕ) (o : Owner) → is_owner (owner_value n) o ≡ true → lost n ≡ true → owner_goes lost o ≡ true
 owned-by lost n owners.Caller is goes = absurd (grind (arith, nat_tests))
 owned-by lost n (owners.Value m) is goes = let e : m.0 ≡ n = grind (arith, nat_tests) in ap lost e ∙ goes
 owned-by lost n owners.List is goes = absurd (grind (arith, nat_tests))
 owned-by lost n (owners.Load l) is goes = absurd (grind (arith, nat_tests))
 owned-by lost n (owners.Worker v) is goes = absurd (grind (arith, nat_tests))
 
-owner-of : (lost : ℕ → Bool) (o : Owner) → owner_goes lost o ≡ true → (n : ℕ) × (is_owner (value n) o ≡ true) × (lost n ≡ true)
+owner-of : (lost : ℕ → Bool) (o : Owner) → owner_goes lost o ≡ true → (n : ℕ) × (is_owner (owner_value n) o ≡ true) × (lost n ≡ true)
 owner-of lost owners.Caller goes = absurd (grind (arith, nat_tests))
 owner-of lost (owners.Value m) goes = (m.0, grind (arith, nat_tests), goes)
 owner-of lost owners.List goes = absurd (grind (arith, nat_tests))
@@ -74,7 +74,7 @@ module _ (rows : List HandleRow) (keyed : ℕ → Bool) (entries : List HandleRo
   more s = grown rows keyed entries s
 
   -- a handle that a value owns that goes is in the greater set
-  comes : (s : ℕ → Bool) (h : HandleRow) (n : ℕ) → Among rows h → is_owner (value n) h.owner ≡ true → lost s n ≡ true → more s h.number.0 ≡ true
+  comes : (s : ℕ → Bool) (h : HandleRow) (n : ℕ) → Among rows h → is_owner (owner_value n) h.owner ≡ true → lost s n ≡ true → more s h.number.0 ≡ true
   comes s h n among is goes =
       let a = owned-by (lost s) n h.owner is goes in
       let b = self-number h.number.0 in
@@ -88,12 +88,12 @@ module _ (rows : List HandleRow) (keyed : ℕ → Bool) (entries : List HandleRo
   closed-if : (s : ℕ → Bool) → sum_by (outside (more s)) rows ≡ sum_by (outside s) rows → IsClosed rows keyed entries s
   closed-if s same n goes =
       let each : (h : HandleRow) → Among rows h → owned_out s n h + outside (more s) h ≤ outside s h =
-      λ h among. part h among (is_owner (value n) h.owner) refl in
+      λ h among. part h among (is_owner (owner_value n) h.owner) refl in
       let a = sum-le (λ h. owned_out s n h + outside (more s) h) (outside s) rows each in
       let b = sum-plus (owned_out s n) (outside (more s)) rows in
       omega arith
     where
-      part : (h : HandleRow) → Among rows h → (b : Bool) → is_owner (value n) h.owner ≡ b → owned_out s n h + outside (more s) h ≤ outside s h
+      part : (h : HandleRow) → Among rows h → (b : Bool) → is_owner (owner_value n) h.owner ≡ b → owned_out s n h + outside (more s) h ≤ outside s h
       part h among true e = let c = comes s h n among e goes in grind (arith, nat_tests)
       part h among false e = let c = shrinks s h in grind (arith, nat_tests)
 
@@ -115,7 +115,7 @@ module _ (rows : List HandleRow) (keyed : ℕ → Bool) (entries : List HandleRo
       owned : (h : HandleRow) → Among rows h → 0 < sum_by (follows (lost s) h.number.0) rows → t h.number.0 ≡ true
       owned h among some = of-row h (counted (follows (lost s) h.number.0) rows some)
         where
-          of-value : (h x : HandleRow) → Among rows x → x.number.0 ≡ h.number.0 → (n : ℕ) × (is_owner (value n) x.owner ≡ true) × (lost s n ≡ true) → t h.number.0 ≡ true
+          of-value : (h x : HandleRow) → Among rows x → x.number.0 ≡ h.number.0 → (n : ℕ) × (is_owner (owner_value n) x.owner ≡ true) × (lost s n ≡ true) → t h.number.0 ≡ true
           of-value h x among number (n, is, goes) =
               let none : sum_by (owned_out t n) rows ≡ 0 = closed n (wider s t n within goes) in
               let at : owned_out t n x ≤ sum_by (owned_out t n) rows = at-most-sum (owned_out t n) rows x among in
@@ -172,8 +172,8 @@ module _ (rows : List HandleRow) (keyed : ℕ → Bool) (entries : List HandleRo
 -- where no value owns a handle, every set is closed
 closed-alone : (rows : List HandleRow) (keyed : ℕ → Bool) (entries : List HandleRow) (s : ℕ → Bool) → OwnsNothing rows → IsClosed rows keyed entries s
 closed-alone rows keyed entries s nothing n goes =
-    let none : sum_by (λ h. one (is_owner (value n) h.owner)) rows ≡ 0 = nothing n in
-    let few : sum_by (owned_out s n) rows ≤ sum_by (λ h. one (is_owner (value n) h.owner)) rows = sum-le (owned_out s n) (λ h. one (is_owner (value n) h.owner)) rows (λ h among. grind (arith, nat_tests)) in
+    let none : sum_by (λ h. one (is_owner (owner_value n) h.owner)) rows ≡ 0 = nothing n in
+    let few : sum_by (owned_out s n) rows ≤ sum_by (λ h. one (is_owner (owner_value n) h.owner)) rows = sum-le (owned_out s n) (λ h. one (is_owner (owner_value n) h.owner)) rows (λ h among. grind (arith, nat_tests)) in
     omega arith
 
 -- so the given handles are the least set, and no more fall

@@ -16,7 +16,7 @@ use Rattle.pagable_world.specs.declared.handles.HandleRow.{HandleRow}
 use Rattle.pagable_world.specs.declared.events.Event.{Event}
 use Rattle.pagable_world.specs.declared.events.EventReply.{EventReply}
 use Rattle.pagable_world.specs.Lists.{Among, times, is_in}
-use Rattle.pagable_world.specs.Owners.{find_row, held, pins, sharing, has_key, is_handle, is_owned_by, value}
+use Rattle.pagable_world.specs.Owners.{find_row, held, pins, sharing, has_key, is_handle, is_owned_by, owner_value}
 use Rattle.pagable_world.specs.World.{Core, Alike, Reading, Written, type_at, key_at, is_here}
 use Rattle.pagable_world.specs.Values.{IsLawful, IsSettled}
 use Rattle.pagable_world.specs.Refusals.{references_fault, IsReference}
@@ -148,8 +148,8 @@ one-is-leaf stored env =
     (λ x is. absurd (cc))
     (λ n a b c d x is. let f : (one_machine stored env).pager.values n ≡ None = rw a refl in absurd (cc))
 
-one-inside : (stored : ℕ → Option Blob) (n q : ℕ) (x : Sample) → leaf ≡ x → times (λ (r : ArcRef). r.handle.0 == q) (sample_references x) ≡ times (λ h. is_handle q h && is_owned_by (value n) h) (one_core stored).rows
-one-inside stored n q x is = subst (λ y. times (λ (r : ArcRef). r.handle.0 == q) (sample_references y) ≡ times (λ h. is_handle q h && is_owned_by (value n) h) (one_core stored).rows) is (by-node (λ q. 0 ≡ times (λ h. is_handle q h && is_owned_by (value n) h) (one_core stored).rows) refl refl (λ q a b c d. rw b refl) q)
+one-inside : (stored : ℕ → Option Blob) (n q : ℕ) (x : Sample) → leaf ≡ x → times (λ (r : ArcRef). r.handle.0 == q) (sample_references x) ≡ times (λ h. is_handle q h && is_owned_by (owner_value n) h) (one_core stored).rows
+one-inside stored n q x is = subst (λ y. times (λ (r : ArcRef). r.handle.0 == q) (sample_references y) ≡ times (λ h. is_handle q h && is_owned_by (owner_value n) h) (one_core stored).rows) is (by-node (λ q. 0 ≡ times (λ h. is_handle q h && is_owned_by (owner_value n) h) (one_core stored).rows) refl refl (λ q a b c d. rw b refl) q)
 
 one-well : {E : Type 0} (stored : ℕ → Option Blob) (env : E) → WellFormed sample (one_machine stored env).pager
 one-well stored env =
@@ -237,9 +237,9 @@ two-values stored env P one two =
     (λ x is. let e : parent to_child ≡ x = cc in subst (P 2) e two)
     (λ n a b c d x is. let f : (two_machine stored env).pager.values n ≡ None = rw (c, a) refl in absurd (cc))
 
-refers-well : (stored : ℕ → Option Blob) → IsReference (two_core stored) (value 2) to_child
+refers-well : (stored : ℕ → Option Blob) → IsReference (two_core stored) (owner_value 2) to_child
 unfolding is_named_by find_row
-refers-well stored = record { row = row_of 1 first_node modes.LoosePinned (value 2); live = refl; at = refl; owned = refl; fits = refl; typed = refl }
+refers-well stored = record { row = row_of 1 first_node modes.LoosePinned (owner_value 2); live = refl; at = refl; owned = refl; fits = refl; typed = refl }
 
 two-well : {E : Type 0} (stored : ℕ → Option Blob) (env : E) → WellFormed sample (two_machine stored env).pager
 unfolding is_named_by
@@ -256,11 +256,11 @@ two-well stored env =
       counted = by-node (λ n. (two_machine stored env).pager.counts n ≡ pins n (two_core stored).rows) refl refl (λ n a b c d. rw (c, a, b, d) refl);
       valued = by-node (λ n. is_some ((two_machine stored env).pager.values n) ≡ (is_some ((two_core stored).cells n) && is_here (two_core stored) n)) refl refl (λ n a b c d. rw (c, a) refl);
       typed = two-values stored env (λ n x. type_at (two_core stored) n ≡ Some (sample_type x)) refl refl;
-      inside = λ n x q is. two-values stored env (λ n x. times (λ (r : ArcRef). r.handle.0 == q) (sample_references x) ≡ times (λ h. is_handle q h && is_owned_by (value n) h) (two_core stored).rows)
-          (by-node (λ q. 0 ≡ times (λ h. is_handle q h && is_owned_by (value 1) h) (two_core stored).rows) refl refl (λ q a b c d. rw (b, d) refl) q)
-          (by-node (λ q. times (λ (r : ArcRef). r.handle.0 == q) (to_child ∷ []) ≡ times (λ h. is_handle q h && is_owned_by (value 2) h) (two_core stored).rows) refl refl (λ q a b c d. rw (b, d) refl) q) n x is;
-      bare = by-node (λ n. (two_machine stored env).pager.values n ≡ None → times (is_owned_by (value n)) (two_core stored).rows ≡ 0) (λ none. absurd (cc)) (λ none. absurd (cc)) (λ n a b c d none. rw d refl);
-      references = λ n x r is among. two-values stored env (λ n x. Among (sample_references x) r → IsReference (two_core stored) (value n) r) (λ among. absurd (nothing-in r among)) (of-one (IsReference (two_core stored) (value 2)) to_child (refers-well stored) r) n x is among;
+      inside = λ n x q is. two-values stored env (λ n x. times (λ (r : ArcRef). r.handle.0 == q) (sample_references x) ≡ times (λ h. is_handle q h && is_owned_by (owner_value n) h) (two_core stored).rows)
+          (by-node (λ q. 0 ≡ times (λ h. is_handle q h && is_owned_by (owner_value 1) h) (two_core stored).rows) refl refl (λ q a b c d. rw (b, d) refl) q)
+          (by-node (λ q. times (λ (r : ArcRef). r.handle.0 == q) (to_child ∷ []) ≡ times (λ h. is_handle q h && is_owned_by (owner_value 2) h) (two_core stored).rows) refl refl (λ q a b c d. rw (b, d) refl) q) n x is;
+      bare = by-node (λ n. (two_machine stored env).pager.values n ≡ None → times (is_owned_by (owner_value n)) (two_core stored).rows ≡ 0) (λ none. absurd (cc)) (λ none. absurd (cc)) (λ n a b c d none. rw d refl);
+      references = λ n x r is among. two-values stored env (λ n x. Among (sample_references x) r → IsReference (two_core stored) (owner_value n) r) (λ among. absurd (nothing-in r among)) (of-one (IsReference (two_core stored) (owner_value 2)) to_child (refers-well stored) r) n x is among;
     }
   where
     nothing-in : (r : ArcRef) → Among [] r → ⊥

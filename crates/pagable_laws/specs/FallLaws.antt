@@ -4,7 +4,7 @@ use Rattle.pagable_model.specs.Blob.{Blob}
 use Rattle.pagable_world.specs.declared.handles.Owner.TheVariants as owners
 use Rattle.pagable_world.specs.declared.handles.HandleRow.{HandleRow}
 use Rattle.pagable_world.specs.Lists.{Among, times}
-use Rattle.pagable_world.specs.Owners.{is_pinning, is_owned_by, value, pins}
+use Rattle.pagable_world.specs.Owners.{is_pinning, is_owned_by, owner_value, pins}
 use Rattle.pagable_world.specs.Cascade.{IsLeast}
 use Rattle.pagable_world.specs.HandleCalls.{UnpinCall}
 use Rattle.pagable_laws.specs.SmallWorlds.{two_rows, are_two, outer, both, first, lone, lone_listed, lone_unlisted}
@@ -20,7 +20,7 @@ IsOne = (rows : List HandleRow) (keyed : ℕ → Bool) (entries : List HandleRow
 
 -- no value owns a handle
 abbrev pub OwnsNothing : List HandleRow → Type 0
-OwnsNothing rows = (n : ℕ) → times (is_owned_by (value n)) rows ≡ 0
+OwnsNothing rows = (n : ℕ) → times (is_owned_by (owner_value n)) rows ≡ 0
 
 -- Where no value owns a handle, the given handles fall and no more.
 abbrev pub IsGivenAlone : Type 0

@@ -8,7 +8,7 @@ use Rattle.pagable_world.specs.declared.rows.Mode.TheVariants as modes
 use Rattle.pagable_world.specs.declared.handles.Owner.TheVariants as owners
 use Rattle.pagable_world.specs.declared.handles.HandleRow.{HandleRow}
 use Rattle.pagable_world.specs.Lists.{times}
-use Rattle.pagable_world.specs.Owners.{is_owned_by, value, is_at, is_pin, held, pins, sharing, has_key}
+use Rattle.pagable_world.specs.Owners.{is_owned_by, owner_value, is_at, is_pin, held, pins, sharing, has_key}
 use Rattle.pagable_world.specs.World.{Core, greatest, key_at, Alike}
 
 -- ---- the least set
@@ -25,7 +25,7 @@ abbrev pub pins_outside : List HandleRow → (ℕ → Bool) → ℕ → ℕ
 pins_outside rows s n = times (λ h. is_pin n h && is_outside s h) rows
 
 abbrev pub owned_outside : List HandleRow → (ℕ → Bool) → ℕ → ℕ
-owned_outside rows s n = times (λ h. is_owned_by (value n) h && is_outside s h) rows
+owned_outside rows s n = times (λ h. is_owned_by (owner_value n) h && is_outside s h) rows
 
 -- The node's value goes where the handles of the set go and these entries come to the list: a node with a key loses it with its last
 -- pin, a shared node or a cell without a key with its last handle, unless an entry of the list comes for it.
@@ -66,17 +66,17 @@ pub record MustList (before w w' : Core) (n : ℕ) : Type 0 where
   pub stands_open : w.closed ≡ false
 
 -- the vector of handles had no place left, or the list had none by then
-abbrev pub IsListFull : Core → Core → Type 0
-IsListFull w w' = (w.places.handles ≤ length w.rows) ⊎ (w.places.entries ≤ length w'.list)
+abbrev pub IsPlaceWanting : Core → Core → Type 0
+IsPlaceWanting w w' = (w.places.handles ≤ length w.rows) ⊎ (w.places.entries ≤ length w'.list)
 
 -- why a cell isn't listed: no number is left, or no place
 abbrev pub CannotList : Core → Core → Type 0
-CannotList w w' = (greatest ≤ w'.last.handle) ⊎ IsListFull w w'
+CannotList w w' = (greatest ≤ w'.last.handle) ⊎ IsPlaceWanting w w'
 
 -- what is answered then: memory is wanting only where a number was left at first
 abbrev pub IsListRefusal : Core → Core → Error → Type 0
 IsListRefusal w w' errors.NumbersSpent = greatest ≤ w'.last.handle
-IsListRefusal w w' errors.OutOfMemory = IsListFull w w' × (w.last.handle < greatest)
+IsListRefusal w w' errors.OutOfMemory = IsPlaceWanting w w' × (w.last.handle < greatest)
 IsListRefusal w w' _ = ⊥
 
 -- what the answer tells of the listing: all that must be listed is, or some cell isn't

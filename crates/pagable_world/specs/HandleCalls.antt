@@ -16,7 +16,7 @@ use Rattle.pagable_world.specs.declared.handles.HandleRow.{HandleRow}
 use Rattle.pagable_world.specs.declared.answers.Pinning.{Pinning}
 use Rattle.pagable_world.specs.declared.answers.Pinning.TheVariants as pinnings
 use Rattle.pagable_world.specs.Lists.{changed, updated}
-use Rattle.pagable_world.specs.Owners.{is_loose, is_unpinned, is_pinned, any_mode, is_handle, value, pins}
+use Rattle.pagable_world.specs.Owners.{is_loose, is_unpinned, is_pinned, any_mode, is_handle, owner_value, pins}
 use Rattle.pagable_world.specs.World.{Core, Cell, greatest, row_at, type_at, key_at, is_here, Alike}
 use Rattle.pagable_world.specs.Cascade.{Falls, FallsAnyhow, nobody, only_handle}
 use Rattle.pagable_world.specs.Refusals.{earlier, where_so, spent, AreHandlesFull, IsListFull, Owns, live_fault, handle_fault, references_fault, Refused}
@@ -59,7 +59,7 @@ next_node w = record { 0 = w.last.node + 1 }
 abbrev pub with_node : Core → ℕ → OptionalDataKey → List ArcRef → Core
 with_node w node_type key references =
     record w {
-      rows = moved (is_named_by references) (value (w.last.node + 1)) w.rows;
+      rows = moved (is_named_by references) (owner_value (w.last.node + 1)) w.rows;
       cells = updated (w.last.node + 1) (Some (record { node_type = node_type; key = key })) w.cells;
       last = record w.last { node = w.last.node + 1 };
     }
@@ -193,11 +193,11 @@ TakeCall w me i None w' = (length w.list ≤ i) × Alike w w'
 -- ---- room
 
 -- how many handles and list entries can still be added while nothing grows
-abbrev pub room : Core → ℕ
-room w = min (w.places.handles - length w.rows) (w.places.entries - length w.list)
+abbrev pub room_of : Core → ℕ
+room_of w = min (w.places.handles - length w.rows) (w.places.entries - length w.list)
 
 -- places are made ready: as many as are asked for, or the call is refused
 pub record ReserveCall (w : Core) (n : ℕ) (r : Result (Unit {0}) Error) (w' : Core) : Type 0 where
   pub stays : Alike w w'
-  pub enough : IfOk r (λ u. n ≤ room w')
-  pub wanting : IfErr r (λ e. (e ≡ errors.OutOfMemory) × (room w' < n))
+  pub enough : IfOk r (λ u. n ≤ room_of w')
+  pub wanting : IfErr r (λ e. (e ≡ errors.OutOfMemory) × (room_of w' < n))

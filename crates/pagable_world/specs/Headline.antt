@@ -27,7 +27,7 @@ use Rattle.pagable_world.specs.declared.events.EventReply.{EventReply}
 use Rattle.pagable_world.specs.declared.events.EventReply.TheVariants as answers
 use Rattle.pagable_world.specs.Lists.{Among, times}
 use Rattle.pagable_world.specs.Kinds.{is_loose_kind, identity_of}
-use Rattle.pagable_world.specs.Owners.{is_owned_by, worker}
+use Rattle.pagable_world.specs.Owners.{is_owned_by, owner_worker}
 use Rattle.pagable_world.specs.World.{OpenLoad, Shelf, Slot, Written, no_result, failed, Reading, Task, of_item, of_entry, Walking, World, row_at, key_at, is_identity}
 use Rattle.pagable_world.specs.Values.{Values, Seen, IsLawful}
 use Rattle.pagable_world.specs.Refusals.{IsReference}
@@ -188,7 +188,7 @@ IsMetFailure shelf n steps finals.AlreadyFailed = (i : Identity) × Among steps 
 -- a worker that has answered has a result in each slot that it claimed, owns no handle and has no load open
 pub record HasLetGo (u : World) (n : ℕ) (shelf : Shelf) : Type 0 where
   pub results : (i : Identity) (slot : Slot) → shelf.slots i ≡ Some slot → slot.worker ≡ n → slot.outcome ≢ no_result
-  pub handles : times (is_owned_by (worker n)) u.core.rows ≡ 0
+  pub handles : times (is_owned_by (owner_worker n)) u.core.rows ≡ 0
   pub loads : (l : ℕ) → is_workers_load n (u.core.loads l) ≡ false
 
 -- Of one worker, with all its steps: they are in order, each kind once for an identity, and within their bound; and its answer is one that

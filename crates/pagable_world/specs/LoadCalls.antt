@@ -21,7 +21,7 @@ use Rattle.pagable_world.specs.declared.calls.Want.{Want}
 use Rattle.pagable_world.specs.declared.calls.Want.TheVariants as wants
 use Rattle.pagable_world.specs.Lists.{is_in, updated}
 use Rattle.pagable_world.specs.Kinds.{is_loose_kind, is_pinned_kind, mode_of}
-use Rattle.pagable_world.specs.Owners.{is_owner, is_loose, any_mode, value}
+use Rattle.pagable_world.specs.Owners.{is_owner, is_loose, any_mode, owner_value}
 use Rattle.pagable_world.specs.World.{Core, Root, of_cell, of_key, OpenLoad, greatest, row_at, type_at, key_at, is_here, usable, Alike}
 use Rattle.pagable_world.specs.Cascade.{Falls, FallsAnyhow}
 use Rattle.pagable_world.specs.Refusals.{earlier, where_so, refused_if, spent, AreHandlesFull, Owns, handle_fault, references_fault, named_fault, OwnsLoad, load_fault, Refused}
@@ -187,7 +187,7 @@ pub record Installs (w : Core) (me : Owner) (l : LoadNumber) (node : NodeNumber)
   pub next : IsNext k w
   pub falls :
       ((is_here w node.0 ≡ false)
-      × FallsAnyhow w (with_pin (record (without_load w l) { rows = moved (is_named_by references) (value node.0) w.rows }) h node me) (λ q. is_owned_in w (owners.Load l) q && not (is_named_by references q)) w')
+      × FallsAnyhow w (with_pin (record (without_load w l) { rows = moved (is_named_by references) (owner_value node.0) w.rows }) h node me) (λ q. is_owned_in w (owners.Load l) q && not (is_named_by references q)) w')
       ⊎ ((is_here w node.0 ≡ true) × FallsAnyhow w (with_pin (without_load w l) h node me) (is_owned_in w (owners.Load l)) w')
 
 -- the load is of a key, or of a cell of another type; and no number is left for a pin, if the caller still has the handle

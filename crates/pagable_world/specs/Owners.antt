@@ -55,15 +55,12 @@ is_owner (owners.Load l) (owners.Load m) = m.0 == l.0
 is_owner (owners.Worker v) (owners.Worker u) = u.0 == v.0
 is_owner _ _ = false
 
--- the value of the node, the load and the worker of this number, as owners
-abbrev pub value : ℕ → Owner
-value n = owners.Value (record { 0 = n })
+-- the value of the node and the worker of this number, as owners
+abbrev pub owner_value : ℕ → Owner
+owner_value n = owners.Value (record { 0 = n })
 
-abbrev pub load : ℕ → Owner
-load l = owners.Load (record { 0 = l })
-
-abbrev pub worker : ℕ → Owner
-worker v = owners.Worker (record { 0 = v })
+abbrev pub owner_worker : ℕ → Owner
+owner_worker v = owners.Worker (record { 0 = v })
 
 -- whether the handle has this number
 abbrev pub is_handle : ℕ → HandleRow → Bool

@@ -26,7 +26,7 @@ use Rattle.pagable_world.specs.declared.events.Took.{Took}
 use Rattle.pagable_world.specs.declared.events.Took.TheVariants as took
 use Rattle.pagable_world.specs.Lists.{Among, times}
 use Rattle.pagable_world.specs.Kinds.{is_shared_kind}
-use Rattle.pagable_world.specs.Owners.{is_pinning, is_loose, is_shared, is_owned_by, value, is_handle, held, pins, sharing, has_key}
+use Rattle.pagable_world.specs.Owners.{is_pinning, is_loose, is_shared, is_owned_by, owner_value, is_handle, held, pins, sharing, has_key}
 use Rattle.pagable_world.specs.World.{Core, OpenLoad, Root, of_cell, of_key, Reading, Todo, to_load, Walking, Work, World, Written, greatest, row_at, type_at, key_at, is_here}
 use Rattle.pagable_world.specs.Refusals.{IsReference}
 use Rattle.pagable_world.specs.Values.{Values, Seen, HasForm}
@@ -130,9 +130,9 @@ pub record WellFormed {N E : Type 0} (v : Values N) (s : PagerState N E) : Type 
   pub valued : (n : ℕ) → is_some (s.values n) ≡ (is_some (s.core.cells n) && is_here s.core n)
   pub typed : (n : ℕ) (x : N) → s.values n ≡ Some x → type_at s.core n ≡ Some (v.node_type x)
   -- the handles that a value owns are exactly its references, each of a fitting mode and of the node that it names
-  pub inside : (n : ℕ) (x : N) (q : ℕ) → s.values n ≡ Some x → times (λ (r : ArcRef). r.handle.0 == q) (v.references x) ≡ times (λ h. is_handle q h && is_owned_by (value n) h) s.core.rows
-  pub bare : (n : ℕ) → s.values n ≡ None → times (is_owned_by (value n)) s.core.rows ≡ 0
-  pub references : (n : ℕ) (x : N) (r : ArcRef) → s.values n ≡ Some x → Among (v.references x) r → IsReference s.core (value n) r
+  pub inside : (n : ℕ) (x : N) (q : ℕ) → s.values n ≡ Some x → times (λ (r : ArcRef). r.handle.0 == q) (v.references x) ≡ times (λ h. is_handle q h && is_owned_by (owner_value n) h) s.core.rows
+  pub bare : (n : ℕ) → s.values n ≡ None → times (is_owned_by (owner_value n)) s.core.rows ≡ 0
+  pub references : (n : ℕ) (x : N) (r : ArcRef) → s.values n ≡ Some x → Among (v.references x) r → IsReference s.core (owner_value n) r
 
 -- each reading is of an open load of the caller's, and of its root's type
 abbrev pub FitsRoot : Root → Reading → Type 0

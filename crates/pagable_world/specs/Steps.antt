@@ -23,7 +23,7 @@ use Rattle.pagable_world.specs.declared.events.EventReply.{EventReply}
 use Rattle.pagable_world.specs.declared.events.EventReply.TheVariants as answers
 use Rattle.pagable_world.specs.World.{Core, Alike}
 use Rattle.pagable_world.specs.Values.{Seen, digest, seen_as}
-use Rattle.pagable_world.specs.HandleCalls.{BirthCall, AwayBirthCall, CloneCall, PinCall, UnpinCall, ReleaseCall, LoosenCall, SetKeyCall, CountCall, KeyCall, AwayCall, NodeCall, TypeCall, ScheduleCall, TakeCall, room, ReserveCall}
+use Rattle.pagable_world.specs.HandleCalls.{BirthCall, AwayBirthCall, CloneCall, PinCall, UnpinCall, ReleaseCall, LoosenCall, SetKeyCall, CountCall, KeyCall, AwayCall, NodeCall, TypeCall, ScheduleCall, TakeCall, room_of, ReserveCall}
 use Rattle.pagable_world.specs.CacheCalls.{RecallCall, OfferCall, ClearCall, FetchCall, StoreCall, FlushCall, CloseCall}
 use Rattle.pagable_world.specs.LoadCalls.{BeginCall, BeginKeyCall, Given, from_cache, from_store, AskCall, AdoptCall, LazyCall, EndCall, HandOverCall, DropCall}
 
@@ -161,7 +161,7 @@ Does m w me (calls.LoadEnd l x) reply w' = AnswersEnded reply (λ r. EndCall w m
 Does m w me (calls.LoadTake l hs) reply w' = AnswersDone reply (λ r. HandOverCall w me l hs.items r w')
 Does m w me (calls.LoadDrop l) reply w' = AnswersDone reply (λ r. DropCall w me l r w')
 Does m w me (calls.Reserve n) reply w' = AnswersDone reply (λ r. ReserveCall w n r w')
-Does m w me calls.Room reply w' = AnswersLength reply (λ n. (n ≡ room w) × Alike w w')
+Does m w me calls.Room reply w' = AnswersLength reply (λ n. (n ≡ room_of w) × Alike w w')
 Does m w me calls.Close reply w' = AnswersDone reply (λ r. CloseCall w r w')
 
 -- The world may give this reply to the call of this one who asks, and go on to the new world.

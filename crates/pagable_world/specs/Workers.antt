@@ -25,7 +25,7 @@ use Rattle.pagable_world.specs.declared.events.WorkerAnswer.{WorkerAnswer}
 use Rattle.pagable_world.specs.declared.events.WorkerAnswer.TheVariants as finals
 use Rattle.pagable_world.specs.Lists.{updated}
 use Rattle.pagable_world.specs.Kinds.{is_eager, fits_mode, identity_of, longest_path, above}
-use Rattle.pagable_world.specs.Owners.{is_owner, is_loose, worker}
+use Rattle.pagable_world.specs.Owners.{is_owner, is_loose, owner_worker}
 use Rattle.pagable_world.specs.World.{Core, OpenLoad, Shelf, Slot, Outcome, no_result, published, failed, Written, Frame, Reading, Fault, was_refused, was_failed, answer_of_fault, Todo, to_start, to_pin, to_load, to_write, to_finish, to_item, to_set, to_publish, to_release, to_fail, Task, of_item, of_entry, row_at, type_at, is_identity, Alike, SameShelf}
 use Rattle.pagable_world.specs.Values.{Values, Seen, digest, seen_as}
 use Rattle.pagable_world.specs.Cascade.{FallsAnyhow}
@@ -212,25 +212,25 @@ abbrev pub fresh : LoadNumber → ℕ → Reading
 fresh l t = record { load = l; node_type = t; frames = []; steps = 0 }
 
 abbrev pub PinsFirst : ℕ → Site → ArcRef → ℕ → List Todo → PinStep → Site → Type 0
-PinsFirst v s r place below (pinsteps.Held k) s' = (through : HandleNumber) × PinsAtOnce s.core (worker v) r through k s'.core × GoesTo s (to_write r place through ∷ below) s'
-PinsFirst v s r place below (pinsteps.LoadBegun l) s' = (through : HandleNumber) × PinsByLoad s.core (worker v) r through l s'.core × GoesTo s (to_load r place through (fresh l (type_of r.kind.0)) ∷ below) s'
+PinsFirst v s r place below (pinsteps.Held k) s' = (through : HandleNumber) × PinsAtOnce s.core (owner_worker v) r through k s'.core × GoesTo s (to_write r place through ∷ below) s'
+PinsFirst v s r place below (pinsteps.LoadBegun l) s' = (through : HandleNumber) × PinsByLoad s.core (owner_worker v) r through l s'.core × GoesTo s (to_load r place through (fresh l (type_of r.kind.0)) ∷ below) s'
 PinsFirst v s r place below pinsteps.LoadWent s' = ⊥
 
 -- what was claimed is pinned, or a load of it begins
 pub record PinsClaimed (v : ℕ) (s : Site) (r : ArcRef) (place : ℕ) (below : List Todo) (result : Result PinStep Error) (s' : Site) : Type 0 where
   pub pins : IfOk result (λ p. PinsFirst v s r place below p s')
-  pub refused : IfErr result (λ e. PinRefused s.core (worker v) r e s'.core × GoesTo s (failing_by e s.todo) s')
+  pub refused : IfErr result (λ e. PinRefused s.core (owner_worker v) r e s'.core × GoesTo s (failing_by e s.todo) s')
 
 abbrev pub LoadsOn : {N : Type 0} → Values N → ℕ → Site → ArcRef → ℕ → HandleNumber → Reading → List Todo → PinStep → Site → Type 0
-LoadsOn m v s r place through reading below (pinsteps.Held k) s' = ReadingDoes m s.core (worker v) reading (Some (ends.Pinned k)) [] s'.core × GoesTo s (to_write r place through ∷ below) s'
+LoadsOn m v s r place through reading below (pinsteps.Held k) s' = ReadingDoes m s.core (owner_worker v) reading (Some (ends.Pinned k)) [] s'.core × GoesTo s (to_write r place through ∷ below) s'
 LoadsOn m v s r place through reading below (pinsteps.LoadBegun l) s' = ⊥
 LoadsOn m v s r place through reading below pinsteps.LoadWent s' =
-    (frames : List Frame) × ReadingDoes m s.core (worker v) reading None frames s'.core × GoesTo s (to_load r place through (gone_on reading frames) ∷ below) s'
+    (frames : List Frame) × ReadingDoes m s.core (owner_worker v) reading None frames s'.core × GoesTo s (to_load r place through (gone_on reading frames) ∷ below) s'
 
 -- its load goes on, or ends with the pin
 pub record PinsLoaded {N : Type 0} (m : Values N) (v : ℕ) (s : Site) (r : ArcRef) (place : ℕ) (through : HandleNumber) (reading : Reading) (below : List Todo) (result : Result PinStep Error) (s' : Site) : Type 0 where
   pub goes : IfOk result (λ p. LoadsOn m v s r place through reading below p s')
-  pub refused : IfErr result (λ e. ReadingDoes m s.core (worker v) reading (Some (ends.Refused e)) [] s'.core × GoesTo s (failing_by e s.todo) s')
+  pub refused : IfErr result (λ e. ReadingDoes m s.core (owner_worker v) reading (Some (ends.Refused e)) [] s'.core × GoesTo s (failing_by e s.todo) s')
 
 -- ---- writing, storing, keys
 
@@ -252,7 +252,7 @@ pub record StoresBlob {N : Type 0} (m : Values N) (s : Site) (written : Written)
 
 -- the key is set through the worker's handle of the reference's mode: on a cell it stands from now on
 pub record SetsKey (v : ℕ) (s : Site) (r : ArcRef) (through : HandleNumber) (key height : ℕ) (below : List Todo) (result : Result (Unit {0}) Error) (s' : Site) : Type 0 where
-  pub sets : SetKeyCall s.core (worker v) through key result s'.core
+  pub sets : SetKeyCall s.core (owner_worker v) through key result s'.core
   pub goes : IfOk result (λ u. GoesTo s (to_publish r key height ∷ below) s')
   pub refused : IfErr result (λ e. GoesTo s (failing_by e s.todo) s')
 
@@ -265,7 +265,7 @@ with_outcome outcome (Some slot) = Some (if is_open_outcome slot.outcome then re
 
 abbrev pub is_workers_row : ℕ → Option HandleRow → Bool
 is_workers_row v None = false
-is_workers_row v (Some row) = is_owner (worker v) row.owner
+is_workers_row v (Some row) = is_owner (owner_worker v) row.owner
 
 abbrev pub is_row_at : ℕ → Option HandleRow → Bool
 is_row_at n None = false
@@ -277,7 +277,7 @@ is_workers_at w v n q = is_workers_row v (row_at w (record { 0 = q })) && is_row
 
 abbrev pub is_workers_load : ℕ → Option OpenLoad → Bool
 is_workers_load v None = false
-is_workers_load v (Some load) = is_owner (worker v) load.owner
+is_workers_load v (Some load) = is_owner (owner_worker v) load.owner
 
 abbrev pub is_load_of : Core → ℕ → Owner → Bool
 is_load_of w v (owners.Load l) = is_workers_load v (w.loads l.0)
@@ -285,7 +285,7 @@ is_load_of w v owner = false
 
 abbrev pub is_of_worker_row : Core → ℕ → Option HandleRow → Bool
 is_of_worker_row w v None = false
-is_of_worker_row w v (Some row) = is_owner (worker v) row.owner || is_load_of w v row.owner
+is_of_worker_row w v (Some row) = is_owner (owner_worker v) row.owner || is_load_of w v row.owner
 
 -- whether the handle is owned by the worker or by one of its loads
 abbrev pub is_workers : Core → ℕ → ℕ → Bool
@@ -310,7 +310,7 @@ with_failed shelf v = record shelf { slots = λ i. failed_slot v (shelf.slots i)
 -- an entry that was never pinned goes back to the list's end, as far as the list can take it
 abbrev pub GivesBack : Core → ℕ → Option HandleNumber → Core → Type 0
 GivesBack w v None w' = Alike w w'
-GivesBack w v (Some h) w' = (r : Result (Unit {0}) Error) × ScheduleCall w (worker v) h r w'
+GivesBack w v (Some h) w' = (r : Result (Unit {0}) Error) × ScheduleCall w (owner_worker v) h r w'
 
 -- ---- one step
 
