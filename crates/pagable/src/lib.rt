@@ -56,6 +56,6 @@ pub use pagable_traits::{
     Canonical, Carried, EagerlyCarried, Env, InNode, KeyHash, NodeSet, OneMeaning, Pagable,
     PagableBoxDeserialize, PagableDeserialize, PagableDeserializeOwned, PagableDeserializer,
     PagableEagerDeserialize, PagableEagerSerialize, PagableKey, PagableOrdKey, PagableSerialize,
-    PagableSerializer, PathText, Reader, SessionContext, SessionMap, Thin, read_twice,
-    serialize_slice, serialize_str,
+    PagableSerializer, PathText, Reader, SessionContext, SessionMap, Thin, serialize_slice,
+    serialize_str,
 };

@@ -8,6 +8,7 @@ pub mod animal;
 pub mod dish;
 pub mod expression;
 pub mod menu;
+pub mod quick_start;
 pub mod sighting;
 pub mod size;
 pub mod storages;

@@ -59,10 +59,6 @@ abbrev pub raised : ℕ → ℕ → Read ℕ → Read ℕ
 raised low scale (Ok high) = Ok (low + scale * high.0, high.1)
 raised low scale (Err e) = Err e
 
-pub raised_none : (r : Read ℕ) → r ≡ raised 0 1 r
-raised_none (Ok high) = let e : 0 + 1 * high.0 ≡ high.0 = omega arith in rw e refl
-raised_none (Err e) = refl
-
 raised_twice : (low scale byte : ℕ) (r : Read ℕ) → raised low scale (raised byte 128 r) ≡ raised (low + scale * byte) (scale * 128) r
 raised_twice low scale byte (Ok high) =
     let e : low + scale * (byte + 128 * high.0) ≡ low + scale * byte + scale * 128 * high.0 = omega arith in rw e refl
@@ -111,16 +107,6 @@ pub record ReadsOn (more last : ℕ) (bytes : List ℕ) (place low scale : ℕ) 
   pub limit : scale * varint_limit (more - place) last ≡ varint_limit more last
   pub below : low < scale
   pub turn : place ≤ more
-
-pub ReadsOn_none : (more last : ℕ) (bytes : List ℕ) → ReadsOn more last bytes 0 0 1
-ReadsOn_none more last bytes =
-    let same : more - 0 ≡ more = omega arith in
-    record {
-      reads = rw same (raised_none (varint_at more last bytes));
-      limit = rw same (omega arith);
-      below = omega arith;
-      turn = omega arith;
-    }
 
 limit-above : (more last : ℕ) → last < varint_limit more last
 unfolding varint_limit

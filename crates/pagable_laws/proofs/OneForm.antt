@@ -3,7 +3,7 @@ use Rattle.std.proofs.Common.{◌≡◌, ℕ, suc, Bool, true, false, List, [], 
 use Rattle.std.specs.Int.{Width}
 use Rattle.pagable_model.specs.Numbers.{unsigned_form, signed_form}
 use Rattle.pagable_model.specs.Basic.{bool_form, length_form, text_form, char_form}
-use Rattle.pagable_model.specs.Meaning.{Meaning, number, integer, text, none, pair, variant, sequence, entry}
+use Rattle.pagable_model.specs.Meaning.{Meaning, number, text, none, pair, sequence}
 use Rattle.pagable_model.specs.Meaning as meanings
 use Rattle.pagable_model.specs.Keys.{Entry, KeyOrder}
 use Rattle.pagable_model.specs.Carried.{of_entries}

@@ -2,7 +2,7 @@
 use Rattle.std.specs.Prelude.{ℕ, List, [], ◌∷◌, Bool, false, cond, Option, Some, None, Result, Ok, Err, map}
 use Rattle.std.specs.Int.{w64}
 use Rattle.std.specs.Str.{bytes_eq}
-use Rattle.pagable_model.specs.Meaning.{Meaning, number, none, pair, sequence, absent, present, success, failure}
+use Rattle.pagable_model.specs.Meaning.{Meaning, number, pair, sequence, absent, present, success, failure}
 use Rattle.pagable_model.specs.Keys.{Entry, code_order, put_all, put_sorted}
 use Rattle.pagable_model.specs.Meaning as meanings
 use Rattle.pagable_model.specs.Shape.{Shape, nothing, unsigned, signed, text, optional, list, both, tagged}

@@ -6,7 +6,7 @@ use Rattle.pagable_model.specs.declared.error.Error.TheVariants as errors
 use Rattle.pagable_model.specs.Steps.{◌>>=◌}
 use Rattle.pagable_model.specs.Numbers.{Read, unsigned_at, signed_at}
 use Rattle.pagable_model.specs.Basic.{length_at, text_at, bool_at, char_at, duration_at}
-use Rattle.pagable_model.specs.Meaning.{Meaning, number, integer, none, pair, variant, sequence, entry, absent, present, success, failure, lifted}
+use Rattle.pagable_model.specs.Meaning.{Meaning, number, integer, none, variant, sequence, entry, absent, present, success, failure, lifted}
 use Rattle.pagable_model.specs.Meaning as meanings
 use Rattle.pagable_model.specs.Keys.{text_order, put_all, put_sorted, put_placed, put_sorted_item, put_placed_item}
 use Rattle.pagable_model.specs.Carried.{of_entries, of_duration, of_tagged, of_hash_map}

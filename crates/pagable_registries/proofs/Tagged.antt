@@ -6,7 +6,7 @@ use Rattle.pagable_model.specs.declared.error.Error.{Error}
 use Rattle.pagable_model.specs.declared.numbers.ArcRef.{ArcRef}
 use Rattle.std.specs.List.{slice_get}
 use Rattle.std.proofs.lemmas.Bool.{cases_lt}
-use Rattle.std.proofs.lemmas.Option.{slice_get_read, slice_get_past, slice_get-map}
+use Rattle.std.proofs.lemmas.Option.{slice_get_read, slice_get-map}
 use Rattle.std.proofs.lemmas.Slice.Eq.{bytes_eq-Decides}
 use Rattle.pagable_model.specs.declared.error.Error.TheVariants as errors
 use Rattle.pagable_model.specs.Steps.{◌>>=◌}
@@ -78,11 +78,6 @@ NoneFrom {F} tag readers i = (j : ℕ) (r : List ℕ × F) → i ≤ j → slice
 
 some-none : {X : Type 0} {x : X} → Some x ≡ None → ⊥
 some-none e = cc
-
-pub none_at_end : {R F : Type 0} (view : R → List ℕ × F) (tag : List ℕ) (xs : List R) (i : ℕ) → length xs ≤ i → NoneFrom tag (map view xs) i
-none_at_end view tag xs i le j r h stands =
-    let past : slice_get (map view xs) j ≡ None = slice_get-map view xs j ∙ rw (slice_get_past xs j (omega (arith, le, h))) refl in
-    absurd (some-none (sym stands ∙ past))
 
 at_place : {R F : Type 0} (view : R → List ℕ × F) (xs : List R) (i : ℕ) (x : R) → i < length xs → x ≡ get_or xs i x → slice_get (map view xs) i ≡ Some (view x)
 at_place view xs i x lt e = slice_get-map view xs i ∙ rw (slice_get_read xs (length xs) i x refl lt e) refl

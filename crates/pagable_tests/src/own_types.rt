@@ -5,7 +5,7 @@ use pagable::{
     Env, Error, InNode, NoReferences, NodeSet, PagableDeserialize, PagableDeserializerImpl,
     PagableSerialize, PagableSerializerImpl, SessionContext, WeighHash,
 };
-use pagable_examples::{Dish, Expression, Menu, MenuNode, Sheet, Size};
+use pagable_examples::{Dish, Expression, Menu, MenuNode, Sheet, Size, quick_start};
 use std::alloc::{AllocError, Global};
 use std::fmt::Debug;
 use std::process::Abort;
@@ -145,4 +145,10 @@ fn a_tree_of_129_levels_is_not_written(rt: HostRuntime) -> Result<(), Fail> {
     let deeper = written(alloc, &Sheet, &plus_one(alloc, tree)?).err();
     equal(&rt, deeper, Some(Error::TooDeep), "129 levels");
     Ok(())
+}
+
+#[test]
+fn a_text_is_paged_out_and_read_back(rt: HostRuntime) {
+    let found = quick_start::page_out_and_read_back(rt.alloc(), "hello world");
+    equal(&rt, found, Ok(true), "the same text");
 }

@@ -1,19 +1,15 @@
 -- Values that hold one or two others: what reading their parts one after another gives, by a lemma for each way that it ends.
-use Rattle.std.proofs.Common.{◌≡◌, Bool, true, false, refl, Result, Ok, Err, Some, None, inl, inr}
+use Rattle.std.proofs.Common.{◌≡◌, Bool, true, false, refl, Ok, Err, Some, None, inl, inr}
 use Rattle.std.specs.Prelude.{◌⊎◌}
 use Rattle.pagable_model.specs.declared.error.Error.{Error}
 use Rattle.pagable_model.specs.declared.numbers.ArcRef.{ArcRef}
 use Rattle.pagable_model.specs.Basic.{bool_at}
-use Rattle.pagable_model.specs.Gives.{never, memory_or, either}
+use Rattle.pagable_model.specs.Gives.{never, either}
 use Rattle.pagable_model.specs.Meaning.{Meaning, pair, absent, present}
 use Rattle.pagable_model.specs.Reading.{Rest, Context, bytes_of, read, read_with}
 use Rattle.pagable_model.specs.Shape.{Shape, optional, both}
 use Rattle.pagable_model.specs.Standing.{Gave}
 use Rattle.pagable_model.specs.Lifted.{MeansOption, means-none, means-some, MeansPair}
-
-pub beside_memory : {X : Type 0} (own : Error → Type 0) (r : Result X Error) (e : Error) → (r ≡ Err e) ⊎ own e → (r ≡ Err e) ⊎ memory_or own e
-beside_memory own r e (inl h) = inl h
-beside_memory own r e (inr h) = inr (inr h)
 
 -- ---- a value that may be absent
 

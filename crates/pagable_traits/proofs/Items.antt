@@ -15,7 +15,7 @@ use Rattle.pagable_model.specs.Reading.{Rest, Gets, items, read}
 use Rattle.pagable_model.specs.Writing.{Out, Nesting, FormAt, FormsAt, WritesSome, WritesSomeAll, Grows, added, kind_of_arc, NoForm, NoForms, NoFormOfSome, NoFormsOfSome, Refused, RefusedAll}
 use Rattle.pagable_model.specs.Standing.{SomeMeaning}
 use Rattle.pagable_model.specs.Lifted.{MeanAll, mean-none, mean-more, MeansList, items_have_meanings}
-use Rattle.pagable_codec.proofs.Writing.{out_is, grows_refl, grows_trans, grows_some, then, memory_refuses}
+use Rattle.pagable_codec.proofs.Writing.{out_is, then, memory_refuses}
 
 -- ---- what items mean
 
@@ -78,8 +78,6 @@ no-item M has (y ∷ ys) (suc i) x n s lt e lacks =
 pub refuses_item : {T : Type 0} (M : T → Meaning ArcRef → Type 0) (has : (x : T) → SomeMeaning (M x)) (xs : List T) (i : ℕ) (x : T) (n : Nesting) (s : Shape) (e : Error) → i < length xs → x ≡ get_or xs i x → Refused (M x) n s e → RefusedAll (MeanAll M xs) n s e
 refuses_item M has xs i x n s e lt is h = λ fault. no-item M has xs i x n s lt is (h fault)
 
-pub ruleset writing = (grows_refl, grows_trans, grows_some, grows_some_all, writes_no_items)
-
 -- ---- a length and items
 
 pub writes_list : {T : Type 0} (M : T → Meaning ArcRef → Type 0) (xs : List T) (n : Nesting) (s : Shape) (old mid new : Out) → mid ≡ added old (length_form (length xs)) [] → length xs ≤ longest → WritesSomeAll (MeanAll M xs) n s mid new
@@ -109,12 +107,16 @@ sequence-same (x ∷ xs) (y ∷ ys) e =
     let same = sequence-same xs ys tails in
     rw (heads, same) refl
 
-pub list-parts : (n : Nesting) {s : Shape} {m : Meaning ArcRef} {b : List ℕ} {k : List ArcRef} (ms : List (Meaning ArcRef)) → FormAt n (list s) m b k → m ≡ sequence ms → (length ms ≤ longest) × ((c : List ℕ) × FormsAt n s ms c k)
-list-parts n ms (list-form l s xs c k le f) e =
+-- forms of items are forms of the items of the same sequence
+pub split-same : (n : Nesting) {s : Shape} {xs ms : List (Meaning ArcRef)} {c : List ℕ} {k : List ArcRef} → sequence xs ≡ sequence ms → length xs ≤ longest → FormsAt n s xs c k → (length ms ≤ longest) × ((c : List ℕ) × FormsAt n s ms c k)
+split-same n {s} {xs} {ms} {c} {k} e le f =
     let same : xs ≡ ms = sequence-same xs ms e in (
       let P : List (Meaning ArcRef) → Type 0 = λ x. length x ≤ longest in subst P same le,
       (c, let Q : List (Meaning ArcRef) → Type 0 = λ x. FormsAt n s x c k in subst Q same f),
     )
+
+pub list-parts : (n : Nesting) {s : Shape} {m : Meaning ArcRef} {b : List ℕ} {k : List ArcRef} (ms : List (Meaning ArcRef)) → FormAt n (list s) m b k → m ≡ sequence ms → (length ms ≤ longest) × ((c : List ℕ) × FormsAt n s ms c k)
+list-parts n ms (list-form l s xs c k le f) e = split-same n e le f
 
 no-long : (n : Nesting) (s : Shape) (ms : List (Meaning ArcRef)) → longest < length ms → NoForm n (list s) (sequence ms)
 no-long n s ms lt b k f = omega (arith, (list-parts n ms f refl).0)

@@ -1,199 +1,178 @@
 -- What reading a JSON value gives: its case, and then its part.
-use Rattle.std.proofs.Common.{◌≡◌, ℕ, suc, ◌-◌, ◌+◌, ◌<◌, ◌≤◌, true, false, List, arith, refl, sym, ap, ◌∙◌, subst, Result, Ok, Err, inl, inr, String, Global, BTreeMap, Vec}
+use Rattle.std.proofs.Common.{◌≡◌, ℕ, suc, ◌-◌, ◌+◌, ◌<◌, ◌≤◌, true, false, List, arith, refl, sym, ap, ◌∙◌, Result, Ok, Err, inl, inr, String, Global, Vec}
 use Rattle.std.proofs.lemmas.Bool.{ne_eqb}
 use Rattle.std.specs.Prelude.{◌⊎◌, ℤ, pos, negsuc, Bool}
-use Rattle.std.specs.BTreeMap.{insert_entry}
 use Rattle.std.specs.Int.{w64}
 use Rattle.std.specs.String.{string_bytes, string_cmp}
 use Rattle.serde_json.specs.Data.{number}
 use Rattle.serde_json.specs.Find.{of_integer}
 use Rattle.serde_json.specs.View.{view}
-use Rattle.serde_json.specs.declared.value.Value.{Value, the_lemmas}
+use Rattle.serde_json.specs.declared.value.Value.{Value}
 use Rattle.serde_json.specs.declared.value.Value as values
+use Rattle.pagable_codec.specs.declared.env.Env.{Ghosts as Environments}
+use Rattle.pagable_codec.specs.declared.deserializer.PagableDeserializer.{Ghosts as Deserializers}
 use Rattle.pagable_model.specs.declared.error.Error.{Error}
 use Rattle.pagable_model.specs.declared.error.Error.TheVariants as errors
 use Rattle.pagable_model.specs.declared.numbers.ArcRef.{ArcRef}
 use Rattle.pagable_model.specs.Basic.{bool_at, length_at, text_at}
-use Rattle.pagable_model.specs.Collected.{Collected}
-use Rattle.pagable_model.specs.Gives.{never, memory, memory_or}
+use Rattle.pagable_model.specs.Gives.{memory}
 use Rattle.pagable_model.specs.Keys.{text_order}
 use Rattle.pagable_model.specs.Lifted.{MeanAll, MeansPair}
 use Rattle.pagable_model.specs.Meaning.{Meaning, integer, none, pair, variant, sequence}
 use Rattle.pagable_model.specs.Meaning as meanings
 use Rattle.pagable_model.specs.Numbers.{Read, unsigned_at, signed_at}
-use Rattle.pagable_model.specs.Reading.{Rest, Gets, JsonCase, json_case, flag_case, number_case, text_case, array_case, object_case, bytes_of, deepest, items, read, read_with, below}
-use Rattle.pagable_model.specs.Shape.{Shape, json, both, sorted_map}
-use Rattle.pagable_model.specs.Shape as shapes
-use Rattle.pagable_model.specs.Standing.{Answer, Gave, GivesSome, Is, handles_at}
+use Rattle.pagable_model.specs.Reading.{Rest, Context, JsonCase, json_case, flag_case, number_case, text_case, array_case, object_case, bytes_of, deepest, items, read, read_with, below, seen}
+use Rattle.pagable_model.specs.Shape.{Shape, json, both, sorted_map, signed, flag, text}
+use Rattle.pagable_model.specs.Standing.{Answer, Gave, GivesSome, Is, MovesOn, handles_at}
+use Rattle.pagable_codec.proofs.Reading.{moves_trans}
 use Rattle.pagable_traits.specs.JsonData.{of_data, of_value, of_key, part_at}
-use Rattle.pagable_traits.proofs.Items.{with_front, ends}
+use Rattle.pagable_traits.specs.JsonSteps.{Reads, ObjectOf, context_in, part_of}
 use Rattle.pagable_traits.proofs.Maps.{viewed, sorted_map_collected, sorted_map_refused}
+use Rattle.pagable_traits.proofs.JsonSteps.{read-then}
 use Rattle.pagable_traits.proofs.JsonWritten.{items-are, members-are, keys-in-order, seen-null, seen-flag, seen-text, seen-array, seen-object}
 
--- ---- bytes that are seen by a view
-
-through : {Y Z : Type 0} (at : List ℕ → Read Y) (view : Y → Z) (rest : Rest Answer) → bytes_of at view rest ≡ viewed view (bytes_of at (λ y. y) rest)
-through {Y} {Z} at view rest = go (at rest.bytes)
+-- bytes that are seen by one view after another
+twice-seen : {X Y Z : Type 0} (at : List ℕ → Read X) (first : X → Y) (second : Y → Z) (rest : Rest Answer) → bytes_of at (λ x. second (first x)) rest ≡ viewed second (bytes_of at first rest)
+twice-seen {X} {Y} {Z} at first second rest = go (at rest.bytes)
   where
-    go : (r : Read Y) → bytes_of (λ b. r) view rest ≡ viewed view (bytes_of (λ b. r) (λ y. y) rest)
+    go : (r : Read X) → bytes_of (λ b. r) (λ x. second (first x)) rest ≡ viewed second (bytes_of (λ b. r) first rest)
     go (Ok x) = refl
     go (Err e) = refl
 
-seen-ok : {Y Z : Type 0} (at : List ℕ → Read Y) (view : Y → Z) (rest after : Rest Answer) (y : Y) → bytes_of at (λ y. y) rest ≡ Ok (y, after) → bytes_of at view rest ≡ Ok (view y, after)
-seen-ok at view rest after y h = through at view rest ∙ rw h refl
+pub no-case : (n : ℕ) → 5 < n → json_case n ≡ Err errors.JsonCase
+no-case n lt = rw (ne_eqb n 0 (λ e. omega arith), ne_eqb n 1 (λ e. omega arith), ne_eqb n 2 (λ e. omega arith), ne_eqb n 3 (λ e. omega arith), ne_eqb n 4 (λ e. omega arith), ne_eqb n 5 (λ e. omega arith)) refl
 
-seen-refused : {Y Z : Type 0} (at : List ℕ → Read Y) (view : Y → Z) (rest : Rest Answer) (e : Error) → bytes_of at (λ y. y) rest ≡ Err e → bytes_of at view rest ≡ Err e
-seen-refused at view rest e h = through at view rest ∙ rw h refl
+whole-means : (z : ℤ) → of_data (number (of_integer z)) ≡ variant 2 (integer z)
+whole-means (pos n) = refl
+whole-means (negsuc n) = refl
 
--- ---- a value: its case, and then its part
+-- what the values mean
+pub is-flag : (b : Bool) (m : Meaning ArcRef) → Is meanings.flag b m → Is of_value (values.Bool b) (variant 1 m)
+is-flag b m is = rw is (ap of_data (sym (seen-flag (values.Bool b) b refl)))
 
-pub gives_as : {X Y R : Type 0} (own : Error → Type 0) (means : X → Y → Type 0) (after : R) (r : Result X Error) (first second : Result (Y × R) Error) → second ≡ first → GivesSome own means after r first → GivesSome own means after r second
-gives_as {X} {Y} {R} own means after r first second e h = let P : Result (Y × R) Error → Type 0 = λ x. GivesSome own means after r x in subst P (sym e) h
+pub is-text : (t : String Global) (m : Meaning ArcRef) → Is of_key t m → Is of_value (values.String t) (variant 3 m)
+is-text t m is = rw is (ap of_data (sym (seen-text (values.String t) t (string_bytes t) refl refl)))
 
-pub no_case : (n : ℕ) → 5 < n → json_case n ≡ Err errors.JsonCase
-no_case n lt = rw (ne_eqb n 0 (λ e. omega arith), ne_eqb n 1 (λ e. omega arith), ne_eqb n 2 (λ e. omega arith), ne_eqb n 3 (λ e. omega arith), ne_eqb n 4 (λ e. omega arith), ne_eqb n 5 (λ e. omega arith)) refl
+pub is-whole : (v : Value) (z : ℤ) (m : Meaning ArcRef) → view v ≡ number (of_integer z) → Is integer z m → Is of_value v (variant 2 m)
+is-whole v z m seen is = rw is (sym (ap of_data seen ∙ whole-means z))
 
-module _ (levels : ℕ) (parts : ℕ → Shape) where
-  pub case_read : (n m : ℕ) (case : JsonCase) (rest after : Rest Answer) → bytes_of (unsigned_at w64) (λ n. n) rest ≡ Ok (n, after) → n ≡ m → json_case m ≡ Ok case → read (handles_at levels parts) json rest ≡ part_at levels parts case after
+pub is-array : (v : Vec Value Global) (ms : List (Meaning ArcRef)) → MeanAll (Is of_value) v.items ms → Is of_value (values.Array v) (variant 4 (sequence ms))
+is-array v ms each = items-are v.items (sequence ms) (record { ms = ms; each = each; is = refl }) ∙ ap of_data (sym (seen-array (values.Array v) v refl))
+
+module _ (c : Context Answer ArcRef) (rest : Rest Answer) where
+  pub case-unread : (e : Error) → bytes_of (unsigned_at w64) (λ n. n) rest ≡ Err e → read c json rest ≡ Err e
   unfolding read read_with
-  case_read n m case rest after e is f = let g : json_case n ≡ Ok case = rw is f in rw (e, g) refl
+  case-unread e h = rw h refl
 
-  pub null_read : (v : Value) (n : ℕ) (rest after : Rest Answer) → v ≡ values.Null → bytes_of (unsigned_at w64) (λ n. n) rest ≡ Ok (n, after) → n ≡ 0 → Gave (Is of_value v) after (read (handles_at levels parts) json rest)
+  pub case-unknown : (n : ℕ) (mid : Rest Answer) → bytes_of (unsigned_at w64) (λ n. n) rest ≡ Ok (n, mid) → 5 < n → read c json rest ≡ Err errors.JsonCase
   unfolding read read_with
-  null_read v n rest after is e zero = record { m = variant 0 none; is = ap of_data (sym (seen-null v is)); gave = rw (e, zero) refl }
+  case-unknown n mid e lt = rw (e, no-case n lt) refl
 
-  pub case_refused : (rest : Rest Answer) (e : Error) → (bytes_of (unsigned_at w64) (λ n. n) rest ≡ Err e) ⊎ never e → (read (handles_at levels parts) json rest ≡ Err e) ⊎ memory e
+  pub float-seen : (float : Bool) (mid : Rest Answer) → float ≡ true → bytes_of bool_at (λ b. b) rest ≡ Ok (float, mid) → part_of number_case c rest ≡ Err errors.JsonNumber
+  float-seen float mid is e = rw (e, is) refl
+
+  pub float-unread : (e : Error) → bytes_of bool_at (λ b. b) rest ≡ Err e → part_of number_case c rest ≡ Err e
+  float-unread e h = rw h refl
+
+  pub null-read : (v : Value) (n : ℕ) (mid : Rest Answer) → v ≡ values.Null → bytes_of (unsigned_at w64) (λ n. n) rest ≡ Ok (n, mid) → n ≡ 0 → Gave (Is of_value v) mid (read c json rest)
   unfolding read read_with
-  case_refused rest e (inl h) = inl (rw h refl)
-  case_refused rest e (inr h) = absurd h
+  null-read v n mid is e zero = record { m = variant 0 none; is = ap of_data (sym (seen-null v is)); gave = rw (e, zero) refl }
 
-  pub case_unknown : (n : ℕ) (rest after : Rest Answer) → bytes_of (unsigned_at w64) (λ n. n) rest ≡ Ok (n, after) → 5 < n → read (handles_at levels parts) json rest ≡ Err errors.JsonCase
+module _ (levels : ℕ) (parts : ℕ → Shape) (rest : Rest Answer) where
+  case-read : (n m : ℕ) (case : JsonCase) (mid : Rest Answer) → bytes_of (unsigned_at w64) (λ n. n) rest ≡ Ok (n, mid) → n ≡ m → json_case m ≡ Ok case → read (handles_at levels parts) json rest ≡ part_at levels parts case mid
   unfolding read read_with
-  case_unknown n rest after e lt = rw (e, no_case n lt) refl
+  case-read n m case mid e is f = let g : json_case n ≡ Ok case = rw is f in rw (e, g) refl
 
-  -- ---- values without parts
+  pub flag-seen : part_at levels parts flag_case rest ≡ viewed (λ m. variant 1 m) (read (handles_at levels parts) flag rest)
+  unfolding read read_with
+  flag-seen = twice-seen bool_at meanings.flag (λ m. variant 1 m) rest
 
-  pub flag_read : (b : Bool) (rest after : Rest Answer) → bytes_of bool_at (λ b. b) rest ≡ Ok (b, after) → Gave (Is of_value (values.Bool b)) after (part_at levels parts flag_case rest)
-  flag_read b rest after e = record { m = variant 1 (meanings.flag b); is = ap of_data (sym (seen-flag (values.Bool b) b refl)); gave = seen-ok bool_at (λ b. variant 1 (meanings.flag b)) rest after b e }
+  pub text-seen : part_at levels parts text_case rest ≡ viewed (λ m. variant 3 m) (read (handles_at levels parts) text rest)
+  unfolding read read_with
+  text-seen = twice-seen text_at (λ t. meanings.text t) (λ m. variant 3 m) rest
 
-  pub flag_refused : (rest : Rest Answer) (e : Error) → (bytes_of bool_at (λ b. b) rest ≡ Err e) ⊎ never e → (part_at levels parts flag_case rest ≡ Err e) ⊎ memory e
-  flag_refused rest e (inl h) = inl (seen-refused bool_at (λ b. variant 1 (meanings.flag b)) rest e h)
-  flag_refused rest e (inr h) = absurd h
+  pub whole-seen : (float : Bool) (mid : Rest Answer) → float ≡ false → bytes_of bool_at (λ b. b) rest ≡ Ok (float, mid) → part_at levels parts number_case rest ≡ viewed (λ m. variant 2 m) (read (handles_at levels parts) (signed w64) mid)
+  unfolding read read_with
+  whole-seen float mid is e = rw (e, is) (twice-seen (signed_at w64) (λ z. integer z) (λ m. variant 2 m) mid)
 
-  pub text_read : (t : String Global) (rest after : Rest Answer) → bytes_of text_at (λ t. t) rest ≡ Ok (string_bytes t, after) → Gave (Is of_value (values.String t)) after (part_at levels parts text_case rest)
-  text_read t rest after e =
-      record { m = variant 3 (meanings.text (string_bytes t)); is = ap of_data (sym (seen-text (values.String t) t (string_bytes t) refl refl)); gave = seen-ok text_at (λ t. variant 3 (meanings.text t)) rest after (string_bytes t) e }
+  pub array-unread : (e : Error) → bytes_of length_at (λ n. n) rest ≡ Err e → part_at levels parts array_case rest ≡ Err e
+  array-unread e h = rw h refl
 
-  pub text_refused : (rest : Rest Answer) (e : Error) → (bytes_of text_at (λ t. t) rest ≡ Err e) ⊎ memory e → (part_at levels parts text_case rest ≡ Err e) ⊎ memory e
-  text_refused rest e (inl h) = inl (seen-refused text_at (λ t. variant 3 (meanings.text t)) rest e h)
-  text_refused rest e (inr h) = inr h
+  pub object-unread : (e : Error) → bytes_of length_at (λ n. n) rest ≡ Err e → part_at levels parts object_case rest ≡ Err e
+  object-unread e h = rw h refl
 
-  whole-means : (z : ℤ) → of_data (number (of_integer z)) ≡ variant 2 (integer z)
-  whole-means (pos n) = refl
-  whole-means (negsuc n) = refl
+  module _ (count : ℕ) (mid : Rest Answer) (counted : bytes_of length_at (λ n. n) rest ≡ Ok (count, mid)) where
+    pub array-deep : deepest ≤ levels → part_at levels parts array_case rest ≡ Err errors.TooDeep
+    unfolding below
+    array-deep le = let left : deepest - levels ≡ 0 = omega arith in rw (left, counted) refl
 
-  pub float_refused : (rest after : Rest Answer) → bytes_of bool_at (λ b. b) rest ≡ Ok (true, after) → part_at levels parts number_case rest ≡ Err errors.JsonNumber
-  float_refused rest after e = rw e refl
+    pub object-deep : deepest ≤ levels → part_at levels parts object_case rest ≡ Err errors.TooDeep
+    unfolding below
+    object-deep le = let left : deepest - levels ≡ 0 = omega arith in rw (left, counted) refl
 
-  pub float_unread : (rest : Rest Answer) (e : Error) → (bytes_of bool_at (λ b. b) rest ≡ Err e) ⊎ never e → (part_at levels parts number_case rest ≡ Err e) ⊎ memory e
-  float_unread rest e (inl h) = inl (rw h refl)
-  float_unread rest e (inr h) = absurd h
+    pub array-seen : levels < deepest → part_at levels parts array_case rest ≡ seen (λ ms. variant 4 (sequence ms)) (items (read (handles_at (levels + 1) parts) json) count) mid
+    unfolding read below
+    array-seen lt = let left : deepest - levels ≡ suc (deepest - (levels + 1)) = omega arith in rw (left, counted) refl
 
-  pub whole_read : (v : Value) (z : ℤ) (rest mid after : Rest Answer) → view v ≡ number (of_integer z) → bytes_of bool_at (λ b. b) rest ≡ Ok (false, mid) → bytes_of (signed_at w64) (λ z. z) mid ≡ Ok (z, after) → Gave (Is of_value v) after (part_at levels parts number_case rest)
-  whole_read v z rest mid after seen e f = record {
-    m = variant 2 (integer z);
-    is = sym (ap of_data seen ∙ whole-means z);
-    gave = let whole = seen-ok (signed_at w64) (λ (z : ℤ). (let m : Meaning ArcRef = variant 2 (integer z) in m)) mid after z f in rw e whole;
+    -- an object is a map one level further down
+    object-seen : levels < deepest → part_at levels parts object_case rest ≡ viewed (λ m. variant 5 m) (read (handles_at (levels + 1) parts) (sorted_map text_order text json) rest)
+    unfolding read read_with below
+    object-seen lt = let left : deepest - levels ≡ suc (deepest - (levels + 1)) = omega arith in rw (left, counted) (twice _ _ _)
+      where
+        twice : {X Y Z : Type 0} (f : X → Y) (g : Y → Z) (r : Result (X × Rest Answer) Error) → viewed (λ x. g (f x)) r ≡ viewed g (viewed f r)
+        twice f g (Ok x) = refl
+        twice f g (Err e) = refl
+
+    object-gave : (v : Value) (after : Rest Answer) → levels < deepest → Gave (ObjectOf v) after (items (read (handles_at (levels + 1) parts) (both text json)) count mid) → Gave (Is of_value v) after (part_at levels parts object_case rest)
+    object-gave v after lt g =
+        let all = sorted_map_collected (Is of_key) (Is of_value) string_cmp text_order keys-in-order (handles_at (levels + 1) parts) text json g.is.members.entries rest mid after count counted (record { m = g.m; is = g.is.each; gave = g.gave }) in
+        record { m = variant 5 all.m; is = members-are g.is.members.entries all.m all.is ∙ ap of_data (sym (seen-object v g.is.members g.is.is)); gave = object-seen lt ∙ rw all.gave refl }
+
+    object-refused : (e : Error) → levels < deepest → (items (read (handles_at (levels + 1) parts) (both text json)) count mid ≡ Err e) ⊎ memory e → (part_at levels parts object_case rest ≡ Err e) ⊎ memory e
+    object-refused e lt h = go (sorted_map_refused memory (handles_at (levels + 1) parts) text_order text json e rest mid count counted h)
+      where
+        go : (read (handles_at (levels + 1) parts) (sorted_map text_order text json) rest ≡ Err e) ⊎ memory e → (part_at levels parts object_case rest ≡ Err e) ⊎ memory e
+        go (inl g) = inl (object-seen lt ∙ rw g refl)
+        go (inr own) = inr own
+
+    pub object-gives : (r : Result Value Error) (after : Rest Answer) → levels < deepest → GivesSome memory ObjectOf after r (items (read (handles_at (levels + 1) parts) (both text json)) count mid) → GivesSome memory (Is of_value) after r (part_at levels parts object_case rest)
+    object-gives (Ok v) after lt g = object-gave v after lt g
+    object-gives (Err e) after lt g = object-refused e lt g
+
+module _ {D E R N H K V : Type 0} (env : Environments E N H K V) (d : Deserializers D E R N H K V) where
+  -- a part after its case
+  pub case-then : {a b c : D} {n : ℕ} {r : Result Value Error} (m : ℕ) (case : JsonCase) → n ≡ m → json_case m ≡ Ok case → bytes_of (unsigned_at w64) (λ n. n) (d.rest a) ≡ Ok (n, d.rest b) → MovesOn (d.standing a) (d.standing b) → d.environment b ≡ d.environment a → d.levels b ≡ d.levels a
+      → Reads env d (Is of_value) (part_of case) b c r → Reads env d (Is of_value) (λ x. read x json) a c r
+  case-then {a} {b} {c} {n} m case is known told moves same_env same_levels q = read-then env d moves same_env same_levels q (case-read (d.levels a) (env.parts (d.environment a)) (d.rest a) n m case (d.rest b) told is known)
+
+  -- members one level further down, after their count
+  pub object-read : {a b c : D} {count : ℕ} {r : Result Value Error} → bytes_of length_at (λ n. n) (d.rest a) ≡ Ok (count, d.rest b) → MovesOn (d.standing a) (d.standing b) → d.environment b ≡ d.environment a → d.levels b ≡ d.levels a → d.levels b < deepest
+      → Reads env d ObjectOf (λ x. items (read (record x { levels = x.levels + 1 }) (both text json)) count) b c r → Reads env d (Is of_value) (part_of object_case) a c r
+  object-read {a} {b} {c} {count} {r} told moves same_env same_levels lt q = record {
+    gives = object-gives (d.levels a) (env.parts (d.environment a)) (d.rest a) count (d.rest b) told r (d.rest c) (rw same_levels at lt) (rw (same_levels, same_env) at q.gives);
+    moves = moves_trans _ _ _ moves q.moves;
+    same_env = q.same_env ∙ same_env;
+    same_levels = q.same_levels ∙ same_levels;
   }
 
-  pub whole_refused : (rest mid : Rest Answer) (e : Error) → bytes_of bool_at (λ b. b) rest ≡ Ok (false, mid) → (bytes_of (signed_at w64) (λ z. z) mid ≡ Err e) ⊎ never e → (part_at levels parts number_case rest ≡ Err e) ⊎ memory e
-  whole_refused rest mid e g (inl h) = let whole = seen-refused (signed_at w64) (λ (z : ℤ). (let m : Meaning ArcRef = variant 2 (integer z) in m)) mid e h in inl (rw g whole)
-  whole_refused rest mid e g (inr h) = absurd h
-
-  -- ---- arrays and objects
-
-  pub array_unread : (rest : Rest Answer) (e : Error) → (bytes_of length_at (λ n. n) rest ≡ Err e) ⊎ never e → (part_at levels parts array_case rest ≡ Err e) ⊎ memory e
-  array_unread rest e (inl h) = inl (rw h refl)
-  array_unread rest e (inr h) = absurd h
-
-  pub object_unread : (rest : Rest Answer) (e : Error) → (bytes_of length_at (λ n. n) rest ≡ Err e) ⊎ never e → (part_at levels parts object_case rest ≡ Err e) ⊎ memory e
-  object_unread rest e (inl h) = inl (rw h refl)
-  object_unread rest e (inr h) = absurd h
-
-  pub array_deep : (count : ℕ) (rest mid : Rest Answer) → deepest ≤ levels → bytes_of length_at (λ n. n) rest ≡ Ok (count, mid) → part_at levels parts array_case rest ≡ Err errors.TooDeep
-  unfolding below
-  array_deep count rest mid le e = let none : deepest - levels ≡ 0 = omega arith in rw (none, e) refl
-
-  pub object_deep : (count : ℕ) (rest mid : Rest Answer) → deepest ≤ levels → bytes_of length_at (λ n. n) rest ≡ Ok (count, mid) → part_at levels parts object_case rest ≡ Err errors.TooDeep
-  unfolding below
-  object_deep count rest mid le e = let none : deepest - levels ≡ 0 = omega arith in rw (none, e) refl
-
-  pub array_read : (v : Vec Value Global) (count : ℕ) (rest mid after : Rest Answer) → levels < deepest → bytes_of length_at (λ n. n) rest ≡ Ok (count, mid) → Gave (MeanAll (Is of_value) v.items) after (items (read (handles_at (levels + 1) parts) json) count mid)
-      → Gave (Is of_value (values.Array v)) after (part_at levels parts array_case rest)
-  unfolding read below
-  array_read v count rest mid after lt e g =
-      let one : deepest - levels ≡ suc (deepest - (levels + 1)) = omega arith in
+  -- a key and its value
+  pub member-read : {a b c : D} {k : String Global} {v : Value} → Gave (Is of_key k) (d.rest b) (read (context_in env d a) text (d.rest a)) → MovesOn (d.standing a) (d.standing b) → d.environment b ≡ d.environment a → d.levels b ≡ d.levels a → Reads env d (Is of_value) (λ x. read x json) b c (Ok v)
+      → Reads env d (MeansPair (Is of_key) (Is of_value)) (λ x. read x (both text json)) a c (Ok (k, v))
+  unfolding read read_with
+  member-read g moves same_env same_levels q =
+      let h = rw (same_levels, same_env) at q.gives in
       record {
-        m = variant 4 (sequence g.m);
-        is = items-are v.items (sequence g.m) (record { ms = g.m; each = g.is; is = refl }) ∙ ap of_data (sym (seen-array (values.Array v) v refl));
-        gave = rw (one, e, g.gave) refl;
+        gives = record { m = pair g.m h.m; is = record { first = g.m; second = h.m; is_first = g.is; is_second = h.is; is = refl }; gave = rw (g.gave, h.gave) refl };
+        moves = moves_trans _ _ _ moves q.moves;
+        same_env = q.same_env ∙ same_env;
+        same_levels = q.same_levels ∙ same_levels;
       }
 
-  pub array_refused : (count : ℕ) (rest mid : Rest Answer) (e : Error) → levels < deepest → bytes_of length_at (λ n. n) rest ≡ Ok (count, mid) → (items (read (handles_at (levels + 1) parts) json) count mid ≡ Err e) ⊎ memory e → (part_at levels parts array_case rest ≡ Err e) ⊎ memory e
-  unfolding read below
-  array_refused count rest mid e lt f (inl h) = let one : deepest - levels ≡ suc (deepest - (levels + 1)) = omega arith in inl (rw (one, f, h) refl)
-  array_refused count rest mid e lt f (inr own) = inr own
-
-  -- an object is a map one level further down
-  object-map : (count : ℕ) (rest mid : Rest Answer) → levels < deepest → bytes_of length_at (λ n. n) rest ≡ Ok (count, mid) → part_at levels parts object_case rest ≡ viewed (λ m. variant 5 m) (read (handles_at (levels + 1) parts) (sorted_map text_order shapes.text json) rest)
-  unfolding read read_with below
-  object-map count rest mid lt e =
-      let one : deepest - levels ≡ suc (deepest - (levels + 1)) = omega arith in
-      rw (one, e) (twice _ _ _)
-    where
-      twice : {X Y Z : Type 0} (f : X → Y) (g : Y → Z) (r : Result (X × Rest Answer) Error) → viewed (λ x. g (f x)) r ≡ viewed g (viewed f r)
-      twice f g (Ok x) = refl
-      twice f g (Err e) = refl
-
-  pub object_read : (m : BTreeMap (String Global) Value) (count : ℕ) (rest mid after : Rest Answer) → levels < deepest → bytes_of length_at (λ n. n) rest ≡ Ok (count, mid)
-      → Gave (Collected (MeansPair (Is of_key) (Is of_value)) (λ es e fs. fs ≡ insert_entry string_cmp es e.0 e.1) m.entries) after (items (read (handles_at (levels + 1) parts) (both shapes.text json)) count mid) → Gave (Is of_value (values.Object m)) after (part_at levels parts object_case rest)
-  object_read m count rest mid after lt e g =
-      let all = sorted_map_collected (Is of_key) (Is of_value) string_cmp text_order keys-in-order (handles_at (levels + 1) parts) shapes.text json m.entries rest mid after count e g in
-      record { m = variant 5 all.m; is = members-are m.entries all.m all.is ∙ ap of_data (sym (seen-object (values.Object m) m refl)); gave = object-map count rest mid lt e ∙ rw all.gave refl }
-
-  pub object_refused : (count : ℕ) (rest mid : Rest Answer) (e : Error) → levels < deepest → bytes_of length_at (λ n. n) rest ≡ Ok (count, mid) → (items (read (handles_at (levels + 1) parts) (both shapes.text json)) count mid ≡ Err e) ⊎ memory e
-      → (part_at levels parts object_case rest ≡ Err e) ⊎ memory e
-  object_refused count rest mid e lt f h = go (sorted_map_refused memory (handles_at (levels + 1) parts) text_order shapes.text json e rest mid count f h)
-    where
-      go : (read (handles_at (levels + 1) parts) (sorted_map text_order shapes.text json) rest ≡ Err e) ⊎ memory e → (part_at levels parts object_case rest ≡ Err e) ⊎ memory e
-      go (inl g) = inl (object-map count rest mid lt f ∙ rw g refl)
-      go (inr own) = inr own
-
-  -- ---- a member
-
-  pub member_read : (key : String Global) (v : Value) (rest mid after : Rest Answer) → Gave (Is of_key key) mid (read (handles_at levels parts) shapes.text rest) → Gave (Is of_value v) after (read (handles_at levels parts) json mid)
-      → Gave (MeansPair (Is of_key) (Is of_value) (key, v)) after (read (handles_at levels parts) (both shapes.text json) rest)
+module _ (c : Context Answer ArcRef) (rest : Rest Answer) (e : Error) where
+  pub key-unread : read c text rest ≡ Err e → read c (both text json) rest ≡ Err e
   unfolding read read_with
-  member_read key v rest mid after g h = record { m = pair g.m h.m; is = record { first = g.m; second = h.m; is_first = g.is; is_second = h.is; is = refl }; gave = rw (g.gave, h.gave) refl }
+  key-unread h = rw h refl
 
-  pub key_refused : (rest : Rest Answer) (e : Error) → (read (handles_at levels parts) shapes.text rest ≡ Err e) ⊎ memory e → (read (handles_at levels parts) (both shapes.text json) rest ≡ Err e) ⊎ memory e
+  pub value-unread : (m : Meaning ArcRef) (mid : Rest Answer) → read c text rest ≡ Ok (m, mid) → read c json mid ≡ Err e → read c (both text json) rest ≡ Err e
   unfolding read read_with
-  key_refused rest e (inl h) = inl (rw h refl)
-  key_refused rest e (inr own) = inr own
-
-  pub value_refused : (m : Meaning ArcRef) (rest mid : Rest Answer) (e : Error) → read (handles_at levels parts) shapes.text rest ≡ Ok (m, mid) → (read (handles_at levels parts) json mid ≡ Err e) ⊎ memory e → (read (handles_at levels parts) (both shapes.text json) rest ≡ Err e) ⊎ memory e
-  unfolding read read_with
-  value_refused m rest mid e g (inl h) = inl (rw (g, h) refl)
-  value_refused m rest mid e g (inr own) = inr own
-
--- ---- one after another
-
--- a refused item or member is the refusal of all; nothing else refuses them but want of memory
-pub ends-with : {X : Type 0} (get : Gets Answer X) (e : Error) (front : List X) (count i : ℕ) (rest : Rest Answer) (total : Result (List X × Rest Answer) Error) → i < count → (get rest ≡ Err e) ⊎ memory e
-    → with_front front (items get (count - i) rest) ≡ total → (total ≡ Err e) ⊎ memory e
-ends-with get e front count i rest total lt h so_far = go (ends memory get e front count i rest total lt h so_far)
-  where
-    go : (total ≡ Err e) ⊎ memory_or memory e → (total ≡ Err e) ⊎ memory e
-    go (inl g) = inl g
-    go (inr (inl g)) = inr g
-    go (inr (inr g)) = inr g
+  value-unread m mid g h = rw (g, h) refl

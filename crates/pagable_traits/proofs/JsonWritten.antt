@@ -1,114 +1,119 @@
--- What writing a JSON value adds, and which have no form.
-use Rattle.std.proofs.Common.{◌≡◌, ℕ, suc, ◌-◌, ◌+◌, ◌<◌, ◌≤◌, ◌^◌, true, false, subst, List, [], ◌∷◌, ◌++◌, length, map, arith, rules, refl, sym, ap, ◌∙◌, append_assoc, Result, Ok, Err, Some, None, inl, inr, String, Global, BTreeMap, Vec}
+-- What writing a JSON value adds: its case, and a form of its part; and which values have no form.
+use Rattle.std.proofs.Common.{◌≡◌, ℕ, ◌-◌, ◌+◌, ◌<◌, ◌≤◌, ◌^◌, true, false, subst, List, [], ◌∷◌, ◌++◌, length, map, arith, rules, refl, sym, ap, ◌∙◌, Result, Ok, Err, Some, None, inl, inr, String, Global, BTreeMap, Vec}
 use Rattle.std.proofs.lemmas.Bool.{lt-ltb}
 use Rattle.std.specs.Prelude.{OnOk, IfErr, ℤ, pos, nat_lt, Bool, Option, if◌then◌else◌}
+use Rattle.std.specs.Result.{IsErrAnd}
 use Rattle.std.specs.Int.{w64}
 use Rattle.std.specs.String.{string_bytes, string_cmp, string_cmp_total}
 use Rattle.std.specs.Map.{keys_of}
 use Rattle.std.specs.List.Sorted.{IsStrictlySortedBy}
-use Rattle.std.specs.Str.{IsUtf8}
 use Rattle.serde_json.specs.Data.{Num, Data, null, boolean, number, string, array, object}
 use Rattle.serde_json.specs.Data as kit
 use Rattle.serde_json.specs.Find.{as_i64}
-use Rattle.serde_json.specs.View.{view, items_view, members_view}
+use Rattle.serde_json.specs.View.{view, items_view, members_view, number_view}
 use Rattle.serde_json.specs.declared.value.Value.{Value, the_lemmas}
 use Rattle.serde_json.specs.declared.value.Value as values
-use Rattle.serde_json.specs.View.{number_view}
 use Rattle.serde_json.specs.declared.number.Number.{Number}
 use Rattle.serde_json.proofs.Views.{view-Array, view-Object}
+use Rattle.pagable_codec.specs.declared.env.Env.{Ghosts as Environments}
+use Rattle.pagable_codec.specs.declared.serializer.PagableSerializer.{Ghosts as Serializers}
 use Rattle.pagable_model.specs.declared.error.Error.{Error}
 use Rattle.pagable_model.specs.declared.error.Error.TheVariants as errors
 use Rattle.pagable_model.specs.declared.numbers.ArcRef.{ArcRef}
-use Rattle.pagable_model.specs.Basic.{longest, bool_form, length_form, text_form}
+use Rattle.pagable_model.specs.Basic.{longest, length_form, text_form}
 use Rattle.pagable_model.specs.Carried.{of_entries}
-use Rattle.pagable_model.specs.Numbers.{unsigned_form, varint, IsSigned, signed_form}
-use Rattle.pagable_model.specs.Gives.{memory, long_or, number_or, json_causes}
+use Rattle.pagable_model.specs.Numbers.{unsigned_form, varint, IsSigned}
+use Rattle.pagable_model.specs.Gives.{memory, long_or, json_causes}
 use Rattle.pagable_model.specs.Keys.{text_order}
 use Rattle.pagable_model.specs.Lengths.{long_or_memory}
 use Rattle.pagable_model.specs.Lifted.{MeanAll, MeansList, MeansPair, list_single, pair_single, pair_has_meaning}
-use Rattle.pagable_model.specs.Meaning.{Meaning, integer, pair, variant, sequence, entry}
+use Rattle.pagable_model.specs.Meaning.{Meaning, integer, pair, variant, sequence, none}
 use Rattle.pagable_model.specs.Meaning as meanings
 use Rattle.pagable_model.specs.Reading.{deepest}
-use Rattle.pagable_model.specs.Shape.{Shape, json, list, both, sorted_map}
-use Rattle.pagable_model.specs.Shape as shapes
-use Rattle.pagable_model.specs.Form.{list-form, sorted-map-form, json-null-form, json-flag-form, json-number-form, json-text-form, json-array-form, json-object-form}
+use Rattle.pagable_model.specs.Shape.{Shape, json, list, both, sorted_map, signed, flag, text}
+use Rattle.pagable_model.specs.Form.{list-form, sorted-map-form, signed-form, flag-form, text-form, json-null-form, json-flag-form, json-number-form, json-text-form, json-array-form, json-object-form}
 use Rattle.pagable_model.specs.Standing.{Is, SomeMeaning}
 use Rattle.pagable_model.specs.Keyed.{text_is_ordered}
-use Rattle.pagable_model.specs.Writing.{Out, Nesting, nesting, FormAt, WritesSome, added, NoForm, WritesSomeAll, Refused, RefusedAll}
-use Rattle.pagable_codec.proofs.Writing.{then, writes_bytes, memory_refuses}
-use Rattle.pagable_traits.proofs.Maps.{IsOrderOf, key-order, sorted-map-splits, writes_sorted_map, refuse-count, refuses-items}
-use Rattle.pagable_traits.proofs.Parts.{only_along}
+use Rattle.pagable_model.specs.Writing.{Out, Nesting, FormAt, WritesSome, added, NoForm, Refused, Grows}
+use Rattle.pagable_codec.proofs.Writing.{then, memory_refuses, grows_trans}
+use Rattle.pagable_traits.proofs.Maps.{IsOrderOf, key-order, sorted-map-splits, writes_sorted_map, refuse-count, refuses-items, Written}
 use Rattle.pagable_traits.proofs.Items.{writes_list, refused_items, refuses-count}
+use Rattle.pagable_traits.proofs.JsonSteps.{deeper, below, wrote-then, wrote-err}
 use Rattle.pagable_traits.specs.JsonData.{json_items, json_members, of_data, of_value, of_key, long_or_no_memory}
-
--- ---- the bytes of a case and its part
+use Rattle.pagable_traits.specs.JsonSteps.{Piece, Wrote, bytes, front, value as form, all}
 
 -- a case below 128 is its byte
-pub put-case : {X : Type 0} (r : Result X Error) (case : ℕ) (old new : List ℕ) → nat_lt case 128 ≡ true → OnOk r (new ≡ old ++ unsigned_form w64 case) → OnOk r (new ≡ old ++ case ∷ [])
+pub case-byte : (case : ℕ) → nat_lt case 128 ≡ true → unsigned_form w64 case ≡ case ∷ []
 unfolding varint
-put-case (Ok x) case old new small h = rw small at h
-put-case (Err e) case old new small h = tt
+case-byte case small = rw small refl
 
-pub case-byte : (case : ℕ) (old new : List ℕ) → nat_lt case 128 ≡ true → new ≡ old ++ unsigned_form w64 case → new ≡ old ++ case ∷ []
-unfolding varint
-case-byte case old new small h = rw small at h
+-- ---- a value is its case and a value of another shape
 
--- a part after its case
-pub put-part : {X : Type 0} (r : Result X Error) (case : ℕ) (old mid new b : List ℕ) → nat_lt case 128 ≡ true → mid ≡ old ++ unsigned_form w64 case → OnOk r (new ≡ mid ++ b) → OnOk r (new ≡ old ++ case ∷ b)
-put-part (Ok x) case old mid new b small e h = h ∙ ap (λ (y : List ℕ). y ++ b) (case-byte case old mid small e) ∙ append_assoc old (case ∷ []) b
-put-part (Err e) case old mid new b small f h = tt
+module _ (n inner : Nesting) (case : ℕ) (s : Shape) (M N : Meaning ArcRef → Type 0) (is : (m : Meaning ArcRef) → M m → N (variant case m)) where
+  wrote-part : (first : List ℕ) (old mid new : Out) → ((m : Meaning ArcRef) (b : List ℕ) (k : List ArcRef) → FormAt inner s m b k → FormAt n json (variant case m) (first ++ b) k) → mid ≡ added old first [] → WritesSome M inner s mid new → WritesSome N n json old new
+  wrote-part first old mid new up e w = record { m = variant case w.m; is = is w.m w.is; wrote = record { bytes = first ++ w.wrote.bytes; refs = w.wrote.refs; form = up _ _ _ w.wrote.form; grown = (then) old mid new _ _ _ _ e w.wrote.grown } }
 
--- a length after its case
-pub put-length : {X : Type 0} (r : Result X Error) (case : ℕ) (old mid new b : List ℕ) → nat_lt case 128 ≡ true → mid ≡ old ++ unsigned_form w64 case → OnOk r (new ≡ mid ++ b) → OnOk r (new ≡ (old ++ case ∷ []) ++ b)
-put-length (Ok x) case old mid new b small e h = h ∙ ap (λ (y : List ℕ). y ++ b) (case-byte case old mid small e)
-put-length (Err e) case old mid new b small f h = tt
+  lacks-part : (e : Error) → ((m : Meaning ArcRef) → NoForm inner s m → NoForm n json (variant case m)) → Refused M inner s e → Refused N n json e
+  lacks-part e lack h = λ fault. let lacks = h fault in record { m = variant case lacks.m; is = is lacks.m lacks.is; no_form = lack lacks.m lacks.no_form }
 
--- a whole number after its case and its flag
-pub put-number : {X : Type 0} (r : Result X Error) (old mid last new b : List ℕ) → mid ≡ old ++ unsigned_form w64 2 → last ≡ mid ++ 0 ∷ [] → OnOk r (new ≡ last ++ b) → OnOk r (new ≡ old ++ 2 ∷ 0 ∷ b)
-put-number (Ok x) old mid last new b e f h =
-    let cased : mid ≡ old ++ 2 ∷ [] = case-byte 2 old mid refl e in
-    h ∙ ap (λ (y : List ℕ). y ++ b) (f ∙ ap (λ (y : List ℕ). y ++ 0 ∷ []) cased ∙ append_assoc old (2 ∷ []) (0 ∷ [])) ∙ append_assoc old (2 ∷ 0 ∷ []) b
-put-number (Err x) old mid last new b e f h = tt
+module _ (n : Nesting) where
+  flag-up : {m : Meaning ArcRef} {b : List ℕ} {k : List ArcRef} → FormAt n flag m b k → FormAt n json (variant 1 m) (1 ∷ b) k
+  flag-up (flag-form l x) = json-flag-form _ x
 
-pub put-long : {X : Type 0} (r : Result X Error) (len : ℕ) → IfErr r (long_or_memory len) → IfErr r (long_or_no_memory len)
-put-long (Ok x) len h = tt
-put-long (Err e) len (inl h) = inl h
-put-long (Err e) len (inr h) = inr h.1
+  number-up : {m : Meaning ArcRef} {b : List ℕ} {k : List ArcRef} → FormAt n (signed w64) m b k → FormAt n json (variant 2 m) (2 ∷ 0 ∷ b) k
+  number-up (signed-form l w z within) = json-number-form _ z within
 
--- ---- values without parts
+  text-up : {m : Meaning ArcRef} {b : List ℕ} {k : List ArcRef} → FormAt n text m b k → FormAt n json (variant 3 m) (3 ∷ b) k
+  text-up (text-form l t u le) = json-text-form _ t u le
 
-pub wrote_json : {Y : Type 0} (r : Result Y Error) (d : Data) (n : Nesting) (b : List ℕ) (old new : Out) (given bytes : List ℕ) → FormAt n json (of_data d) b [] → given ≡ old.bytes → new ≡ record old { bytes = bytes } → OnOk r (bytes ≡ given ++ b)
-    → OnOk r (WritesSome (Is of_data d) n json old new)
-wrote_json (Ok y) d n b old new given bytes f e g h = rw g (record { m = of_data d; is = refl; wrote = writes_bytes n json (of_data d) old bytes b (rw e at h) f })
-wrote_json (Err y) d n b old new given bytes f e g h = tt
+  array-up : n.levels < deepest → {m : Meaning ArcRef} {b : List ℕ} {k : List ArcRef} → FormAt (deeper n) (list json) m b k → FormAt n json (variant 4 m) (4 ∷ b) k
+  array-up lt (list-form l s ms b k le f) = json-array-form _ _ ms b k (omega arith) le f
 
-pub null_form : (n : Nesting) → FormAt n json (of_data null) (0 ∷ []) []
-null_form n = json-null-form _
+  object-up : n.levels < deepest → {m : Meaning ArcRef} {b : List ℕ} {k : List ArcRef} → FormAt (deeper n) (sorted_map text_order text json) m b k → FormAt n json (variant 5 m) (5 ∷ b) k
+  object-up lt (sorted-map-form l o s t es b k le up f) = json-object-form _ _ es b k (omega arith) le up f
 
-pub flag_form : (n : Nesting) (b : Bool) → FormAt n json (of_data (boolean b)) (1 ∷ bool_form b) []
-flag_form n b = json-flag-form _ b
+  no-text : (m : Meaning ArcRef) → NoForm n text m → NoForm n json (variant 3 m)
+  no-text m lack b k f = go f refl
+    where
+      go : {x : Meaning ArcRef} {b : List ℕ} {k : List ArcRef} → FormAt n json x b k → x ≡ variant 3 m → ⊥
+      go (json-text-form l t u le) e = let same : meanings.text t ≡ m = cc in let P : Meaning ArcRef → Type 0 = λ x. FormAt n text x (text_form t) [] in lack _ [] (subst P same (text-form _ t u le))
+      go f e = absurd cc
 
-pub wrote_text : {Y : Type 0} (r : Result Y Error) (t : List ℕ) (n : Nesting) (old new : Out) (given bytes : List ℕ) → IsUtf8 t → given ≡ old.bytes → new ≡ record old { bytes = bytes } → OnOk r (length t ≤ longest) → OnOk r (bytes ≡ given ++ 3 ∷ text_form t)
-    → OnOk r (WritesSome (Is of_data (string t)) n json old new)
-wrote_text (Ok y) t n old new given bytes u e g le h = wrote_json (let r : Result _ Error = Ok y in r) (string t) n (3 ∷ text_form t) old new given bytes (json-text-form _ t u le) e g h
-wrote_text (Err y) t n old new given bytes u e g le h = tt
+  no-array : (m : Meaning ArcRef) → NoForm (deeper n) (list json) m → NoForm n json (variant 4 m)
+  no-array m lack b k f = go f refl
+    where
+      go : {x : Meaning ArcRef} {b : List ℕ} {k : List ArcRef} → FormAt n json x b k → x ≡ variant 4 m → ⊥
+      go (json-array-form l less ms c j p le f) e =
+          let same : sequence ms ≡ m = cc in
+          let here : less ≡ deepest - (n.levels + 1) = omega arith in
+          let P : Meaning ArcRef → Type 0 = λ x. FormAt (deeper n) (list json) x (length_form (length ms) ++ c) j in
+          lack _ j (subst P same (list-form _ json ms c j le (rw here at f)))
+      go f e = absurd cc
 
-no-text : (n : Nesting) (t : List ℕ) → longest < length t → NoForm n json (of_data (string t))
-no-text n t lt b k f = go f refl
-  where
-    go : {m : Meaning ArcRef} {b : List ℕ} {k : List ArcRef} → FormAt n json m b k → m ≡ variant 3 (meanings.text t) → ⊥
-    go (json-text-form l u v le) e = let same : u ≡ t = cc in omega (arith, ap length same)
-    go f e = absurd cc
+  no-object : (m : Meaning ArcRef) → NoForm (deeper n) (sorted_map text_order text json) m → NoForm n json (variant 5 m)
+  no-object m lack b k f = go f refl
+    where
+      go : {x : Meaning ArcRef} {b : List ℕ} {k : List ArcRef} → FormAt n json x b k → x ≡ variant 5 m → ⊥
+      go (json-object-form l less es c j p le up f) e =
+          let same : of_entries es ≡ m = cc in
+          let here : less ≡ deepest - (n.levels + 1) = omega arith in
+          let P : Meaning ArcRef → Type 0 = λ x. FormAt (deeper n) (sorted_map text_order text json) x (length_form (length es) ++ c) j in
+          lack _ j (subst P same (sorted-map-form _ text_order text json es c j le up (rw here at f)))
+      go f e = absurd cc
 
-pub refused_text : {Y : Type 0} (r : Result Y Error) (t : List ℕ) (n : Nesting) → IfErr r (long_or_no_memory (length t)) → IfErr r (Refused (Is of_data (string t)) n json)
-refused_text (Ok y) t n h = tt
-refused_text (Err e) t n (inl h) = λ fault. record { m = of_data (string t); is = refl; no_form = no-text n t h.0 }
-refused_text (Err e) t n (inr h) = memory_refuses e (Is of_data (string t)) n json h
+  no-deep-array : (m : Meaning ArcRef) → deepest ≤ n.levels → NoForm n json (variant 4 m)
+  no-deep-array m le b k f = go f refl
+    where
+      go : {x : Meaning ArcRef} {b : List ℕ} {k : List ArcRef} → FormAt n json x b k → x ≡ variant 4 m → ⊥
+      go (json-array-form l less ms c j p short f) e = absurd (omega arith)
+      go f e = absurd cc
 
-pub only_part_of : {Y : Type 0} (r : Result Y Error) (len : ℕ) → IfErr r (long_or_no_memory len) → IfErr r (long_or memory)
-only_part_of (Ok y) len h = tt
-only_part_of (Err e) len (inl h) = inl h.1
-only_part_of (Err e) len (inr h) = inr h
+  no-deep-object : (m : Meaning ArcRef) → deepest ≤ n.levels → NoForm n json (variant 5 m)
+  no-deep-object m le b k f = go f refl
+    where
+      go : {x : Meaning ArcRef} {b : List ℕ} {k : List ArcRef} → FormAt n json x b k → x ≡ variant 5 m → ⊥
+      go (json-object-form l less es c j p short up f) e = absurd (omega arith)
+      go f e = absurd cc
 
 -- ---- numbers
 
@@ -140,68 +145,29 @@ no-number n (kit.float x) e b k f = go f refl
     go (json-number-form l y within) e = absurd cc
     go f e = absurd cc
 
-pub refuses_number : (n : Nesting) (x : Num) (e : Error) → (as_i64 x ≡ (let o : Option ℤ = None in o)) → Refused (Is of_data (number x)) n json e
-refuses_number n x e none = λ fault. record { m = of_data (number x); is = refl; no_form = no-number n x none }
+pub refuses-number : (n : Nesting) (x : Num) (e : Error) → (as_i64 x ≡ (let o : Option ℤ = None in o)) → Refused (Is of_data (number x)) n json e
+refuses-number n x e h = λ fault. record { m = of_data (number x); is = refl; no_form = no-number n x h }
 
-pub only_number : number_or memory errors.JsonNumber
-only_number = inl refl
+-- ---- causes
 
-pub only_whole : {Y : Type 0} (r : Result Y Error) → IfErr r memory → IfErr r (number_or memory)
-only_whole r = only_along r memory (number_or memory) (λ e h. inr h)
+pub json-memory : (e : Error) → memory e → json_causes e
+json-memory e h = inr (inr (inr h))
 
-pub number_form : (n : Nesting) (x : Num) (z : ℤ) → as_i64 x ≡ Some z → IsSigned w64 z → FormAt n json (of_data (number x)) (2 ∷ 0 ∷ signed_form w64 z) []
-number_form n x z e within = rw (whole_number x z e) (json-number-form _ z within)
+pub json-text : (e : Error) → long_or memory e → json_causes e
+json-text e (inl h) = inl h
+json-text e (inr h) = json-memory e h
 
--- ---- arrays and objects are lists and maps one level further down
+pub json-long : (len : ℕ) (e : Error) → long_or_no_memory len e → json_causes e
+json-long len e (inl h) = inl h.1
+json-long len e (inr h) = json-memory e h
 
-lower : (levels : ℕ) → levels < deepest → deepest - levels ≡ suc (deepest - (levels + 1))
-lower levels lt = omega arith
+pub json-deep : (e : Error) → e ≡ errors.TooDeep → json_causes e
+json-deep e h = inr (inl h)
 
-below : (levels less : ℕ) → deepest - levels ≡ suc less → less ≡ deepest - (levels + 1)
-below levels less e = omega arith
-
-module _ (levels : ℕ) (parts : ℕ → Shape) where
-  array-form-of : {m : Meaning ArcRef} {b : List ℕ} {k : List ArcRef} → levels < deepest → FormAt (nesting (levels + 1) parts) (list json) m b k → FormAt (nesting levels parts) json (variant 4 m) (4 ∷ b) k
-  array-form-of lt (list-form l s ms b k le f) = json-array-form _ _ ms b k (lower levels lt) le f
-
-  object-form-of : {m : Meaning ArcRef} {b : List ℕ} {k : List ArcRef} → levels < deepest → FormAt (nesting (levels + 1) parts) (sorted_map text_order shapes.text json) m b k → FormAt (nesting levels parts) json (variant 5 m) (5 ∷ b) k
-  object-form-of lt (sorted-map-form l o s t es b k le up f) = json-object-form _ _ es b k (lower levels lt) le up f
-
-  pub no-array : (m : Meaning ArcRef) → NoForm (nesting (levels + 1) parts) (list json) m → NoForm (nesting levels parts) json (variant 4 m)
-  no-array m none b k f = go f refl
-    where
-      go : {n : Meaning ArcRef} {b : List ℕ} {k : List ArcRef} → FormAt (nesting levels parts) json n b k → n ≡ variant 4 m → ⊥
-      go (json-array-form l less ms c j p le f) e =
-          let same : sequence ms ≡ m = cc in
-          let here : less ≡ deepest - (levels + 1) = below levels less p in
-          let P : Meaning ArcRef → Type 0 = λ x. FormAt (nesting (levels + 1) parts) (list json) x (length_form (length ms) ++ c) j in
-          none _ j (subst P same (list-form _ json ms c j le (rw here at f)))
-      go f e = absurd cc
-
-  pub no-object : (m : Meaning ArcRef) → NoForm (nesting (levels + 1) parts) (sorted_map text_order shapes.text json) m → NoForm (nesting levels parts) json (variant 5 m)
-  no-object m none b k f = go f refl
-    where
-      go : {n : Meaning ArcRef} {b : List ℕ} {k : List ArcRef} → FormAt (nesting levels parts) json n b k → n ≡ variant 5 m → ⊥
-      go (json-object-form l less es c j p le up f) e =
-          let same : of_entries es ≡ m = cc in
-          let here : less ≡ deepest - (levels + 1) = below levels less p in
-          let P : Meaning ArcRef → Type 0 = λ x. FormAt (nesting (levels + 1) parts) (sorted_map text_order shapes.text json) x (length_form (length es) ++ c) j in
-          none _ j (subst P same (sorted-map-form _ text_order shapes.text json es c j le up (rw here at f)))
-      go f e = absurd cc
-
-  pub deep-array : (m : Meaning ArcRef) → deepest ≤ levels → NoForm (nesting levels parts) json (variant 4 m)
-  deep-array m le b k f = go f refl
-    where
-      go : {n : Meaning ArcRef} {b : List ℕ} {k : List ArcRef} → FormAt (nesting levels parts) json n b k → n ≡ variant 4 m → ⊥
-      go (json-array-form l less ms c j p short f) e = absurd (omega arith)
-      go f e = absurd cc
-
-  pub deep-object : (m : Meaning ArcRef) → deepest ≤ levels → NoForm (nesting levels parts) json (variant 5 m)
-  deep-object m le b k f = go f refl
-    where
-      go : {n : Meaning ArcRef} {b : List ℕ} {k : List ArcRef} → FormAt (nesting levels parts) json n b k → n ≡ variant 5 m → ⊥
-      go (json-object-form l less es c j p short up f) e = absurd (omega arith)
-      go f e = absurd cc
+-- a count is refused as its length is, or by want of memory
+pub counts : (len : ℕ) (e : Error) → long_or_memory len e → long_or_no_memory len e
+counts len e (inl h) = inl h
+counts len e (inr h) = inr h.1
 
 -- what the items and the members of a value mean
 pub items-mean : (vs : List Value) → of_data (array (items_view vs)) ≡ variant 4 (sequence (map of_value vs))
@@ -225,58 +191,7 @@ pub members-are : (es : List (String Global × Value)) (m : Meaning ArcRef) → 
 members-are es m h =
     ap (λ (x : Meaning ArcRef). variant 5 x) (list_single (MeansPair (Is of_key) (Is of_value)) (λ e. pair (of_key e.0) (of_value e.1)) (pair_single (Is of_key) (Is of_value) of_key of_value (λ k n is. is) (λ v n is. is)) es m h) ∙ sym (members-mean es)
 
-module _ (levels : ℕ) (parts : ℕ → Shape) where
-  -- a form of a list after its case
-  pub wrote_array : (vs : List Value) (old mid new : Out) → levels < deepest → mid ≡ added old (4 ∷ []) [] → WritesSome (MeansList (Is of_value) vs) (nesting (levels + 1) parts) (list json) mid new → WritesSome (Is of_data (array (items_view vs))) (nesting levels parts) json old new
-  wrote_array vs old mid new lt e w =
-      record { m = variant 4 w.m; is = items-are vs w.m w.is; wrote = record { bytes = 4 ∷ w.wrote.bytes; refs = w.wrote.refs; form = array-form-of levels parts lt w.wrote.form; grown = (then) old mid new _ _ _ _ e w.wrote.grown } }
-
-  pub wrote_object : (es : List (String Global × Value)) (old mid new : Out) → levels < deepest → mid ≡ added old (5 ∷ []) [] → WritesSome (MeansList (MeansPair (Is of_key) (Is of_value)) es) (nesting (levels + 1) parts) (sorted_map text_order shapes.text json) mid new
-      → WritesSome (Is of_data (object (members_view es))) (nesting levels parts) json old new
-  wrote_object es old mid new lt e w =
-      record { m = variant 5 w.m; is = members-are es w.m w.is; wrote = record { bytes = 5 ∷ w.wrote.bytes; refs = w.wrote.refs; form = object-form-of levels parts lt w.wrote.form; grown = (then) old mid new _ _ _ _ e w.wrote.grown } }
-
-  pub refuses_array : (vs : List Value) (e : Error) → Refused (MeansList (Is of_value) vs) (nesting (levels + 1) parts) (list json) e → Refused (Is of_data (array (items_view vs))) (nesting levels parts) json e
-  refuses_array vs e h = λ fault. let lacks = h fault in record { m = variant 4 lacks.m; is = items-are vs lacks.m lacks.is; no_form = no-array levels parts lacks.m lacks.no_form }
-
-  pub refuses_object : (es : List (String Global × Value)) (e : Error) → Refused (MeansList (MeansPair (Is of_key) (Is of_value)) es) (nesting (levels + 1) parts) (sorted_map text_order shapes.text json) e → Refused (Is of_data (object (members_view es))) (nesting levels parts) json e
-  refuses_object es e h = λ fault. let lacks = h fault in record { m = variant 5 lacks.m; is = members-are es lacks.m lacks.is; no_form = no-object levels parts lacks.m lacks.no_form }
-
-  pub refuses_deep_array : (vs : List Value) (e : Error) → deepest ≤ levels → Refused (Is of_data (array (items_view vs))) (nesting levels parts) json e
-  refuses_deep_array vs e le = λ fault. record { m = variant 4 (sequence (map of_value vs)); is = sym (items-mean vs); no_form = deep-array levels parts _ le }
-
-  pub refuses_deep_object : (es : List (String Global × Value)) (e : Error) → deepest ≤ levels → Refused (Is of_data (object (members_view es))) (nesting levels parts) json e
-  refuses_deep_object es e le = λ fault. record { m = variant 5 (sequence (map (λ f. pair (of_key f.0) (of_value f.1)) es)); is = sym (members-mean es); no_form = deep-object levels parts _ le }
-
--- ---- causes
-
-pub json-long : (len : ℕ) (e : Error) → long_or_no_memory len e → json_causes e
-json-long len e (inl h) = inl h.1
-json-long len e (inr h) = inr (inr (inr h))
-
-pub json-text : (e : Error) → long_or memory e → json_causes e
-json-text e (inl h) = inl h
-json-text e (inr h) = inr (inr (inr h))
-
-pub json-deep : (e : Error) → e ≡ errors.TooDeep → json_causes e
-json-deep e h = inr (inl h)
-
-pub json_memory : {Y : Type 0} (r : Result Y Error) → IfErr r memory → IfErr r json_causes
-json_memory r = only_along r memory json_causes (λ e h. inr (inr (inr h)))
-
-pub json_number : {Y : Type 0} (r : Result Y Error) → IfErr r (number_or memory) → IfErr r json_causes
-json_number r = only_along r (number_or memory) json_causes (λ e h. inr (inr h))
-
-pub json_text : {Y : Type 0} (r : Result Y Error) → IfErr r (long_or memory) → IfErr r json_causes
-json_text r = only_along r (long_or memory) json_causes json-text
-
--- ---- a value is what its data is
-
-pub as_value : {Y : Type 0} (r : Result Y Error) (v : Value) (d : Data) (n : Nesting) (old new : Out) → view v ≡ d → OnOk r (WritesSome (Is of_data d) n json old new) → OnOk r (WritesSome (Is of_value v) n json old new)
-as_value r v d n old new e h = let P : Data → Type 0 = λ x. OnOk r (WritesSome (Is of_data x) n json old new) in subst P (sym e) h
-
-pub not_value : {Y : Type 0} (r : Result Y Error) (v : Value) (d : Data) (n : Nesting) → view v ≡ d → IfErr r (Refused (Is of_data d) n json) → IfErr r (Refused (Is of_value v) n json)
-not_value r v d n e h = let P : Data → Type 0 = λ x. IfErr r (Refused (Is of_data x) n json) in subst P (sym e) h
+-- ---- what a value holds
 
 pub seen-null : (v : Value) → v ≡ values.Null → view v ≡ null
 seen-null v is = rw is (search (rules, the_lemmas))
@@ -296,45 +211,99 @@ seen-array v items is = rw is (view-Array items)
 pub seen-object : (v : Value) (members : BTreeMap (String Global) Value) → v ≡ values.Object members → view v ≡ object (members_view members.entries)
 seen-object v members is = rw is (view-Object members)
 
--- ---- an array or an object, and why it is refused
-
-value-has : (v : Value) → SomeMeaning (Is of_value v)
-value-has v = (of_value v, refl)
-
-member-has : (e : String Global × Value) → SomeMeaning (MeansPair (Is of_key) (Is of_value) e)
-member-has e = pair_has_meaning (Is of_key) (Is of_value) (λ k. (of_key k, refl)) value-has e
+-- ---- arrays and objects
 
 -- the order of the keys is that of their bytes
 pub keys-in-order : IsOrderOf (Is of_key) string_cmp text_order
 keys-in-order = key-order (Is of_key) of_key (λ k m is. is) string_cmp text_order (λ x y. text_is_ordered (string_bytes x) (string_bytes y)) string_cmp_total
 
-module _ (levels : ℕ) (parts : ℕ → Shape) where
-  pub array_written : (vs : List Value) (count : ℕ) (old mid last new : Out) → levels < deepest → count ≡ length vs → count ≤ longest → mid ≡ added (added old (4 ∷ []) []) (length_form count) []
-      → WritesSomeAll (MeanAll (Is of_value) vs) (nesting (levels + 1) parts) json mid last → new ≡ last → WritesSome (Is of_data (array (items_view vs))) (nesting levels parts) json old new
-  array_written vs count old mid last new lt all le e w same =
-      rw same (wrote_array levels parts vs old (added old (4 ∷ []) []) last lt refl (writes_list (Is of_value) vs (nesting (levels + 1) parts) json (added old (4 ∷ []) []) mid last (rw all at e) (rw all at le) w))
+pub value-has : (v : Value) → SomeMeaning (Is of_value v)
+value-has v = (of_value v, refl)
 
-  pub object_written : (es : List (String Global × Value)) (count : ℕ) (old mid last new : Out) → IsStrictlySortedBy string_cmp (keys_of es) → levels < deepest → count ≡ length es → count ≤ longest → mid ≡ added (added old (5 ∷ []) []) (length_form count) []
-      → WritesSomeAll (MeanAll (MeansPair (Is of_key) (Is of_value)) es) (nesting (levels + 1) parts) (both shapes.text json) mid last → new ≡ last → WritesSome (Is of_data (object (members_view es))) (nesting levels parts) json old new
-  object_written es count old mid last new sorted lt all le e w same =
-      rw same (wrote_object levels parts es old (added old (5 ∷ []) []) last lt refl
-      (writes_sorted_map (Is of_key) (Is of_value) string_cmp text_order keys-in-order es (nesting (levels + 1) parts) shapes.text json (added old (5 ∷ []) []) mid last count sorted all e le w))
+pub member-has : (e : String Global × Value) → SomeMeaning (MeansPair (Is of_key) (Is of_value) e)
+member-has e = pair_has_meaning (Is of_key) (Is of_value) (λ k. (of_key k, refl)) value-has e
 
-  pub refuses_array_length : (vs : List Value) (count : ℕ) (e : Error) → count ≡ length vs → long_or_no_memory count e → Refused (Is of_data (array (items_view vs))) (nesting levels parts) json e
-  refuses_array_length vs count e all (inl h) = refuses_array levels parts vs e (refuses-count (Is of_value) value-has vs (nesting (levels + 1) parts) json e (inl (rw all at h)))
-  refuses_array_length vs count e all (inr h) = memory_refuses e (Is of_data (array (items_view vs))) (nesting levels parts) json h
+abbrev pub items-below : List Value → Piece
+items-below vs = below (all (MeanAll (Is of_value) vs) json)
 
-  pub refuses_object_length : (es : List (String Global × Value)) (count : ℕ) (e : Error) → count ≡ length es → long_or_no_memory count e → Refused (Is of_data (object (members_view es))) (nesting levels parts) json e
-  refuses_object_length es count e all (inl h) =
-      refuses_object levels parts es e (refuse-count (MeansPair (Is of_key) (Is of_value)) member-has es (nesting (levels + 1) parts) _ _ e (sorted-map-splits (nesting (levels + 1) parts) text_order shapes.text json) count all (inl h))
-  refuses_object_length es count e all (inr h) = memory_refuses e (Is of_data (object (members_view es))) (nesting levels parts) json h
+abbrev pub members-below : List (String Global × Value) → Piece
+members-below es = below (all (MeanAll (MeansPair (Is of_key) (Is of_value)) es) (both text json))
 
-  pub refuses_array_items : (vs : List Value) (e : Error) → RefusedAll (MeanAll (Is of_value) vs) (nesting (levels + 1) parts) json e → Refused (Is of_data (array (items_view vs))) (nesting levels parts) json e
-  refuses_array_items vs e h = refuses_array levels parts vs e (refused_items (let r : Result ℕ Error = Err e in r) (Is of_value) vs (nesting (levels + 1) parts) json h)
+-- of all members, those before left were written
+abbrev pub members-so-far : List (String Global × Value) → List (String Global × Value) → Piece
+members-so-far es left = record { wrote = λ n. Written (MeansPair (Is of_key) (Is of_value)) n (both text json) es left; lacks = λ n e. Unit {0} }
 
-  pub refuses_object_members : (es : List (String Global × Value)) (e : Error) → RefusedAll (MeanAll (MeansPair (Is of_key) (Is of_value)) es) (nesting (levels + 1) parts) (both shapes.text json) e → Refused (Is of_data (object (members_view es))) (nesting levels parts) json e
-  refuses_object_members es e h = refuses_object levels parts es e (refuses-items (MeansPair (Is of_key) (Is of_value)) es (nesting (levels + 1) parts) _ _ e (sorted-map-splits (nesting (levels + 1) parts) text_order shapes.text json) h)
+module _ (vs : List Value) (count : ℕ) (counted : count ≡ length vs) where
+  pub array-joins : (n : Nesting) (old mid new : Out) → (front 4 count).wrote n old mid → (items-below vs).wrote n mid new → WritesSome (Is of_data (array (items_view vs))) n json old new
+  array-joins n old mid new f w =
+      let listed = writes_list (Is of_value) vs (deeper n) json (added old (4 ∷ []) []) mid new (rw (case-byte 4 refl, counted) at f.1) (rw counted at f.0) w.1 in
+      wrote-part n (deeper n) 4 (list json) (MeansList (Is of_value) vs) (Is of_data (array (items_view vs))) (items-are vs) (4 ∷ []) old (added old (4 ∷ []) []) new (λ m b k f. array-up n w.0 f) refl listed
 
--- as many levels as before are entered after one more was left
-pub back : (start begun down done end : ℕ) → begun ≡ start → down ≡ begun + 1 → done ≡ down → end ≡ done - 1 → end ≡ start
-back start begun down done end e f g h = omega arith
+  pub array-lacks : (n : Nesting) (e : Error) → (items-below vs).lacks n e → Refused (Is of_data (array (items_view vs))) n json e
+  array-lacks n e l =
+      lacks-part n (deeper n) 4 (list json) (MeansList (Is of_value) vs) (Is of_data (array (items_view vs))) (items-are vs) e (no-array n) (refused_items (let r : Result ℕ Error = Err e in r) (Is of_value) vs (deeper n) json l.1)
+
+  pub array-long : (n : Nesting) (e : Error) → long_or_no_memory count e → Refused (Is of_data (array (items_view vs))) n json e
+  array-long n e (inl h) =
+      lacks-part n (deeper n) 4 (list json) (MeansList (Is of_value) vs) (Is of_data (array (items_view vs))) (items-are vs) e (no-array n) (refuses-count (Is of_value) value-has vs (deeper n) json e (inl (rw counted at h)))
+  array-long n e (inr h) = memory_refuses e _ n json h
+
+pub array-deep : (vs : List Value) (n : Nesting) (e : Error) → deepest ≤ n.levels → Refused (Is of_data (array (items_view vs))) n json e
+array-deep vs n e le = λ fault. record { m = variant 4 (sequence (map of_value vs)); is = sym (items-mean vs); no_form = no-deep-array n _ le }
+
+module _ (es : List (String Global × Value)) (count : ℕ) (counted : count ≡ length es) where
+  pub object-joins : IsStrictlySortedBy string_cmp (keys_of es) → (n : Nesting) (old mid new : Out) → (front 5 count).wrote n old mid → (members-below es).wrote n mid new → WritesSome (Is of_data (object (members_view es))) n json old new
+  object-joins sorted n old mid new f w =
+      let mapped = writes_sorted_map (Is of_key) (Is of_value) string_cmp text_order keys-in-order es (deeper n) text json (added old (5 ∷ []) []) mid new count sorted counted (rw (case-byte 5 refl) at f.1) f.0 w.1 in
+      wrote-part n (deeper n) 5 (sorted_map text_order text json) (MeansList (MeansPair (Is of_key) (Is of_value)) es) (Is of_data (object (members_view es))) (members-are es) (5 ∷ []) old (added old (5 ∷ []) []) new (λ m b k f. object-up n w.0 f) refl mapped
+
+  pub object-lacks : (n : Nesting) (e : Error) → (members-below es).lacks n e → Refused (Is of_data (object (members_view es))) n json e
+  object-lacks n e l =
+      lacks-part n (deeper n) 5 _ (MeansList (MeansPair (Is of_key) (Is of_value)) es) (Is of_data (object (members_view es))) (members-are es) e (no-object n)
+      (refuses-items (MeansPair (Is of_key) (Is of_value)) es (deeper n) _ _ e (sorted-map-splits (deeper n) text_order text json) l.1)
+
+  pub object-long : (n : Nesting) (e : Error) → long_or_no_memory count e → Refused (Is of_data (object (members_view es))) n json e
+  object-long n e (inl h) =
+      lacks-part n (deeper n) 5 _ (MeansList (MeansPair (Is of_key) (Is of_value)) es) (Is of_data (object (members_view es))) (members-are es) e (no-object n)
+      (refuse-count (MeansPair (Is of_key) (Is of_value)) member-has es (deeper n) _ _ e (sorted-map-splits (deeper n) text_order text json) count counted (inl h))
+  object-long n e (inr h) = memory_refuses e _ n json h
+
+pub object-deep : (es : List (String Global × Value)) (n : Nesting) (e : Error) → deepest ≤ n.levels → Refused (Is of_data (object (members_view es))) n json e
+object-deep es n e le = λ fault. record { m = variant 5 (sequence (map (λ f. pair (of_key f.0) (of_value f.1)) es)); is = sym (members-mean es); no_form = no-deep-object n _ le }
+
+-- ---- steps of the code
+
+module _ {S E N H K V : Type 0} (env : Environments E N H K V) (s : Serializers S E N H K V) where
+  pub two-bytes : {X Y : Type 0} {b c : List ℕ} {x y z : S} {u : X} (r : Result Y Error) → Wrote env s (bytes b) memory x y (Ok u) → Wrote env s (bytes c) memory y z r → Wrote env s (bytes (b ++ c)) memory x z r
+  two-bytes r p q = wrote-then env s r p q (λ n old mid new e f. (then) old mid new _ _ _ _ e f) (λ n e l h. tt) (λ e h. h)
+
+  -- bytes that were refused in the midst of a value
+  pub bytes-err : {X Y : Type 0} {b : List ℕ} {M : Meaning ArcRef → Type 0} {x y : S} {e : Error} (r : Result Y Error) → IsErrAnd r (λ f. f ≡ e) → Wrote env s (bytes b) memory x y (let p : Result X Error = Err e in p) → Wrote env s (form M json) json_causes x y r
+  bytes-err {M = M} r is p = wrote-err env s r is p (λ n l h. memory_refuses _ M n json h) (json-memory _)
+
+  -- a value is what its data is
+  pub as-value : {Y : Type 0} {x y : S} (v : Value) (d : Data) (r : Result Y Error) → view v ≡ d → Wrote env s (form (Is of_data d) json) json_causes x y r → Wrote env s (form (Is of_value v) json) json_causes x y r
+  as-value {x = x} {y = y} v d r e h = let P : Data → Type 0 = λ z. Wrote env s (form (Is of_data z) json) json_causes x y r in subst P (sym e) h
+
+  pub null-value : {Y : Type 0} {x y : S} (v : Value) (r : Result Y Error) → v ≡ values.Null → Wrote env s (bytes (unsigned_form w64 0)) memory x y r → Wrote env s (form (Is of_value v) json) json_causes x y r
+  null-value v (Ok u) is p =
+      record { ok = record { m = variant 0 none; is = ap of_data (sym (seen-null v is)); wrote = record { bytes = 0 ∷ []; refs = []; form = json-null-form _; grown = rw (case-byte 0 refl) at p.ok } }; refused = tt; only = tt; err = p.err; same_env = p.same_env; same_levels = p.same_levels }
+  null-value v (Err e) is p = record { ok = tt; refused = memory_refuses e _ _ json p.only; only = json-memory e p.only; err = p.err; same_env = p.same_env; same_levels = p.same_levels }
+
+  pub flag-wrote : {X Y : Type 0} {x y z : S} {u : X} (b : Bool) (r : Result Y Error) → Wrote env s (bytes (unsigned_form w64 1)) memory x y (Ok u) → Wrote env s (form (Is meanings.flag b) flag) memory y z r → Wrote env s (form (Is of_data (boolean b)) json) json_causes x z r
+  flag-wrote b r p q =
+      wrote-then env s r p q (λ n old mid new e w. wrote-part n n 1 flag (Is meanings.flag b) (Is of_data (boolean b)) (λ m is. rw is refl) (1 ∷ []) old mid new (λ m b k f. flag-up n f) (rw (case-byte 1 refl) at e) w) (λ n e l h. memory_refuses e _ n json h) json-memory
+
+  pub number-wrote : {X Y : Type 0} {x y z : S} {u : X} (a : Num) (i : ℤ) (r : Result Y Error) → as_i64 a ≡ Some i → Wrote env s (bytes (unsigned_form w64 2 ++ 0 ∷ [])) memory x y (Ok u) → Wrote env s (form (Is integer i) (signed w64)) memory y z r → Wrote env s (form (Is of_data (number a)) json) json_causes x z r
+  number-wrote a i r some p q =
+      wrote-then env s r p q (λ n old mid new e w. wrote-part n n 2 (signed w64) (Is integer i) (Is of_data (number a)) (λ m is. rw is (sym (whole_number a i some))) (2 ∷ 0 ∷ []) old mid new (λ m b k f. number-up n f) (rw (case-byte 2 refl) at e) w) (λ n e l h. memory_refuses e _ n json h) json-memory
+
+  pub text-wrote : {X Y : Type 0} {x y z : S} {u : X} (t : String Global) (r : Result Y Error) → Wrote env s (bytes (unsigned_form w64 3)) memory x y (Ok u) → Wrote env s (form (Is of_key t) text) (long_or memory) y z r → Wrote env s (form (Is of_data (string (string_bytes t))) json) json_causes x z r
+  text-wrote t r p q =
+      wrote-then env s r p q (λ n old mid new e w. wrote-part n n 3 text (Is of_key t) (Is of_data (string (string_bytes t))) (λ m is. rw is refl) (3 ∷ []) old mid new (λ m b k f. text-up n f) (rw (case-byte 3 refl) at e) w)
+      (λ n e l h. lacks-part n n 3 text (Is of_key t) (Is of_data (string (string_bytes t))) (λ m is. rw is refl) e (no-text n) l) json-text
+
+  pub count-wrote : {X Y : Type 0} {x y z : S} {u : X} (case count : ℕ) (r : Result Y Error) → Wrote env s (bytes (unsigned_form w64 case)) memory x y (Ok u) → OnOk r (s.out z ≡ added (s.out y) (length_form count) []) → OnOk r (count ≤ longest) → IfErr r (long_or_memory count) → Grows (s.out y) (s.out z)
+      → s.environment z ≡ s.environment y → s.levels z ≡ s.levels y → Wrote env s (front case count) (long_or_no_memory count) x z r
+  count-wrote case count (Ok v) p ok within only err same_env same_levels = record { ok = (within, rw p.ok at ok); refused = tt; only = tt; err = grows_trans _ _ _ p.err err; same_env = same_env ∙ p.same_env; same_levels = same_levels ∙ p.same_levels }
+  count-wrote case count (Err e) p ok within only err same_env same_levels = record { ok = tt; refused = tt; only = counts count e only; err = grows_trans _ _ _ p.err err; same_env = same_env ∙ p.same_env; same_levels = same_levels ∙ p.same_levels }

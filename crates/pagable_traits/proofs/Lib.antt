@@ -14,5 +14,6 @@ pub mod Cells
 pub mod Reordered
 pub mod Anywhere
 pub mod Hashed
+pub mod JsonSteps
 pub mod JsonWritten
 pub mod JsonRead

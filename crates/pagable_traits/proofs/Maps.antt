@@ -1,5 +1,5 @@
 -- Entries of maps: what they mean as pairs, and what putting in, writing and reading them gives.
-use Rattle.std.proofs.Common.{◌≡◌, ℕ, zero, suc, ◌-◌, ◌<◌, ◌≤◌, subst, List, [], ◌∷◌, ◌++◌, length, map, arith, refl, sym, ap, ◌∙◌, append_assoc, Result, Ok, Err, inl, inr}
+use Rattle.std.proofs.Common.{◌≡◌, ℕ, zero, suc, ◌-◌, ◌<◌, ◌≤◌, List, [], ◌∷◌, ◌++◌, length, map, arith, refl, sym, ap, ◌∙◌, append_assoc, Result, Ok, Err, inl, inr}
 use Rattle.std.proofs.lemmas.List.{length-map, append-nil}
 use Rattle.std.specs.Prelude.{◌⊎◌}
 use Rattle.std.specs.List.{AllByRecursion}
@@ -21,12 +21,12 @@ use Rattle.pagable_model.specs.Shape.{Shape, both, sorted_map}
 use Rattle.pagable_model.specs.Carried.{of_entries}
 use Rattle.pagable_model.specs.Form.{Forms, Entries, no-forms, more-forms, no-entries, more-entries, both-form, sorted-map-form}
 use Rattle.pagable_model.specs.Reading.{Rest, Gets, Context, deepest, items, bytes_of, counted, seen, two, read, read_with}
-use Rattle.pagable_model.specs.Writing.{Out, Nesting, FormAt, FormsAt, WritesSome, WritesSomeAll, added, kind_of_arc, Refused, RefusedAll, Grows}
+use Rattle.pagable_model.specs.Writing.{Out, Nesting, FormAt, FormsAt, WritesSome, WritesSomeAll, added, kind_of_arc, Refused, RefusedAll}
 use Rattle.pagable_model.specs.Standing.{Gave, GivesSome, SomeMeaning}
 use Rattle.pagable_model.specs.Collected.{Collected}
 use Rattle.pagable_model.specs.Lifted.{MeanAll, mean-none, mean-more, MeansList, MeansPair, items_have_meanings}
 use Rattle.pagable_codec.proofs.Writing.{then, memory_refuses}
-use Rattle.pagable_traits.proofs.Items.{mean-length, mean_last, sequence-same, forms-last, writes_no_items, grows_some_all}
+use Rattle.pagable_traits.proofs.Items.{mean-length, mean_last, split-same, forms-last, writes_no_items}
 use Rattle.pagable_traits.proofs.Parts.{writes_pair}
 use Rattle.pagable_traits.proofs.Collecting.{put-in-turn}
 use Rattle.pagable_traits.proofs.Walks.{Splits, Wraps, wraps-sequence, writes-counted, refuses-among}
@@ -223,9 +223,6 @@ written-refused {T} M has n s all left rest x a b e v f h =
     let same : all ≡ v.front ++ x ∷ rest = v.is ∙ ap (λ (ys : List T). v.front ++ ys) f in
     rw same (refuses-among M has v.front x rest n s e h)
 
-pub written-grows : {T : Type 0} (M : T → Meaning ArcRef → Type 0) (n : Nesting) (s : Shape) (all left : List T) (a b : Out) → Written M n s all left a b → Grows a b
-written-grows M n s all left a b v = grows_some_all (MeanAll M v.front) n s a b v.wrote
-
 -- ---- refusals, for each shape that is a length and items
 
 pub refuses-items : {T : Type 0} (M : T → Meaning ArcRef → Type 0) (xs : List T) (n : Nesting) (whole item : Shape) (e : Error) → Splits n whole item → RefusedAll (MeanAll M xs) n item e → Refused (MeansList M xs) n whole e
@@ -243,12 +240,7 @@ refuse-count M has xs n whole item e split count all (inr h) = memory_refuses e 
 -- ---- sorted maps
 
 sorted-map-parts : (n : Nesting) {order : KeyOrder} {s t : Shape} {m : Meaning ArcRef} {b : List ℕ} {k : List ArcRef} (ms : List (Meaning ArcRef)) → FormAt n (sorted_map order s t) m b k → m ≡ sequence ms → (length ms ≤ longest) × ((c : List ℕ) × FormsAt n (both s t) ms c k)
-sorted-map-parts n {order} {s} {t} {m} {b} {k} ms (sorted-map-form l o s' t' es c k' le asc f) e =
-    let same : map entry es ≡ ms = sequence-same (map entry es) ms e in
-    let short : length (map entry es) ≤ longest = rw (length-map es entry) le in (
-      let P : List (Meaning ArcRef) → Type 0 = λ x. length x ≤ longest in subst P same short,
-      (c, let Q : List (Meaning ArcRef) → Type 0 = λ x. FormsAt n (both s' t') x c k' in subst Q same (forms-of-entries f)),
-    )
+sorted-map-parts n ms (sorted-map-form l o s t es c k le asc f) e = let short : length (map entry es) ≤ longest = rw (length-map es entry) le in split-same n e short (forms-of-entries f)
 
 pub sorted-map-splits : (n : Nesting) (order : KeyOrder) (s t : Shape) → Splits n (sorted_map order s t) (both s t)
 sorted-map-splits n order s t = record { parts = λ ms b k f. sorted-map-parts n ms f refl }

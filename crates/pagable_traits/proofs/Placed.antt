@@ -1,5 +1,5 @@
 -- Maps in order of arrival: what putting in, writing and reading their entries gives.
-use Rattle.std.proofs.Common.{◌≡◌, ℕ, ◌≤◌, Bool, true, false, subst, List, [], ◌∷◌, length, map, refl, sym, ◌∙◌, Result}
+use Rattle.std.proofs.Common.{◌≡◌, ℕ, ◌≤◌, Bool, true, false, List, [], ◌∷◌, length, map, refl, sym, ◌∙◌, Result}
 use Rattle.std.proofs.lemmas.List.{length-map}
 use Rattle.std.specs.Prelude.{if◌then◌else◌}
 use Rattle.std.specs.List.{AllByRecursion, IsDistinct}
@@ -19,18 +19,13 @@ use Rattle.pagable_model.specs.Writing.{Nesting, FormAt, FormsAt}
 use Rattle.pagable_model.specs.Standing.{GivesSome}
 use Rattle.pagable_model.specs.Collected.{Collected}
 use Rattle.pagable_model.specs.Lifted.{MeansList, MeansPair}
-use Rattle.pagable_traits.proofs.Items.{sequence-same}
+use Rattle.pagable_traits.proofs.Items.{split-same}
 use Rattle.pagable_traits.proofs.Collecting.{put-in-turn}
 use Rattle.pagable_traits.proofs.Maps.{EntriesMean, pairs-of-entries, forms-of-entries, entries-mean, entries-written, reads-entries}
 use Rattle.pagable_traits.proofs.Walks.{Splits, Wraps, wraps-sequence}
 
 placed-map-parts : (n : Nesting) {s t : Shape} {m : Meaning ArcRef} {b : List ℕ} {k : List ArcRef} (ms : List (Meaning ArcRef)) → FormAt n (placed_map s t) m b k → m ≡ sequence ms → (length ms ≤ longest) × ((c : List ℕ) × FormsAt n (both s t) ms c k)
-placed-map-parts n {s} {t} {m} {b} {k} ms (placed-map-form l s' t' es c k' le differ f) e =
-    let same : map entry es ≡ ms = sequence-same (map entry es) ms e in
-    let short : length (map entry es) ≤ longest = rw (length-map es entry) le in (
-      let P : List (Meaning ArcRef) → Type 0 = λ x. length x ≤ longest in subst P same short,
-      (c, let Q : List (Meaning ArcRef) → Type 0 = λ x. FormsAt n (both s' t') x c k' in subst Q same (forms-of-entries f)),
-    )
+placed-map-parts n ms (placed-map-form l s t es c k le differ f) e = let short : length (map entry es) ≤ longest = rw (length-map es entry) le in split-same n e short (forms-of-entries f)
 
 pub placed-map-splits : (n : Nesting) (s t : Shape) → Splits n (placed_map s t) (both s t)
 placed-map-splits n s t = record { parts = λ ms b k f. placed-map-parts n ms f refl }

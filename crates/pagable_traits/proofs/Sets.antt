@@ -20,7 +20,7 @@ use Rattle.pagable_model.specs.Writing.{Nesting, FormAt, FormsAt}
 use Rattle.pagable_model.specs.Standing.{GivesSome}
 use Rattle.pagable_model.specs.Collected.{Collected}
 use Rattle.pagable_model.specs.Lifted.{MeanAll, mean-none, mean-more, MeansList}
-use Rattle.pagable_traits.proofs.Items.{sequence-same}
+use Rattle.pagable_traits.proofs.Items.{split-same}
 use Rattle.pagable_traits.proofs.Collecting.{put-in-turn, reads_items}
 use Rattle.pagable_traits.proofs.Walks.{Splits, Wraps, wraps-sequence}
 use Rattle.pagable_traits.proofs.Maps.{IsOrderOf}
@@ -29,21 +29,13 @@ use Rattle.pagable_traits.proofs.Placed.{IsSameOf}
 -- ---- refusals
 
 sorted-set-parts : (n : Nesting) {order : KeyOrder} {s : Shape} {m : Meaning ArcRef} {b : List ℕ} {k : List ArcRef} (ms : List (Meaning ArcRef)) → FormAt n (sorted_set order s) m b k → m ≡ sequence ms → (length ms ≤ longest) × ((c : List ℕ) × FormsAt n s ms c k)
-sorted-set-parts n {order} {s} {m} {b} {k} ms (sorted-set-form l o s' xs c k' le asc f) e =
-    let same : xs ≡ ms = sequence-same xs ms e in (
-      let P : List (Meaning ArcRef) → Type 0 = λ x. length x ≤ longest in subst P same le,
-      (c, let Q : List (Meaning ArcRef) → Type 0 = λ x. FormsAt n s' x c k' in subst Q same f),
-    )
+sorted-set-parts n ms (sorted-set-form l o s xs c k le asc f) e = split-same n e le f
 
 pub sorted-set-splits : (n : Nesting) (order : KeyOrder) (s : Shape) → Splits n (sorted_set order s) s
 sorted-set-splits n order s = record { parts = λ ms b k f. sorted-set-parts n ms f refl }
 
 placed-set-parts : (n : Nesting) {s : Shape} {m : Meaning ArcRef} {b : List ℕ} {k : List ArcRef} (ms : List (Meaning ArcRef)) → FormAt n (placed_set s) m b k → m ≡ sequence ms → (length ms ≤ longest) × ((c : List ℕ) × FormsAt n s ms c k)
-placed-set-parts n {s} {m} {b} {k} ms (placed-set-form l s' xs c k' le differ f) e =
-    let same : xs ≡ ms = sequence-same xs ms e in (
-      let P : List (Meaning ArcRef) → Type 0 = λ x. length x ≤ longest in subst P same le,
-      (c, let Q : List (Meaning ArcRef) → Type 0 = λ x. FormsAt n s' x c k' in subst Q same f),
-    )
+placed-set-parts n ms (placed-set-form l s xs c k le differ f) e = split-same n e le f
 
 pub placed-set-splits : (n : Nesting) (s : Shape) → Splits n (placed_set s) s
 placed-set-splits n s = record { parts = λ ms b k f. placed-set-parts n ms f refl }

@@ -1,7 +1,6 @@
 //! What can be written and read: the traits of values, and the carried types.
 #![tactic(auto)]
 
-pub mod again;
 pub mod boxes;
 pub mod eager;
 pub mod impls;
@@ -12,7 +11,6 @@ pub mod one_form;
 pub mod owned;
 pub mod traits;
 
-pub use again::read_twice;
 pub use boxes::PagableBoxDeserialize;
 pub use eager::{EagerlyCarried, PagableEagerDeserialize, PagableEagerSerialize};
 pub use impls::boxed_texts::serialize_str;

@@ -1,4 +1,4 @@
-//! Blobs and their keys, by the hash for tests.
+//! Blobs as rows spell them, and their keys by the hash for tests.
 
 use crate::lines::bytes_of;
 use anyhow::Context;
@@ -14,13 +14,18 @@ fn children_of(alloc: Global, text: &str) -> anyhow::Result<Vec<DataKey>> {
     Ok(children)
 }
 
-/// The key of a blob, whose child keys stand behind a colon.
-pub fn answer(alloc: Global, input: &str) -> anyhow::Result<String> {
-    let (bytes, arcs) = match input.split_once(':') {
+/// A blob: its bytes as an input, and behind a colon its child keys, if it has some.
+pub fn blob(alloc: Global, text: &str) -> anyhow::Result<PagableData> {
+    let (bytes, arcs) = match text.split_once(':') {
         Some((bytes, children)) => (bytes, children_of(alloc, children)?),
-        None => (input, Vec::new(alloc)),
+        None => (text, Vec::new(alloc)),
     };
     let bytes = bytes_of(alloc, bytes)?;
-    let key = PagableData { bytes, arcs }.compute_key::<WeighHash>();
+    Ok(PagableData { bytes, arcs })
+}
+
+/// The key of a blob.
+pub fn answer(alloc: Global, input: &str) -> anyhow::Result<String> {
+    let key = blob(alloc, input)?.compute_key::<WeighHash>();
     Ok(format!(in alloc; "{}", key.get())?)
 }

@@ -2,7 +2,6 @@
 
 pub mod answers;
 pub mod asked;
-pub mod blobs;
 pub mod looks;
 pub mod nodes;
 pub mod pure;
@@ -91,16 +90,19 @@ impl Calls {
 
     /// Makes what a row asks for, one call after the other on the pager itself, or as one list of events on the machine.
     fn make(&mut self, alloc: Global, line: &str) -> anyhow::Result<String> {
-        if let Some(pager) = &mut self.pager {
-            return pure::answers(alloc, pager, line);
+        match (&mut self.pager, &mut self.machine) {
+            (Some(pager), _) => pure::answers(alloc, pager, line),
+            (None, Some(machine)) => run(alloc, machine, line),
+            _ => bail!("no pager"),
         }
-        let Some(machine) = &mut self.machine else {
-            bail!("no pager");
-        };
-        let events = events(alloc, line)?;
-        match machine.run(alloc, events) {
-            Ok(replies) => answers::replies(alloc, replies.as_slice()),
-            Err(_) => bail!("no memory for the replies"),
-        }
+    }
+}
+
+/// The answers to a row's events, which the machine gets as one list.
+fn run(alloc: Global, machine: &mut CellMachine, line: &str) -> anyhow::Result<String> {
+    let events = events(alloc, line)?;
+    match machine.run(alloc, events) {
+        Ok(replies) => answers::replies(alloc, replies.as_slice()),
+        Err(_) => bail!("no memory for the replies"),
     }
 }

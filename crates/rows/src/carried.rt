@@ -3,7 +3,7 @@
 use crate::outcome::Outcome;
 use pagable::{
     Env, Error, NoReferences, PagableDeserialize, PagableDeserializer, PagableDeserializerImpl,
-    PagableSerialize, PagableSerializerImpl, SessionContext, WeighHash, read_twice,
+    PagableSerialize, PagableSerializerImpl, SessionContext, WeighHash,
 };
 use pagable_examples::TextEnv;
 use std::alloc::Global;
@@ -20,8 +20,11 @@ where
 {
     let session = SessionContext::new(alloc);
     let mut source = PagableDeserializerImpl::new(input, &[], NoReferences::new(env, &session));
-    let (first, second) = read_twice::<E, T, _>(alloc, &mut source);
+    let front = PagableDeserializer::<E>::position(&source);
+    let first = T::pagable_deserialize(alloc, &mut source);
     let first = first.err().map(|refusal| refusal.number());
+    PagableDeserializer::<E>::seek(&mut source, front);
+    let second = T::pagable_deserialize(alloc, &mut source);
     let used = PagableDeserializer::<E>::position(&source).byte_pos;
     Some(match second {
         Ok(value) => Outcome::taken(first, used, written(alloc, env, &value)),

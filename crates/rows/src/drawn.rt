@@ -1,7 +1,7 @@
 //! Large inputs that are drawn, and the sums of what is written of them.
 
 use crate::draws::{Draws, sum_of};
-use crate::{cells, types};
+use crate::types;
 use pagable::{Error, PagableVecFlavor};
 use std::alloc::Global;
 
@@ -93,7 +93,7 @@ fn input_of(
 /// What comes of so many drawn values: `NAME N bytes wrote SUM`.
 pub fn answer(alloc: Global, name: &str, count: u32) -> anyhow::Result<String> {
     let Some((name_of_type, input)) = input_of(alloc, name, count)? else {
-        return cells::answer(alloc, count);
+        return Ok(String::from_str(alloc, "no such values")?);
     };
     let input = input.finalize();
     let outcome = types::answer(alloc, name_of_type, input.as_slice());

@@ -86,11 +86,8 @@ fn answer_all(alloc: Global, name: &str, verb: &str, inputs: &str) -> anyhow::Re
     Ok(answers)
 }
 
-/// The answer to a line. A comment is its own answer.
+/// The answer to a line: a name, a verb, and what the verb is about.
 pub fn answer(alloc: Global, line: &str) -> anyhow::Result<String> {
-    if line.is_empty() || line.starts_with('#') {
-        return Ok(String::from_str(alloc, line)?);
-    }
     let (name, rest) = line.split_once(' ').unwrap_or((line, ""));
     let (verb, inputs) = rest.split_once(' ').unwrap_or((rest, ""));
     match verb {

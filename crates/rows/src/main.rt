@@ -1,12 +1,10 @@
-//! `rows VALUES .. calls.txt` answers each row of each file with one line. What it has to answer stands in `stdout`, and comes from
-//! outside the program. In a file of values an empty line and one that begins with # answer themselves; `calls.txt` has rows of
-//! calls and events, in which they are skipped.
+//! `rows FILE..` answers each line of each file with one line. What it has to answer stands in `stdout`, and comes from
+//! outside the program.
 #![tactic(auto)]
 
 pub mod blobs;
 pub mod calls;
 pub mod carried;
-pub mod cells;
 pub mod drawn;
 pub mod draws;
 pub mod lines;
@@ -15,42 +13,37 @@ pub mod types;
 
 use crate::calls::Calls;
 use anyhow::Context;
+use std::alloc::Global;
 use std::{env, fs};
 
-/// Answers the rows of values of a file.
-fn answer_values(rt: &HostRuntime, path: &str) -> anyhow::Result<()> {
+/// The answer to a line of a file, of calls or of values. A comment and an empty line are their own answers.
+fn answer(alloc: Global, path: &str, calls: &mut Calls, line: &str) -> anyhow::Result<String> {
+    if line.is_empty() || line.starts_with('#') {
+        return Ok(String::from_str(alloc, line)?);
+    }
+    if path.ends_with("calls.txt") {
+        calls.answer(alloc, line)
+    } else {
+        lines::answer(alloc, line)
+    }
+}
+
+/// Answers the lines of a file.
+fn run(rt: &HostRuntime, path: &str, calls: &mut Calls) -> anyhow::Result<()> {
     let text = fs::read_to_string(rt, path)?;
     for line in text.lines() {
-        let answer = lines::answer(rt.alloc(), line).context(format_args!("{path}: {line}"))?;
+        let answer = answer(rt.alloc(), path, calls, line).context(format_args!("{path}: {line}"))?;
         println!(rt; "{}", answer.as_str())?;
     }
     Ok(())
 }
 
-/// Answers the rows of calls and events of a file.
-fn answer_calls(rt: &HostRuntime, path: &str) -> anyhow::Result<()> {
-    let mut calls = Calls::new();
-    let text = fs::read_to_string(rt, path)?;
-    for line in text.lines() {
-        if !line.is_empty() && !line.starts_with('#') {
-            let answer = calls
-                .answer(rt.alloc(), line)
-                .context(format_args!("{path}: {line}"))?;
-            println!(rt; "{answer}")?;
-        }
-    }
-    Ok(())
-}
-
 fn main(rt: HostRuntime) -> anyhow::Result<()> {
+    let mut calls = Calls::new();
     let mut words = env::args(&rt)?;
     let _program = words.next();
     for path in words {
-        if path.as_str() == "calls.txt" {
-            answer_calls(&rt, path.as_str())?;
-        } else {
-            answer_values(&rt, path.as_str())?;
-        }
+        run(&rt, path.as_str(), &mut calls)?;
     }
     Ok(())
 }

@@ -36,7 +36,6 @@ impl<E: Env> PagableSerialize<E> for bool {
 
     ghost write_causes_may_refuse = { memory_may_refuse_writing };
 
-    #[tactic(auto, using(pagable_codec::proofs::Writing::parts))]
     fn pagable_serialize<S: PagableSerializer<E>>(&self, serializer: &mut S) -> Result<(), Error> {
         serializer.serde().write_bool(*self)
     }
@@ -76,7 +75,6 @@ impl<E: Env> PagableSerialize<E> for char {
 
     ghost write_causes_may_refuse = { memory_may_refuse_writing };
 
-    #[tactic(auto, using(pagable_codec::proofs::Writing::parts))]
     fn pagable_serialize<S: PagableSerializer<E>>(&self, serializer: &mut S) -> Result<(), Error> {
         serializer.serde().write_char(*self)
     }

@@ -38,7 +38,6 @@ pub trait Collects<T>: Sized {
 
 /// Reads this many items and puts each in. A refusal is the first item's that is refused, or want of memory. As many
 /// places as bytes are left are reserved at most; items that take no byte need room one by one.
-#[tactic(auto, using(pagable_codec::proofs::Reading::parts))]
 pub fn collect_items<
     'de,
     E: Env,
@@ -62,7 +61,6 @@ pub fn collect_items<
 }
 
 /// Reads how many items follow, and then the items, as `collect_items` does. TooLong above 4,294,967,295.
-#[tactic(auto, using(pagable_codec::proofs::Reading::parts))]
 pub fn read_collected<
     'de,
     E: Env,

@@ -76,7 +76,6 @@ impl<E: Env> PagableSerialize<E> for i16 {
 
     ghost write_causes_may_refuse = { memory_may_refuse_writing };
 
-    #[tactic(auto, using(pagable_codec::proofs::Writing::parts))]
     fn pagable_serialize<S: PagableSerializer<E>>(&self, serializer: &mut S) -> Result<(), Error> {
         serializer.serde().write_i16(*self)
     }

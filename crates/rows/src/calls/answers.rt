@@ -2,7 +2,8 @@
 
 use crate::calls::nodes::CellNode;
 use pagable::{
-    Beginning, Error, EventReply, Found, LoadAnswer, OptionalDataKey, PagableData, Pinning, Reply,
+    Beginning, Error, EventReply, Found, LoadAnswer, LoadReply, OptionalDataKey, PagableData,
+    Pinning, Reply,
 };
 use std::alloc::{AllocError, Global};
 use std::sync::Arc;
@@ -13,7 +14,7 @@ pub type CellEventReply = EventReply<CellNode, Arc<PagableData>, ()>;
 
 /// A word, and at most two numbers behind it.
 #[derive(Clone, Copy)]
-pub struct Told {
+struct Told {
     word: &'static str,
     first: Option<u128>,
     second: Option<u128>,
@@ -38,7 +39,7 @@ fn number(word: &'static str, number: u128) -> Told {
 }
 
 /// A refusal: its number, and the key or code that it carries.
-pub fn refused(refusal: &Error) -> Told {
+fn refused(refusal: &Error) -> Told {
     let second = match refusal {
         Error::NoData(key) => Some(key.get()),
         Error::Storage(code) => Some(u128::from(*code)),
@@ -129,8 +130,17 @@ fn push_blob(alloc: Global, text: &mut String, blob: &PagableData) -> anyhow::Re
     Ok(())
 }
 
+/// Parts what comes next from what stands in the text.
+fn parted(text: &mut String) -> Result<(), AllocError> {
+    if text.is_empty() {
+        return Ok(());
+    }
+    text.push_str("; ")
+}
+
 /// Adds what a call answers. A value that comes back from the end of a load is told too.
 pub fn push_call(alloc: Global, text: &mut String, reply: &CellReply) -> anyhow::Result<()> {
+    parted(text)?;
     match reply {
         Reply::Fetched(Ok(blob)) => push_blob(alloc, text, blob.as_ref()),
         Reply::LoadFound(Ok(Found::Blob(blob))) => push_blob(alloc, text, blob.as_ref()),
@@ -163,36 +173,36 @@ fn ended(answer: &LoadAnswer<CellNode>) -> Told {
 }
 
 /// Adds what an event answers.
-pub fn push(alloc: Global, text: &mut String, reply: &CellEventReply) -> anyhow::Result<()> {
-    let told = match reply {
-        EventReply::CallReply(reply) => return push_call(alloc, text, reply),
-        EventReply::Started(Err(e)) | EventReply::LoadMoved(Err(e)) => refused(e),
-        EventReply::Started(Ok(beginning)) => begun(beginning),
-        EventReply::LoadMoved(Ok(moved)) => {
-            number("step", u128::from(moved.steps)).push(alloc, text)?;
-            match &moved.ended {
-                Some(answer) => ended(answer),
-                None => word(""),
-            }
-        }
-        _ => word("none"),
-    };
+fn push(alloc: Global, text: &mut String, reply: &CellEventReply) -> anyhow::Result<()> {
+    match reply {
+        EventReply::CallReply(reply) => push_call(alloc, text, reply),
+        EventReply::Started(Ok(beginning)) => push_after(alloc, text, begun(beginning)),
+        EventReply::Started(Err(e)) => push_after(alloc, text, refused(e)),
+        EventReply::LoadMoved(Ok(moved)) => push_step(alloc, text, moved),
+        EventReply::LoadMoved(Err(e)) => push_after(alloc, text, refused(e)),
+        _ => Ok(()),
+    }
+}
+
+/// Adds what is told to what stands in the text.
+fn push_after(alloc: Global, text: &mut String, told: Told) -> anyhow::Result<()> {
+    parted(text)?;
     told.push(alloc, text)
 }
 
-/// Parts what comes next from what stands in the text.
-pub fn parted(text: &mut String) -> Result<(), AllocError> {
-    if text.is_empty() {
-        return Ok(());
+/// Adds how many steps a load has made, and what ended it.
+fn push_step(alloc: Global, text: &mut String, moved: &LoadReply<CellNode>) -> anyhow::Result<()> {
+    push_after(alloc, text, number("step", u128::from(moved.steps)))?;
+    match &moved.ended {
+        Some(answer) => ended(answer).push(alloc, text),
+        None => Ok(()),
     }
-    text.push_str("; ")
 }
 
 /// The answers of a list, in the order of its events.
 pub fn replies(alloc: Global, replies: &[CellEventReply]) -> anyhow::Result<String> {
     let mut text = String::new(alloc);
     for reply in replies {
-        parted(&mut text)?;
         push(alloc, &mut text, reply)?;
     }
     Ok(text)

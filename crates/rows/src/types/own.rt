@@ -1,18 +1,14 @@
 //! Types of one's own, and static and tagged values by an environment's registries.
 
 use super::lent;
-use crate::carried::{finished, read, replay_in};
+use crate::carried::{AnyEnv, finished, read, replay_in};
 use crate::outcome::Outcome;
 use pagable::{
     Error, NoReferences, PagableDeserializer, PagableDeserializerImpl, PagableEagerDeserialize,
     PagableEagerSerialize, PagableSerializerImpl, SessionContext, StaticBytes, StaticStr,
-    WeighHash,
 };
-use pagable_examples::{Expression, Menu, Sheet, Ticket};
-use pagable_examples::{Animal, AnimalReader, Sighting, Zoo};
+use pagable_examples::{Animal, AnimalReader, Expression, Sheet, Sighting, Ticket, Zoo};
 use std::alloc::Global;
-
-type Card = Menu<WeighHash>;
 
 /// An environment with four texts and three lists of bytes, in which these readers are registered.
 fn zoo(alloc: Global, readers: &[AnimalReader]) -> Option<Zoo> {
@@ -39,14 +35,14 @@ fn animal(alloc: Global, readers: &[AnimalReader], input: &[u8]) -> Option<Outco
 
 /// The ticket that is read eagerly from these bytes, and how many of them it takes.
 fn eager(alloc: Global, bytes: &[u8]) -> Result<(Ticket, usize), Error> {
-    let env = Card::new();
+    let env = AnyEnv::new();
     let session = SessionContext::new(alloc);
     let mut source = PagableDeserializerImpl::new(bytes, &[], NoReferences::new(&env, &session));
-    let ticket = <Ticket as PagableEagerDeserialize<'_, Card>>::eager_pagable_deserialize(
+    let ticket = <Ticket as PagableEagerDeserialize<'_, AnyEnv>>::eager_pagable_deserialize(
         alloc,
         &mut source,
     )?;
-    let used = PagableDeserializer::<Card>::position(&source).byte_pos;
+    let used = PagableDeserializer::<AnyEnv>::position(&source).byte_pos;
     Ok((ticket, used))
 }
 
@@ -56,7 +52,7 @@ fn ticket(alloc: Global, input: &[u8]) -> Outcome {
         Ok(found) => found,
         Err(refusal) => return Outcome::Refused(refusal.number()),
     };
-    let env = Card::new();
+    let env = AnyEnv::new();
     let mut out = PagableSerializerImpl::testing_new(alloc, &env);
     let done = ticket.eager_pagable_serialize(&mut out);
     Outcome::taken(None, used, finished(done, out))

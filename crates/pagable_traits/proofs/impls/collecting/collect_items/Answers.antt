@@ -60,3 +60,9 @@ pub returns-in_err-put_in-clause-gives : goal.returns-in_err-put_in-clause-gives
 returns-in_err-put_in-clause-gives g c =
     let p = err_from_is_err_and c.from_residual-in_err-put_in.result c.from_residual-in_err-put_in.ensures.1 in
     rw (p.1, p.2) (inr (inl c.in_err-put_in.ensures.only))
+
+pub returns-in_err-value-clause-moves : goal.returns-in_err-value-clause-moves
+returns-in_err-value-clause-moves g c = moves_trans _ _ _ c.loop-index.invariant.moves c.in_err-value.ensures.moves
+
+pub returns-in_err-put_in-clause-moves : goal.returns-in_err-put_in-clause-moves
+returns-in_err-put_in-clause-moves g c = moves_trans _ _ _ c.loop-index.invariant.moves c.in_ok-value.ensures.moves

@@ -2,6 +2,7 @@ use Rattle.std.proofs.lemmas.Result.{err_from_is_err_and}
 use Rattle.pagable_model.specs.Gives.{memory_or}
 use Rattle.pagable_model.specs.Reading.{read}
 use Rattle.pagable_model.specs.Standing.{handles_at}
+use Rattle.pagable_codec.proofs.Reading.{moves_trans}
 use Rattle.pagable_traits.proofs.Collecting.{uncounted, gives_counted}
 use Rattle.pagable_traits.proofs.impls.collecting.read_collected.Goals as goal
 
@@ -18,3 +19,6 @@ returns-clause-gives g c =
     let get = read (handles_at (g.D.PagableDeserializer.levels c.args.deserializer.now) (g.E.Env.parts env)) (g.T.Carried.shape env) in
     let counted = c.in_ok-count.ensures in
     gives_counted (memory_or g.T.PagableDeserialize.read_causes) _ c.collect_items.result get (g.D.PagableDeserializer.rest c.args.deserializer.now) _ _ _ counted.gives (rw (counted.same_levels, counted.same_env) at c.collect_items.ensures.gives)
+
+pub returns-clause-moves : goal.returns-clause-moves
+returns-clause-moves g c = moves_trans _ _ _ c.in_ok-count.ensures.moves c.collect_items.ensures.moves

@@ -1,15 +1,13 @@
-use Rattle.std.proofs.Common.{◌≡◌, ◌+◌, ◌-◌, ◌*◌, List}
+use Rattle.std.proofs.Common.{◌≡◌, ◌+◌, ◌-◌, ◌*◌}
 use Rattle.std.specs.BTreeMap.{insert_entry}
 use Rattle.std.specs.String.{string_cmp}
-use Rattle.pagable_model.specs.declared.numbers.ArcRef.{ArcRef}
 use Rattle.pagable_model.specs.Collected.{Collected}
 use Rattle.pagable_model.specs.Lifted.{MeanAll, MeansPair}
-use Rattle.pagable_model.specs.Meaning.{Meaning}
-use Rattle.pagable_model.specs.Reading.{deepest, items, read}
+use Rattle.pagable_model.specs.Reading.{deepest, read}
 use Rattle.pagable_model.specs.Shape.{both, json, text}
-use Rattle.pagable_model.specs.Standing.{Is, MovesOn, handles_at}
+use Rattle.pagable_model.specs.Standing.{Is}
 use Rattle.pagable_traits.specs.JsonData.{of_key, of_value}
-use Rattle.pagable_traits.proofs.Items.{with_front}
+use Rattle.pagable_traits.proofs.JsonSteps.{SoFar}
 use Rattle.pagable_traits.proofs.impls.json_reading.+reading_json.Given as goal
 
 abbrev pub decreases-read_value : goal.decreases-read_value
@@ -31,25 +29,8 @@ abbrev pub decreases-read_members : goal.decreases-read_members
 decreases-read_members g l = 4 * (deepest - g.D.PagableDeserializer.levels l.deserializer.now) + 3
 
 abbrev pub invariant-read_items-loop-index : goal.invariant-read_items-loop-index
-invariant-read_items-loop-index g l =
-    let env = g.D.PagableDeserializer.environment l.fn.deserializer in
-    let get = read (handles_at (g.D.PagableDeserializer.levels l.fn.deserializer) (g.E.Env.parts env)) json in
-    record {
-      gives : (ms : List (Meaning ArcRef)) × MeanAll (Is of_value) l.values.items ms × (with_front ms (items get (l.count - l.index) (g.D.PagableDeserializer.rest l.deserializer)) ≡ items get l.count (g.D.PagableDeserializer.rest l.fn.deserializer));
-      moves : MovesOn (g.D.PagableDeserializer.standing l.fn.deserializer) (g.D.PagableDeserializer.standing l.deserializer);
-      same_env : g.D.PagableDeserializer.environment l.deserializer ≡ env;
-      same_levels : g.D.PagableDeserializer.levels l.deserializer ≡ g.D.PagableDeserializer.levels l.fn.deserializer;
-    }
+invariant-read_items-loop-index g l = SoFar g.E.Env g.D.PagableDeserializer (λ ms. MeanAll (Is of_value) l.values.items ms) (λ c. read c json) l.count l.index l.fn.deserializer l.deserializer
 
 abbrev pub invariant-read_members-loop-index : goal.invariant-read_members-loop-index
 invariant-read_members-loop-index g l =
-    let env = g.D.PagableDeserializer.environment l.fn.deserializer in
-    let get = read (handles_at (g.D.PagableDeserializer.levels l.fn.deserializer) (g.E.Env.parts env)) (both text json) in
-    record {
-      gives :
-          (ms : List (Meaning ArcRef)) × Collected (MeansPair (Is of_key) (Is of_value)) (λ es e fs. fs ≡ insert_entry string_cmp es e.0 e.1) l.members.entries ms
-          × (with_front ms (items get (l.count - l.index) (g.D.PagableDeserializer.rest l.deserializer)) ≡ items get l.count (g.D.PagableDeserializer.rest l.fn.deserializer));
-      moves : MovesOn (g.D.PagableDeserializer.standing l.fn.deserializer) (g.D.PagableDeserializer.standing l.deserializer);
-      same_env : g.D.PagableDeserializer.environment l.deserializer ≡ env;
-      same_levels : g.D.PagableDeserializer.levels l.deserializer ≡ g.D.PagableDeserializer.levels l.fn.deserializer;
-    }
+    SoFar g.E.Env g.D.PagableDeserializer (λ ms. Collected (MeansPair (Is of_key) (Is of_value)) (λ es e fs. fs ≡ insert_entry string_cmp es e.0 e.1) l.members.entries ms) (λ c. read c (both text json)) l.count l.index l.fn.deserializer l.deserializer

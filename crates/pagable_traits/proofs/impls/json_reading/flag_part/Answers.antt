@@ -1,20 +1,15 @@
-use Rattle.std.proofs.lemmas.Result.{err_from_is_err_and}
-use Rattle.pagable_traits.proofs.JsonRead.{flag_read, flag_refused}
+use Rattle.pagable_model.specs.Meaning.{variant}
+use Rattle.serde_json.specs.declared.value.Value as values
+use Rattle.pagable_traits.proofs.JsonSteps.{read-as, read-err, through}
+use Rattle.pagable_traits.proofs.JsonRead.{is-flag, flag-seen}
 use Rattle.pagable_traits.proofs.impls.json_reading.flag_part.Goals as goal
 
-pub returns-in_err-flag-clause-gives : goal.returns-in_err-flag-clause-gives
-returns-in_err-flag-clause-gives g c =
-    let p = err_from_is_err_and c.from_residual.result c.from_residual.ensures.1 in
-    let env = g.D.PagableDeserializer.environment c.args.deserializer.now in
-    let levels = g.D.PagableDeserializer.levels c.args.deserializer.now in
-    let parts = g.E.Env.parts env in
-    let start = g.D.PagableDeserializer.rest c.args.deserializer.now in
-    rw (p.1, p.2) (flag_refused levels parts start _ c.in_err-flag.ensures.gives)
+pub returns-in_err-flag : goal.returns-in_err-flag
+returns-in_err-flag g c =
+    let w = c.in_err-flag.ensures in
+    read-err g.E.Env g.D.PagableDeserializer c.from_residual.result c.from_residual.ensures.1 w.gives w.moves w.same_env w.same_levels (λ h. absurd h) (through (λ m. variant 1 m) (flag-seen _ _ _))
 
-pub returns-clause-gives : goal.returns-clause-gives
-returns-clause-gives g c =
-    let env = g.D.PagableDeserializer.environment c.args.deserializer.now in
-    let levels = g.D.PagableDeserializer.levels c.args.deserializer.now in
-    let parts = g.E.Env.parts env in
-    let start = g.D.PagableDeserializer.rest c.args.deserializer.now in
-    flag_read levels parts c.in_ok-flag.flag start _ c.in_ok-flag.ensures.gives
+pub returns : goal.returns
+returns g c =
+    let w = c.in_ok-flag.ensures in
+    read-as g.E.Env g.D.PagableDeserializer (values.Bool c.in_ok-flag.flag) (λ m. variant 1 m) w.gives w.moves w.same_env w.same_levels (is-flag c.in_ok-flag.flag) (flag-seen _ _ _)

@@ -1,50 +1,35 @@
-use Rattle.std.proofs.Common.{◌≡◌, true, false, Ok, arith, rules, inl}
+use Rattle.std.proofs.Common.{rules, refl, inl}
 use Rattle.std.specs.Int.{w64}
 use Rattle.std.proofs.lemmas.Int.{to_z-of_z}
-use Rattle.std.proofs.lemmas.Result.{err_from_is_err_and}
-use Rattle.pagable_model.specs.Basic.{bool_at}
-use Rattle.pagable_model.specs.Reading.{bytes_of}
-use Rattle.pagable_traits.proofs.JsonRead.{float_refused, float_unread, whole_read, whole_refused}
+use Rattle.pagable_model.specs.Meaning.{variant}
+use Rattle.pagable_model.specs.Reading.{read, seen}
+use Rattle.pagable_model.specs.Shape.{signed}
+use Rattle.pagable_traits.specs.JsonSteps.{context_in}
+use Rattle.pagable_traits.proofs.JsonSteps.{read-as, read-err, read-then}
+use Rattle.pagable_traits.proofs.JsonRead.{is-whole, float-seen, float-unread, whole-seen}
 use Rattle.pagable_traits.proofs.impls.json_reading.number_part.Goals as goal
 
-pub returns-in_err-float-clause-gives : goal.returns-in_err-float-clause-gives
-returns-in_err-float-clause-gives g c =
-    let p = err_from_is_err_and c.from_residual.result c.from_residual.ensures.1 in
-    let env = g.D.PagableDeserializer.environment c.args.deserializer.now in
-    let levels = g.D.PagableDeserializer.levels c.args.deserializer.now in
-    let parts = g.E.Env.parts env in
-    let rest = g.D.PagableDeserializer.rest in
-    let start = rest c.args.deserializer.now in
-    rw (p.1, p.2) (float_unread levels parts start _ c.in_err-float.ensures.gives)
+pub returns-in_err-float : goal.returns-in_err-float
+returns-in_err-float g c =
+    let w = c.in_err-float.ensures in
+    read-err g.E.Env g.D.PagableDeserializer c.from_residual.result c.from_residual.ensures.1 w.gives w.moves w.same_env w.same_levels (λ h. absurd h) (float-unread (context_in g.E.Env g.D.PagableDeserializer c.args.deserializer.now) _ _)
 
-pub returns-then-float-clause-gives : goal.returns-then-float-clause-gives
-returns-then-float-clause-gives g c =
-    let env = g.D.PagableDeserializer.environment c.args.deserializer.now in
-    let levels = g.D.PagableDeserializer.levels c.args.deserializer.now in
-    let parts = g.E.Env.parts env in
-    let rest = g.D.PagableDeserializer.rest in
-    let start = rest c.args.deserializer.now in
-    let flag : bytes_of bool_at (λ b. b) start ≡ Ok (true, rest c.read_flag.new.deserializer) = grind (arith, c.in_ok-float.ensures.gives, c.if-float.true) in
-    inl (float_refused levels parts start _ flag)
+pub returns-then-float : goal.returns-then-float
+returns-then-float g c =
+    let told = c.in_ok-float.ensures in
+    record { gives = inl (float-seen (context_in g.E.Env g.D.PagableDeserializer c.args.deserializer.now) _ _ _ c.if-float.true told.gives); moves = told.moves; same_env = told.same_env; same_levels = told.same_levels }
 
-pub returns-in_err-whole-clause-gives : goal.returns-in_err-whole-clause-gives
-returns-in_err-whole-clause-gives g c =
-    let p = err_from_is_err_and c.from_residual-in_err-whole.result c.from_residual-in_err-whole.ensures.1 in
-    let env = g.D.PagableDeserializer.environment c.args.deserializer.now in
-    let levels = g.D.PagableDeserializer.levels c.args.deserializer.now in
-    let parts = g.E.Env.parts env in
-    let rest = g.D.PagableDeserializer.rest in
-    let start = rest c.args.deserializer.now in
-    let flag : bytes_of bool_at (λ b. b) start ≡ Ok (false, rest c.read_flag.new.deserializer) = grind (arith, c.in_ok-float.ensures.gives, c.if-float.false) in
-    rw (p.1, p.2) (whole_refused levels parts start _ _ flag c.in_err-whole.ensures.gives)
+pub returns-in_err-whole : goal.returns-in_err-whole
+returns-in_err-whole g c =
+    let told = c.in_ok-float.ensures in
+    let w = c.in_err-whole.ensures in
+    read-then g.E.Env g.D.PagableDeserializer told.moves told.same_env told.same_levels
+    (read-err g.E.Env g.D.PagableDeserializer c.from_residual-in_err-whole.result {whole = λ x. seen (λ m. variant 2 m) (read x (signed w64))} c.from_residual-in_err-whole.ensures.1 w.gives w.moves w.same_env w.same_levels (λ h. absurd h) (λ h. rw h refl)) (whole-seen _ _ _ _ _ c.if-float.false told.gives)
 
-pub returns-clause-gives : goal.returns-clause-gives
-returns-clause-gives g c =
-    let env = g.D.PagableDeserializer.environment c.args.deserializer.now in
-    let levels = g.D.PagableDeserializer.levels c.args.deserializer.now in
-    let parts = g.E.Env.parts env in
-    let rest = g.D.PagableDeserializer.rest in
-    let start = rest c.args.deserializer.now in
-    let flag : bytes_of bool_at (λ b. b) start ≡ Ok (false, rest c.read_flag.new.deserializer) = grind (arith, c.in_ok-float.ensures.gives, c.if-float.false) in
-    let seen = rw (to_z-of_z w64 c.in_ok-whole.whole (search rules)) at c.from.ensures in
-    whole_read levels parts c.from.result c.in_ok-whole.whole start _ _ seen flag c.in_ok-whole.ensures.gives
+pub returns : goal.returns
+returns g c =
+    let told = c.in_ok-float.ensures in
+    let is = rw (to_z-of_z w64 c.in_ok-whole.whole (search rules)) at c.from.ensures in
+    let w = c.in_ok-whole.ensures in
+    read-then g.E.Env g.D.PagableDeserializer told.moves told.same_env told.same_levels
+    (read-as g.E.Env g.D.PagableDeserializer c.from.result (λ m. variant 2 m) {whole = λ x. seen (λ m. variant 2 m) (read x (signed w64))} w.gives w.moves w.same_env w.same_levels (λ m means. is-whole c.from.result c.in_ok-whole.whole m is means) refl) (whole-seen _ _ _ _ _ c.if-float.false told.gives)

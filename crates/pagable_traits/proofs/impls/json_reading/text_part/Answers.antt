@@ -1,20 +1,15 @@
-use Rattle.std.proofs.lemmas.Result.{err_from_is_err_and}
-use Rattle.pagable_traits.proofs.JsonRead.{text_read, text_refused}
+use Rattle.pagable_model.specs.Meaning.{variant}
+use Rattle.serde_json.specs.declared.value.Value as values
+use Rattle.pagable_traits.proofs.JsonSteps.{read-as, read-err, through}
+use Rattle.pagable_traits.proofs.JsonRead.{is-text, text-seen}
 use Rattle.pagable_traits.proofs.impls.json_reading.text_part.Goals as goal
 
-pub returns-in_err-text-clause-gives : goal.returns-in_err-text-clause-gives
-returns-in_err-text-clause-gives g c =
-    let p = err_from_is_err_and c.from_residual.result c.from_residual.ensures.1 in
-    let env = g.D.PagableDeserializer.environment c.args.deserializer.now in
-    let levels = g.D.PagableDeserializer.levels c.args.deserializer.now in
-    let parts = g.E.Env.parts env in
-    let start = g.D.PagableDeserializer.rest c.args.deserializer.now in
-    rw (p.1, p.2) (text_refused levels parts start _ c.in_err-text.ensures.gives)
+pub returns-in_err-text : goal.returns-in_err-text
+returns-in_err-text g c =
+    let w = c.in_err-text.ensures in
+    read-err g.E.Env g.D.PagableDeserializer c.from_residual.result c.from_residual.ensures.1 w.gives w.moves w.same_env w.same_levels (λ h. h) (through (λ m. variant 3 m) (text-seen _ _ _))
 
-pub returns-clause-gives : goal.returns-clause-gives
-returns-clause-gives g c =
-    let env = g.D.PagableDeserializer.environment c.args.deserializer.now in
-    let levels = g.D.PagableDeserializer.levels c.args.deserializer.now in
-    let parts = g.E.Env.parts env in
-    let start = g.D.PagableDeserializer.rest c.args.deserializer.now in
-    text_read levels parts c.in_ok-text.text start _ c.in_ok-text.ensures.gives
+pub returns : goal.returns
+returns g c =
+    let w = c.in_ok-text.ensures in
+    read-as g.E.Env g.D.PagableDeserializer (values.String c.in_ok-text.text) (λ m. variant 3 m) w.gives w.moves w.same_env w.same_levels (is-text c.in_ok-text.text) (text-seen _ _ _)

@@ -1,57 +1,42 @@
-use Rattle.std.proofs.Common.{◌≡◌, Some, None, rules}
+use Rattle.std.proofs.Common.{◌≡◌, Some, None, Result, Ok, Err, rules, refl, inl, inr, [], ◌∷◌}
 use Rattle.std.specs.Int.{w64}
+use Rattle.std.proofs.lemmas.Int.{to_z-of_z}
 use Rattle.std.specs.Prelude.{Option, ℤ}
-use Rattle.serde_json.specs.Data.{number}
 use Rattle.serde_json.specs.Find.{as_i64}
 use Rattle.serde_json.specs.View.{number_view}
-use Rattle.std.proofs.lemmas.Int.{to_z-of_z}
+use Rattle.pagable_model.specs.declared.error.Error.{Error}
 use Rattle.pagable_model.specs.declared.error.Error.TheVariants as errors
-use Rattle.pagable_model.specs.Numbers.{IsSigned}
-use Rattle.pagable_model.specs.Shape.{json}
+use Rattle.pagable_model.specs.Gives.{memory}
+use Rattle.pagable_model.specs.Meaning.{integer}
+use Rattle.pagable_model.specs.Shape.{signed}
 use Rattle.pagable_model.specs.Standing.{Is}
-use Rattle.pagable_model.specs.Writing.{nesting}
-use Rattle.pagable_codec.proofs.Writing.{grows_refl, refused_memory}
-use Rattle.pagable_traits.specs.JsonData.{of_data}
-use Rattle.pagable_traits.proofs.Basics.{wrote_on}
-use Rattle.pagable_traits.proofs.JsonWritten.{wrote_json, number_form, refuses_number, only_number, only_whole}
+use Rattle.pagable_codec.proofs.Writing.{grows_refl}
+use Rattle.pagable_traits.proofs.JsonSteps.{as-bytes, as-form}
+use Rattle.pagable_traits.proofs.JsonWritten.{bytes-err, two-bytes, number-wrote, refuses-number}
 use Rattle.pagable_traits.proofs.impls.json_writing.write_number.Goals as goal
 
-pub returns-in_default-clause-refused : goal.returns-in_default-clause-refused
-returns-in_default-clause-refused g c =
-    let n = nesting (g.S.PagableSerializer.levels c.args.serializer.now) (g.E.Env.parts (g.S.PagableSerializer.environment c.args.serializer.now)) in
+pub returns-in_default : goal.returns-in_default
+returns-in_default g c =
     let none : as_i64 (number_view c.args.value.now) ≡ (let o : Option ℤ = None in o) = search rules in
-    refuses_number n (number_view c.args.value.now) errors.JsonNumber none
+    record { ok = tt; refused = refuses-number _ _ errors.JsonNumber none; only = inr (inr (inl refl)); err = grows_refl _; same_env = refl; same_levels = refl }
 
-pub returns-in_default-clause-only : goal.returns-in_default-clause-only
-returns-in_default-clause-only g c = only_number
+pub returns-in_err-write_case : goal.returns-in_err-write_case
+returns-in_err-write_case g c = bytes-err g.E.Env g.S.PagableSerializer c.from_residual.result c.from_residual.ensures.1 c.in_err-write_case.ensures
 
-pub returns-in_default-clause-err : goal.returns-in_default-clause-err
-returns-in_default-clause-err g c = grows_refl _
+pub returns-in_err-write_flag : goal.returns-in_err-write_flag
+returns-in_err-write_flag g c =
+    let w = c.in_err-write_flag.ensures in
+    let r : Result (Unit {0}) Error = Err c.in_err-write_flag.field-0.0 in
+    let part = as-bytes g.E.Env g.S.PagableSerializer (0 ∷ []) memory r w.ok w.only w.err w.same_env w.same_levels in
+    bytes-err g.E.Env g.S.PagableSerializer c.from_residual-in_err-write_flag.result c.from_residual-in_err-write_flag.ensures.1 (two-bytes g.E.Env g.S.PagableSerializer r c.in_ok-write_case.ensures part)
 
-pub returns-clause-ok : goal.returns-clause-ok
-returns-clause-ok g c =
-    let n = nesting (g.S.PagableSerializer.levels c.args.serializer.now) (g.E.Env.parts (g.S.PagableSerializer.environment c.args.serializer.now)) in
-    let out = g.met.S.PagableSerializer.out_of_with c.args.serializer.now c.put_whole.new.writer in
+pub returns : goal.returns
+returns g c =
     let whole : as_i64 (number_view c.args.value.now) ≡ Some c.in-Some.whole = search rules in
-    let within : IsSigned w64 c.in-Some.whole = search rules in
-    let wrote = rw (to_z-of_z w64 c.in-Some.whole (search rules)) at c.put_whole.ensures.ok in
-    wrote_json c.put_whole.result (number (number_view c.args.value.now)) n _ _ _ _ _ (number_form n (number_view c.args.value.now) c.in-Some.whole whole within) c.serde.ensures.value out wrote
-
-pub returns-clause-refused : goal.returns-clause-refused
-returns-clause-refused g c =
-    let n = nesting (g.S.PagableSerializer.levels c.args.serializer.now) (g.E.Env.parts (g.S.PagableSerializer.environment c.args.serializer.now)) in
-    refused_memory c.put_whole.result (Is of_data (number (number_view c.args.value.now))) n json c.put_whole.ensures.only
-
-pub returns-clause-only : goal.returns-clause-only
-returns-clause-only g c = only_whole c.put_whole.result c.put_whole.ensures.only
-
-pub returns-clause-err : goal.returns-clause-err
-returns-clause-err g c =
-    let out = g.met.S.PagableSerializer.out_of_with c.args.serializer.now c.put_whole.new.writer in
-    wrote_on _ _ _ _ c.serde.ensures.value out c.put_whole.ensures.err
-
-pub returns-clause-same_env : goal.returns-clause-same_env
-returns-clause-same_env g c = g.met.S.PagableSerializer.environment_of_with c.args.serializer.now c.put_whole.new.writer
-
-pub returns-clause-same_levels : goal.returns-clause-same_levels
-returns-clause-same_levels g c = g.met.S.PagableSerializer.levels_of_with c.args.serializer.now c.put_whole.new.writer
+    let flag = c.in_ok-write_flag.ensures in
+    let r : Result (Unit {0}) Error = Ok tt in
+    let cased = two-bytes g.E.Env g.S.PagableSerializer r c.in_ok-write_case.ensures (as-bytes g.E.Env g.S.PagableSerializer (0 ∷ []) memory r flag.ok flag.only flag.err flag.same_env flag.same_levels) in
+    let w = c.pagable_serialize.ensures in
+    let same = to_z-of_z w64 c.in-Some.whole (search rules) in
+    let part = as-form g.E.Env g.S.PagableSerializer (Is integer c.in-Some.whole) (signed w64) memory c.pagable_serialize.result (rw same at w.ok) (rw same at w.refused) w.only w.err w.same_env w.same_levels in
+    number-wrote g.E.Env g.S.PagableSerializer _ _ c.pagable_serialize.result whole cased part

@@ -1,5 +1,6 @@
 use Rattle.std.proofs.Common.{inl, inr}
 use Rattle.std.proofs.lemmas.Result.{err_from_is_err_and}
+use Rattle.pagable_codec.proofs.Writing.{grows_trans}
 use Rattle.pagable_traits.proofs.Parts.{only-count, only-part}
 use Rattle.pagable_traits.proofs.impls.walks.write_counted.Goals as goal
 
@@ -28,3 +29,9 @@ pub returns-clause-ok : goal.returns-clause-ok
 returns-clause-ok g c =
     let counted = c.in_ok-write_count.ensures in
     record { within = counted.within; each = rw (counted.same_levels, counted.same_env, counted.ok) at c.in_ok-write_each.ensures.ok }
+
+pub returns-in_err-write_each-clause-err : goal.returns-in_err-write_each-clause-err
+returns-in_err-write_each-clause-err g c = grows_trans _ _ _ c.in_ok-write_count.ensures.err c.in_err-write_each.ensures.err
+
+pub returns-clause-err : goal.returns-clause-err
+returns-clause-err g c = grows_trans _ _ _ c.in_ok-write_count.ensures.err c.in_ok-write_each.ensures.err

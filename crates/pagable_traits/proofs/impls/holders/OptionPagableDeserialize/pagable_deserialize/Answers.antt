@@ -1,7 +1,5 @@
-use Rattle.std.proofs.Common.{◌∙◌}
 use Rattle.std.proofs.lemmas.Result.{err_from_is_err_and}
 use Rattle.pagable_model.specs.Standing.{handles_at}
-use Rattle.pagable_codec.proofs.Reading.{moves_trans}
 use Rattle.pagable_traits.proofs.Held.{option_unflagged, option_absent, option_refused, option_present}
 use Rattle.pagable_traits.proofs.impls.holders.OptionPagableDeserialize.pagable_deserialize.Goals as goal
 
@@ -12,29 +10,11 @@ returns-in_err-read_flag-clause-gives g c =
     let context = handles_at (g.D.PagableDeserializer.levels c.args.deserializer.now) (g.E.Env.parts env) in
     rw (p.1, p.2) (option_unflagged g.T.PagableDeserialize.read_causes context (g.T.Carried.shape env) _ (g.D.PagableDeserializer.rest c.args.deserializer.now) c.in_err-read_flag.ensures.gives)
 
-pub returns-in_err-read_flag-clause-moves : goal.returns-in_err-read_flag-clause-moves
-returns-in_err-read_flag-clause-moves g c = c.in_err-read_flag.ensures.moves
-
-pub returns-in_err-read_flag-clause-same_env : goal.returns-in_err-read_flag-clause-same_env
-returns-in_err-read_flag-clause-same_env g c = c.in_err-read_flag.ensures.same_env
-
-pub returns-in_err-read_flag-clause-same_levels : goal.returns-in_err-read_flag-clause-same_levels
-returns-in_err-read_flag-clause-same_levels g c = c.in_err-read_flag.ensures.same_levels
-
 pub returns-then-not-branch-clause-gives : goal.returns-then-not-branch-clause-gives
 returns-then-not-branch-clause-gives g c =
     let env = g.D.PagableDeserializer.environment c.args.deserializer.now in
     let context = handles_at (g.D.PagableDeserializer.levels c.args.deserializer.now) (g.E.Env.parts env) in
     option_absent g.T.Carried.means context (g.T.Carried.shape env) (g.D.PagableDeserializer.rest c.args.deserializer.now) _ _ c.if-not-branch.true c.in_ok-read_flag.ensures.gives
-
-pub returns-then-not-branch-clause-moves : goal.returns-then-not-branch-clause-moves
-returns-then-not-branch-clause-moves g c = c.in_ok-read_flag.ensures.moves
-
-pub returns-then-not-branch-clause-same_env : goal.returns-then-not-branch-clause-same_env
-returns-then-not-branch-clause-same_env g c = c.in_ok-read_flag.ensures.same_env
-
-pub returns-then-not-branch-clause-same_levels : goal.returns-then-not-branch-clause-same_levels
-returns-then-not-branch-clause-same_levels g c = c.in_ok-read_flag.ensures.same_levels
 
 pub returns-in_err-value-clause-gives : goal.returns-in_err-value-clause-gives
 returns-in_err-value-clause-gives g c =
@@ -44,27 +24,9 @@ returns-in_err-value-clause-gives g c =
     let told = c.in_ok-read_flag.ensures in
     rw (p.1, p.2) (option_refused g.T.PagableDeserialize.read_causes context (g.T.Carried.shape env) _ (g.D.PagableDeserializer.rest c.args.deserializer.now) _ _ c.if-not-branch.false told.gives (rw (told.same_levels, told.same_env) at c.in_err-value.ensures.gives))
 
-pub returns-in_err-value-clause-moves : goal.returns-in_err-value-clause-moves
-returns-in_err-value-clause-moves g c = moves_trans _ _ _ c.in_ok-read_flag.ensures.moves c.in_err-value.ensures.moves
-
-pub returns-in_err-value-clause-same_env : goal.returns-in_err-value-clause-same_env
-returns-in_err-value-clause-same_env g c = c.in_err-value.ensures.same_env ∙ c.in_ok-read_flag.ensures.same_env
-
-pub returns-in_err-value-clause-same_levels : goal.returns-in_err-value-clause-same_levels
-returns-in_err-value-clause-same_levels g c = c.in_err-value.ensures.same_levels ∙ c.in_ok-read_flag.ensures.same_levels
-
 pub returns-clause-gives : goal.returns-clause-gives
 returns-clause-gives g c =
     let env = g.D.PagableDeserializer.environment c.args.deserializer.now in
     let context = handles_at (g.D.PagableDeserializer.levels c.args.deserializer.now) (g.E.Env.parts env) in
     let told = c.in_ok-read_flag.ensures in
     option_present g.T.Carried.means context (g.T.Carried.shape env) _ (g.D.PagableDeserializer.rest c.args.deserializer.now) _ _ _ c.if-not-branch.false told.gives (rw (told.same_levels, told.same_env) at c.in_ok-value.ensures.gives)
-
-pub returns-clause-moves : goal.returns-clause-moves
-returns-clause-moves g c = moves_trans _ _ _ c.in_ok-read_flag.ensures.moves c.in_ok-value.ensures.moves
-
-pub returns-clause-same_env : goal.returns-clause-same_env
-returns-clause-same_env g c = c.in_ok-value.ensures.same_env ∙ c.in_ok-read_flag.ensures.same_env
-
-pub returns-clause-same_levels : goal.returns-clause-same_levels
-returns-clause-same_levels g c = c.in_ok-value.ensures.same_levels ∙ c.in_ok-read_flag.ensures.same_levels

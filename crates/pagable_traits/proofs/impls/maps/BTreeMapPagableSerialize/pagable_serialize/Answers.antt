@@ -9,11 +9,17 @@ returns-clause-ok g c =
     let env = g.S.PagableSerializer.environment c.args.serializer.now in
     let n = nesting (g.S.PagableSerializer.levels c.args.serializer.now) (g.E.Env.parts env) in
     let same = key-order g.K.Carried.means g.K.OneMeaning.meaning g.met.K.OneMeaning.single g.K.Ord.cmp g.K.PagableOrdKey.order g.met.K.PagableOrdKey.is_order g.met.K.Ord.total in
-    written_counted c.write_counted.result c.len.result (g.S.PagableSerializer.out c.args.serializer.now) (g.S.PagableSerializer.out c.write_counted.new.serializer) (shows_entries g.K.Carried.means g.V.Carried.means c.args.self.now.entries c.iter.ensures.rest) (wraps_sorted_map g.K.Carried.means g.V.Carried.means g.K.Ord.cmp g.K.PagableOrdKey.order same c.args.self.now.entries n (g.K.Carried.shape env) (g.V.Carried.shape env) c.len.ensures.ordered) c.len.ensures.len c.write_counted.ensures.ok
+    let shows = shows_entries g.K.Carried.means g.V.Carried.means c.args.self.now.entries c.iter.ensures.rest in
+    let wraps = wraps_sorted_map g.K.Carried.means g.V.Carried.means g.K.Ord.cmp g.K.PagableOrdKey.order same c.args.self.now.entries n (g.K.Carried.shape env) (g.V.Carried.shape env) c.len.ensures.ordered in
+    let out = g.S.PagableSerializer.out in
+    written_counted c.write_counted.result c.len.result (out c.args.serializer.now) (out c.write_counted.new.serializer) shows wraps c.len.ensures.len c.write_counted.ensures.ok
 
 pub returns-clause-refused : goal.returns-clause-refused
 returns-clause-refused g c =
     let env = g.S.PagableSerializer.environment c.args.serializer.now in
     let n = nesting (g.S.PagableSerializer.levels c.args.serializer.now) (g.E.Env.parts env) in
     let same = key-order g.K.Carried.means g.K.OneMeaning.meaning g.met.K.OneMeaning.single g.K.Ord.cmp g.K.PagableOrdKey.order g.met.K.PagableOrdKey.is_order g.met.K.Ord.total in
-    refused_counted c.write_counted.result c.len.result (shows_entries g.K.Carried.means g.V.Carried.means c.args.self.now.entries c.iter.ensures.rest) (wraps_sorted_map g.K.Carried.means g.V.Carried.means g.K.Ord.cmp g.K.PagableOrdKey.order same c.args.self.now.entries n (g.K.Carried.shape env) (g.V.Carried.shape env) c.len.ensures.ordered) (pair_has_meaning g.K.Carried.means g.V.Carried.means g.K.Carried.has_meaning g.V.Carried.has_meaning) c.len.ensures.len c.write_counted.ensures.refused
+    let shows = shows_entries g.K.Carried.means g.V.Carried.means c.args.self.now.entries c.iter.ensures.rest in
+    let wraps = wraps_sorted_map g.K.Carried.means g.V.Carried.means g.K.Ord.cmp g.K.PagableOrdKey.order same c.args.self.now.entries n (g.K.Carried.shape env) (g.V.Carried.shape env) c.len.ensures.ordered in
+    let has = pair_has_meaning g.K.Carried.means g.V.Carried.means g.K.Carried.has_meaning g.V.Carried.has_meaning in
+    refused_counted c.write_counted.result c.len.result shows wraps has c.len.ensures.len c.write_counted.ensures.refused

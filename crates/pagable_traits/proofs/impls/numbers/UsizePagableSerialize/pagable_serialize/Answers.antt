@@ -1,34 +1,11 @@
-use Rattle.std.proofs.Common.{rules}
-use Rattle.std.specs.Int.{w64}
 use Rattle.pagable_model.specs.Meaning.{number}
-use Rattle.pagable_model.specs.Shape.{unsigned}
-use Rattle.pagable_model.specs.Standing.{Is}
-use Rattle.pagable_model.specs.Writing.{nesting}
-use Rattle.pagable_codec.proofs.Writing.{refused_memory}
-use Rattle.pagable_traits.proofs.Basics.{wrote_unsigned, wrote_on}
+use Rattle.std.specs.Int.{w64}
+use Rattle.std.proofs.Common.{rules}
+use Rattle.pagable_model.specs.Form.{unsigned-form}
+use Rattle.pagable_traits.proofs.Basics.{basic_written}
 use Rattle.pagable_traits.proofs.impls.numbers.UsizePagableSerialize.pagable_serialize.Goals as goal
 
-pub returns-clause-ok : goal.returns-clause-ok
-returns-clause-ok g c =
-    let n = nesting (g.S.PagableSerializer.levels c.args.serializer.now) (g.E.Env.parts (g.S.PagableSerializer.environment c.args.serializer.now)) in
-    let out = g.met.S.PagableSerializer.out_of_with c.args.serializer.now c.write_usize.new.self in
-    wrote_unsigned c.write_usize.result n w64 c.args.self.now _ _ _ _ (search rules) c.serde.ensures.value out c.write_usize.ensures.ok
-
-pub returns-clause-refused : goal.returns-clause-refused
-returns-clause-refused g c =
-    let n = nesting (g.S.PagableSerializer.levels c.args.serializer.now) (g.E.Env.parts (g.S.PagableSerializer.environment c.args.serializer.now)) in
-    refused_memory c.write_usize.result (Is number c.args.self.now) n (unsigned w64) c.write_usize.ensures.only
-
-pub returns-clause-only : goal.returns-clause-only
-returns-clause-only g c = c.write_usize.ensures.only
-
-pub returns-clause-err : goal.returns-clause-err
-returns-clause-err g c =
-    let out = g.met.S.PagableSerializer.out_of_with c.args.serializer.now c.write_usize.new.self in
-    wrote_on _ _ _ _ c.serde.ensures.value out c.write_usize.ensures.err
-
-pub returns-clause-same_env : goal.returns-clause-same_env
-returns-clause-same_env g c = g.met.S.PagableSerializer.environment_of_with c.args.serializer.now c.write_usize.new.self
-
-pub returns-clause-same_levels : goal.returns-clause-same_levels
-returns-clause-same_levels g c = g.met.S.PagableSerializer.levels_of_with c.args.serializer.now c.write_usize.new.self
+pub returns : goal.returns
+returns g c =
+    let law = g.met.S.PagableSerializer in
+    basic_written _ _ _ number _ _ (unsigned-form _ w64 c.args.self.now (search rules)) c.serde.ensures.value (law.out_of_with _ _) (law.environment_of_with _ _) (law.levels_of_with _ _) c.write_usize.ensures

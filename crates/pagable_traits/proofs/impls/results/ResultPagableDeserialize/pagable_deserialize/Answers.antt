@@ -1,7 +1,6 @@
 use Rattle.std.proofs.lemmas.Result.{err_from_is_err_and}
 use Rattle.pagable_model.specs.Gives.{either}
 use Rattle.pagable_model.specs.Standing.{handles_at}
-use Rattle.pagable_codec.proofs.Reading.{moves_trans}
 use Rattle.pagable_traits.proofs.Joined.{outcome_refused, success_refused, failure_refused, gave_success, gave_failure}
 use Rattle.pagable_traits.proofs.impls.results.ResultPagableDeserialize.pagable_deserialize.Goals as goal
 
@@ -41,15 +40,3 @@ returns-clause-gives g c =
     let context = handles_at (g.D.PagableDeserializer.levels c.args.deserializer.now) (g.E.Env.parts env) in
     gave_failure g.T.Carried.means g.X.Carried.means _ context (g.T.Carried.shape env) (g.X.Carried.shape env) _ _ _ _ c.in_ok-good.ensures.gives c.if-good.false
     (rw (c.in_ok-good.ensures.same_levels, c.in_ok-good.ensures.same_env) at c.in_ok-failure.ensures.gives)
-
-pub returns-in_err-value-clause-moves : goal.returns-in_err-value-clause-moves
-returns-in_err-value-clause-moves g c = moves_trans _ _ _ c.in_ok-good.ensures.moves c.in_err-value.ensures.moves
-
-pub returns-then-good-clause-moves : goal.returns-then-good-clause-moves
-returns-then-good-clause-moves g c = moves_trans _ _ _ c.in_ok-good.ensures.moves c.in_ok-value.ensures.moves
-
-pub returns-in_err-failure-clause-moves : goal.returns-in_err-failure-clause-moves
-returns-in_err-failure-clause-moves g c = moves_trans _ _ _ c.in_ok-good.ensures.moves c.in_err-failure.ensures.moves
-
-pub returns-clause-moves : goal.returns-clause-moves
-returns-clause-moves g c = moves_trans _ _ _ c.in_ok-good.ensures.moves c.in_ok-failure.ensures.moves

@@ -9,4 +9,6 @@ returns-clause-gives g c =
     let env = g.D.PagableDeserializer.environment c.args.deserializer.now in
     let context = handles_at (g.D.PagableDeserializer.levels c.args.deserializer.now) (g.E.Env.parts env) in
     let same = key-same g.T.Carried.means g.T.OneMeaning.meaning g.met.T.OneMeaning.single g.T.PartialEq.eq g.met.T.PagableKey.same g.met.T.Eq.laws in
-    reads_placed_set (memory_or g.T.PagableDeserialize.read_causes) g.T.Carried.means g.T.PartialEq.eq same c.read_collected.result (λ x. x.keys) context (g.T.Carried.shape env) (g.D.PagableDeserializer.rest c.args.deserializer.now) (g.D.PagableDeserializer.rest c.read_collected.new.deserializer) c.read_collected.ensures.gives
+    let own = memory_or g.T.PagableDeserialize.read_causes in
+    let rest = g.D.PagableDeserializer.rest in
+    reads_placed_set own g.T.Carried.means g.T.PartialEq.eq same c.read_collected.result (λ x. x.keys) context (g.T.Carried.shape env) (rest c.args.deserializer.now) (rest c.read_collected.new.deserializer) c.read_collected.ensures.gives

@@ -1,11 +1,10 @@
-use Rattle.pagable_traits.proofs.Basics.{gives_signed}
+use Rattle.std.specs.Int.{w64}
+use Rattle.pagable_model.specs.Numbers.{signed_at}
+use Rattle.pagable_model.specs.Meaning.{integer}
+use Rattle.pagable_traits.proofs.Basics.{basic_read, signed_is}
 use Rattle.pagable_traits.proofs.impls.signed.I64PagableDeserialize.pagable_deserialize.Goals as goal
 
-pub returns-clause-gives : goal.returns-clause-gives
-returns-clause-gives g c =
-    let start = c.args.deserializer.now in
+pub returns : goal.returns
+returns g c =
     let law = g.met.D.PagableDeserializer in
-    gives_signed _ _ _ _ _ _ _ _ (law.bytes_are start) (law.rest_of_with start _) (rw c.serde.ensures.value at c.read_i64.ensures.gives)
-
-pub returns-clause-moves : goal.returns-clause-moves
-returns-clause-moves g c = g.met.D.PagableDeserializer.moves_of_with c.args.deserializer.now _ (rw c.serde.ensures.value at c.read_i64.ensures.goes)
+    basic_read _ (λ z. z) integer (signed_at w64) _ _ (signed_is _ _ _) (law.bytes_are _) (law.rest_of_with _ _) (law.moves_of_with _ _) (law.environment_of_with _ _) (law.levels_of_with _ _) (rw c.serde.ensures.value at c.read_i64.ensures)

@@ -7,4 +7,6 @@ pub returns-clause-gives : goal.returns-clause-gives
 returns-clause-gives g c =
     let env = g.D.PagableDeserializer.environment c.args.deserializer.now in
     let context = handles_at (g.D.PagableDeserializer.levels c.args.deserializer.now) (g.E.Env.parts env) in
-    reads_list (memory_or g.T.PagableDeserialize.read_causes) g.T.Carried.means c.read_collected.result (λ x. x.items) context (g.T.Carried.shape env) (g.D.PagableDeserializer.rest c.args.deserializer.now) (g.D.PagableDeserializer.rest c.read_collected.new.deserializer) c.read_collected.ensures.gives
+    let own = memory_or g.T.PagableDeserialize.read_causes in
+    let rest = g.D.PagableDeserializer.rest in
+    reads_list own g.T.Carried.means c.read_collected.result (λ x. x.items) context (g.T.Carried.shape env) (rest c.args.deserializer.now) (rest c.read_collected.new.deserializer) c.read_collected.ensures.gives

@@ -1,11 +1,10 @@
-use Rattle.pagable_traits.proofs.Basics.{gives_text}
+use Rattle.pagable_model.specs.Basic.{text_at}
+use Rattle.pagable_model.specs.Meaning.{text}
+use Rattle.std.specs.String.{string_bytes}
+use Rattle.pagable_traits.proofs.Basics.{basic_read, text_is}
 use Rattle.pagable_traits.proofs.impls.texts.StringPagableDeserialize.pagable_deserialize.Goals as goal
 
-pub returns-clause-gives : goal.returns-clause-gives
-returns-clause-gives g c =
-    let start = c.args.deserializer.now in
+pub returns : goal.returns
+returns g c =
     let law = g.met.D.PagableDeserializer in
-    gives_text _ _ _ _ _ _ _ _ (law.bytes_are start) (law.rest_of_with start _) (rw c.serde.ensures.value at c.read_string.ensures.gives)
-
-pub returns-clause-moves : goal.returns-clause-moves
-returns-clause-moves g c = g.met.D.PagableDeserializer.moves_of_with c.args.deserializer.now _ (rw c.serde.ensures.value at c.read_string.ensures.goes)
+    basic_read _ string_bytes text text_at _ _ (text_is _ _) (law.bytes_are _) (law.rest_of_with _ _) (law.moves_of_with _ _) (law.environment_of_with _ _) (law.levels_of_with _ _) (rw c.serde.ensures.value at c.read_string.ensures)

@@ -1,0 +1,182 @@
+-- One step after another: what each of two functions that write or read owes, both owe.
+use Rattle.std.proofs.Common.{◌≡◌, ℕ, ◌<◌, ◌≤◌, ◌+◌, ◌-◌, [], ◌∷◌, ◌++◌, List, arith, refl, ◌∙◌, Result, Ok, Err, inl, inr}
+use Rattle.std.proofs.lemmas.Result.{err_from_is_err_and}
+use Rattle.std.specs.Prelude.{OnOk, IfErr, ◌⊎◌}
+use Rattle.std.specs.Result.{IsErrAnd}
+use Rattle.pagable_codec.specs.declared.env.Env.{Ghosts as Environments}
+use Rattle.pagable_codec.specs.declared.serializer.PagableSerializer.{Ghosts as Serializers}
+use Rattle.pagable_codec.specs.declared.deserializer.PagableDeserializer.{Ghosts as Deserializers}
+use Rattle.pagable_model.specs.declared.error.Error.{Error}
+use Rattle.pagable_model.specs.declared.error.Error.TheVariants as errors
+use Rattle.pagable_model.specs.declared.numbers.ArcRef.{ArcRef}
+use Rattle.pagable_model.specs.Gives.{Extends, memory, memory_or}
+use Rattle.pagable_model.specs.Meaning.{Meaning}
+use Rattle.pagable_model.specs.Reading.{Context, Gets, Rest, deepest, items}
+use Rattle.pagable_model.specs.Shape.{Shape}
+use Rattle.pagable_model.specs.Standing.{Answer, Gave, MovesOn}
+use Rattle.pagable_model.specs.Writing.{Out, Nesting, nesting, added, WritesSome, Refused, Grows}
+use Rattle.pagable_codec.proofs.Writing.{grows_bytes, grows_refl, grows_trans}
+use Rattle.pagable_codec.proofs.Adding.{added_bytes}
+use Rattle.pagable_codec.proofs.Reading.{moves_trans}
+use Rattle.pagable_traits.proofs.Items.{with_front, starts, goes_on, ends, is_done}
+use Rattle.pagable_traits.proofs.Maps.{viewed}
+use Rattle.pagable_traits.specs.JsonSteps.{Piece, bytes, value, Wrote, Reads, nested_in, context_in}
+
+-- one level further down, where a level is left
+abbrev pub deeper : Nesting → Nesting
+deeper n = nesting (n.levels + 1) n.parts
+
+abbrev pub below : Piece → Piece
+below p = record { wrote = λ n old new. (n.levels < deepest) × p.wrote (deeper n) old new; lacks = λ n e. (n.levels < deepest) × p.lacks (deeper n) e }
+
+module _ {S E N H K V : Type 0} (env : Environments E N H K V) (s : Serializers S E N H K V) where
+  -- bytes that the lent writer added
+  pub lent-bytes : {X : Type 0} {old new : S} {given : List ℕ} {end b : List ℕ} (r : Result X Error) → given ≡ (s.out old).bytes → s.out new ≡ record (s.out old) { bytes = end } → OnOk r (end ≡ given ++ b) → IfErr r memory → Extends given end
+      → s.environment new ≡ s.environment old → s.levels new ≡ s.levels old → Wrote env s (bytes b) memory old new r
+  lent-bytes {X} {old} {new} {given} {end} {b} (Ok x) held is h only grown same_env same_levels = record { ok = is ∙ added_bytes (s.out old) end b (rw held at h); refused = tt; only = tt; err = rw is (grows_bytes (s.out old) end (rw held at grown)); same_env = same_env; same_levels = same_levels }
+  lent-bytes {X} {old} {new} {given} {end} (Err e) held is h only grown same_env same_levels = record { ok = tt; refused = tt; only = only; err = rw is (grows_bytes (s.out old) end (rw held at grown)); same_env = same_env; same_levels = same_levels }
+
+  -- bytes, and a value, as the functions write them that have these clauses
+  pub as-bytes : {X : Type 0} {old new : S} (b : List ℕ) (causes : Error → Type 0) (r : Result X Error) → OnOk r (s.out new ≡ added (s.out old) b []) → IfErr r causes → Grows (s.out old) (s.out new) → s.environment new ≡ s.environment old → s.levels new ≡ s.levels old
+      → Wrote env s (bytes b) causes old new r
+  as-bytes b causes (Ok x) ok only err same_env same_levels = record { ok = ok; refused = tt; only = tt; err = err; same_env = same_env; same_levels = same_levels }
+  as-bytes b causes (Err e) ok only err same_env same_levels = record { ok = tt; refused = tt; only = only; err = err; same_env = same_env; same_levels = same_levels }
+
+  pub as-form : {X : Type 0} {old new : S} (M : Meaning ArcRef → Type 0) (shape : Shape) (causes : Error → Type 0) (r : Result X Error) → OnOk r (WritesSome M (nested_in env s old) shape (s.out old) (s.out new)) → IfErr r (Refused M (nested_in env s old) shape) → IfErr r causes → Grows (s.out old) (s.out new)
+      → s.environment new ≡ s.environment old → s.levels new ≡ s.levels old → Wrote env s (value M shape) causes old new r
+  as-form M shape causes r ok refused only err same_env same_levels = record { ok = ok; refused = refused; only = only; err = err; same_env = same_env; same_levels = same_levels }
+
+  -- the second after the first
+  pub wrote-then : {X Y : Type 0} {P Q W : Piece} {first second causes : Error → Type 0} {a b c : S} {x : X} (r : Result Y Error) → Wrote env s P first a b (Ok x) → Wrote env s Q second b c r
+      → ((n : Nesting) (old mid new : Out) → P.wrote n old mid → Q.wrote n mid new → W.wrote n old new) → ((n : Nesting) (e : Error) → Q.lacks n e → second e → W.lacks n e) → ((e : Error) → second e → causes e) → Wrote env s W causes a c r
+  wrote-then (Ok y) p q joins lacks only = record { ok = joins _ _ _ _ p.ok (rw (p.same_levels, p.same_env) at q.ok); refused = tt; only = tt; err = grows_trans _ _ _ p.err q.err; same_env = q.same_env ∙ p.same_env; same_levels = q.same_levels ∙ p.same_levels }
+  wrote-then (Err e) p q joins lacks only = record { ok = tt; refused = lacks _ e (rw (p.same_levels, p.same_env) at q.refused) q.only; only = only e q.only; err = grows_trans _ _ _ p.err q.err; same_env = q.same_env ∙ p.same_env; same_levels = q.same_levels ∙ p.same_levels }
+
+  -- where nothing was refused
+  pub wrote-nothing : {P : Piece} {causes : Error → Type 0} {a : S} → P.wrote (nested_in env s a) (s.out a) (s.out a) → Wrote env s P causes a a (let r : Result (Unit {0}) Error = Ok tt in r)
+  wrote-nothing h = record { ok = h; refused = tt; only = tt; err = grows_refl _; same_env = refl; same_levels = refl }
+
+  pub wrote-more : {X Y Z : Type 0} {P Q W : Piece} {first second causes : Error → Type 0} {a b c : S} {x : X} {y : Y} {z : Z} → Wrote env s P first a b (Ok x) → Wrote env s Q second b c (Ok y) → ((n : Nesting) (old mid new : Out) → P.wrote n old mid → Q.wrote n mid new → W.wrote n old new)
+      → Wrote env s W causes a c (Ok z)
+  wrote-more p q joins = record { ok = joins _ _ _ _ p.ok (rw (p.same_levels, p.same_env) at q.ok); refused = tt; only = tt; err = grows_trans _ _ _ p.err q.err; same_env = q.same_env ∙ p.same_env; same_levels = q.same_levels ∙ p.same_levels }
+
+  pub wrote-is : {X Z : Type 0} {P W : Piece} {first causes : Error → Type 0} {a b : S} {x : X} {z : Z} → Wrote env s P first a b (Ok x) → ((n : Nesting) (old new : Out) → P.wrote n old new → W.wrote n old new) → Wrote env s W causes a b (Ok z)
+  wrote-is p same = record { ok = same _ _ _ p.ok; refused = tt; only = tt; err = p.err; same_env = p.same_env; same_levels = p.same_levels }
+
+  -- the second was refused
+  pub wrote-then-err : {X Y Z : Type 0} {P Q W : Piece} {first second causes : Error → Type 0} {a b c : S} {x : X} {e : Error} (r : Result Y Error) → IsErrAnd r (λ f. f ≡ e) → Wrote env s P first a b (Ok x) → Wrote env s Q second b c (let p : Result Z Error = Err e in p)
+      → ((n : Nesting) (old mid : Out) → P.wrote n old mid → Q.lacks n e → second e → W.lacks n e) → (second e → causes e) → Wrote env s W causes a c r
+  wrote-then-err r is p q lacks only =
+      let h = err_from_is_err_and r is in
+      rw (h.1, h.2) (record { ok = tt; refused = lacks _ _ _ p.ok (rw (p.same_levels, p.same_env) at q.refused) q.only; only = only q.only; err = grows_trans _ _ _ p.err q.err; same_env = q.same_env ∙ p.same_env; same_levels = q.same_levels ∙ p.same_levels })
+
+  -- a refusal that is handed on
+  pub wrote-err : {X Y : Type 0} {P W : Piece} {first causes : Error → Type 0} {a b : S} {e : Error} (r : Result Y Error) → IsErrAnd r (λ f. f ≡ e) → Wrote env s P first a b (let p : Result X Error = Err e in p) → ((n : Nesting) → P.lacks n e → first e → W.lacks n e)
+      → (first e → causes e) → Wrote env s W causes a b r
+  wrote-err r is p lacks only = let q = err_from_is_err_and r is in rw (q.1, q.2) (record { ok = tt; refused = lacks _ p.refused p.only; only = only p.only; err = p.err; same_env = p.same_env; same_levels = p.same_levels })
+
+  -- a level was entered, the piece was written, and the level was left
+  pub wrote-below : {X : Type 0} {P : Piece} {causes : Error → Type 0} {a b c d : S} (r : Result X Error) → (s.levels b ≡ s.levels a + 1) × (s.levels a < deepest) → s.out b ≡ s.out a → s.environment b ≡ s.environment a → Wrote env s P causes b c r
+      → s.levels d ≡ s.levels c - 1 → s.out d ≡ s.out c → s.environment d ≡ s.environment c → Wrote env s (below P) causes a d r
+  wrote-below {X} {P} {causes} {a} {b} {c} {d} r down out_in env_in p up out_out env_out = go r p
+    where
+      grown : Grows (s.out b) (s.out c) → Grows (s.out a) (s.out d)
+      grown g = rw (out_out, ← out_in) g
+
+      go : (r : Result X Error) → Wrote env s P causes b c r → Wrote env s (below P) causes a d r
+      go (Ok x) q = record { ok = (down.1, rw out_out (rw (down.0, env_in, out_in) at q.ok)); refused = tt; only = tt; err = grown q.err; same_env = env_out ∙ q.same_env ∙ env_in; same_levels = (let e = q.same_levels in let f = down.0 in omega arith) }
+      go (Err e) q = record { ok = tt; refused = (down.1, rw (down.0, env_in) at q.refused); only = q.only; err = grown q.err; same_env = env_out ∙ q.same_env ∙ env_in; same_levels = (let e = q.same_levels in let f = down.0 in omega arith) }
+
+  -- no level was left
+  pub wrote-deep : {X Y : Type 0} {P W : Piece} {first causes : Error → Type 0} {a b c : S} {x : X} {e : Error} (r : Result Y Error) → IsErrAnd r (λ f. f ≡ e) → Wrote env s P first a b (Ok x) → (e ≡ errors.TooDeep) × (deepest ≤ s.levels b) × (s.levels c ≡ s.levels b) → s.out c ≡ s.out b → s.environment c ≡ s.environment b
+      → ((n : Nesting) → deepest ≤ n.levels → W.lacks n e) → (e ≡ errors.TooDeep → causes e) → Wrote env s W causes a c r
+  wrote-deep r is p deep out_in env_in lacks only =
+      let q = err_from_is_err_and r is in
+      rw (q.1, q.2) (record { ok = tt; refused = lacks _ (rw p.same_levels at deep.1); only = only deep.0; err = rw out_in p.err; same_env = env_in ∙ p.same_env; same_levels = deep.2 ∙ p.same_levels })
+
+-- what is seen of a part is refused as the part is, and seen as it is, it is the part
+pub through : {X Y : Type 0} {whole : Result (Y × Rest Answer) Error} {part : Result (X × Rest Answer) Error} {e : Error} (view : X → Y) → whole ≡ viewed view part → part ≡ Err e → whole ≡ Err e
+through view same h = same ∙ rw h refl
+
+pub seen-same : {X : Type 0} (r : Result (X × Rest Answer) Error) → r ≡ viewed (λ x. x) r
+seen-same (Ok x) = refl
+seen-same (Err e) = refl
+
+module _ {D E R N H K V : Type 0} (env : Environments E N H K V) (d : Deserializers D E R N H K V) where
+  -- what was read of a part, seen as the whole
+  pub read-as : {Y Z W : Type 0} {M : Y → Type 0} {a b : D} {part : Result (Y × Rest Answer) Error} (z : Z) (view : Y → W) {L : Z → W → Type 0} {whole : Context Answer ArcRef → Gets Answer W} → Gave M (d.rest b) part → MovesOn (d.standing a) (d.standing b) → d.environment b ≡ d.environment a → d.levels b ≡ d.levels a
+      → ((y : Y) → M y → L z (view y)) → whole (context_in env d a) (d.rest a) ≡ viewed view part → Reads env d L whole a b (let r : Result Z Error = Ok z in r)
+  read-as z view g moves same_env same_levels is same = record { gives = record { m = view g.m; is = is g.m g.is; gave = same ∙ rw g.gave refl }; moves = moves; same_env = same_env; same_levels = same_levels }
+
+  -- a part was refused
+  pub read-err : {Y Z W own : Type 0} {a b : D} {part : Result (Y × Rest Answer) Error} {e : Error} (r : Result Z Error) {L : Z → W → Type 0} {whole : Context Answer ArcRef → Gets Answer W} → IsErrAnd r (λ f. f ≡ e) → (part ≡ Err e) ⊎ own → MovesOn (d.standing a) (d.standing b)
+      → d.environment b ≡ d.environment a → d.levels b ≡ d.levels a → (own → memory e) → (part ≡ Err e → whole (context_in env d a) (d.rest a) ≡ Err e) → Reads env d L whole a b r
+  read-err {Y} {Z} {W} {own} {a} {b} {part} {e} r {L} {whole} is g moves same_env same_levels may same =
+      let q = err_from_is_err_and r is in
+      rw (q.1, q.2) (record { gives = go g; moves = moves; same_env = same_env; same_levels = same_levels })
+    where
+      go : (part ≡ Err e) ⊎ own → (whole (context_in env d a) (d.rest a) ≡ Err e) ⊎ memory e
+      go (inl h) = inl (same h)
+      go (inr h) = inr (may h)
+
+  -- want of memory, wherever the deserializer stands
+  pub read-no-memory : {Z W : Type 0} {a b : D} (r : Result Z Error) {L : Z → W → Type 0} {whole : Context Answer ArcRef → Gets Answer W} → IsErrAnd r memory → MovesOn (d.standing a) (d.standing b) → d.environment b ≡ d.environment a → d.levels b ≡ d.levels a → Reads env d L whole a b r
+  read-no-memory r is moves same_env same_levels = let q = err_from_is_err_and r is in rw q.1 (record { gives = inr q.2; moves = moves; same_env = same_env; same_levels = same_levels })
+
+  -- a part was read, and what follows it
+  pub read-then : {Z W : Type 0} {L : Z → W → Type 0} {next whole : Context Answer ArcRef → Gets Answer W} {a b c : D} {r : Result Z Error} → MovesOn (d.standing a) (d.standing b) → d.environment b ≡ d.environment a → d.levels b ≡ d.levels a → Reads env d L next b c r
+      → whole (context_in env d a) (d.rest a) ≡ next (context_in env d a) (d.rest b) → Reads env d L whole a c r
+  read-then moves same_env same_levels q same = record { gives = rw same (rw (same_levels, same_env) at q.gives); moves = moves_trans _ _ _ moves q.moves; same_env = q.same_env ∙ same_env; same_levels = q.same_levels ∙ same_levels }
+
+  -- a level was entered, a part was read, and the level was left
+  pub read-below : {Z W : Type 0} {L : Z → W → Type 0} {get : Context Answer ArcRef → Gets Answer W} {a b c z : D} {r : Result Z Error} → (d.levels b ≡ d.levels a + 1) × (d.levels a < deepest) → d.standing b ≡ d.standing a → d.rest b ≡ d.rest a → d.environment b ≡ d.environment a → Reads env d L get b c r
+      → d.levels z ≡ d.levels c - 1 → d.standing z ≡ d.standing c → d.rest z ≡ d.rest c → d.environment z ≡ d.environment c → Reads env d L (λ x. get (record x { levels = x.levels + 1 })) a z r
+  read-below down standing_in rest_in env_in p up standing_out rest_out env_out = record {
+    gives = rw rest_out (rw (down.0, env_in, rest_in) at p.gives);
+    moves = rw (standing_out, ← standing_in) p.moves;
+    same_env = env_out ∙ p.same_env ∙ env_in;
+    same_levels = (let e = p.same_levels in let f = down.0 in omega arith);
+  }
+
+  -- no level was left
+  pub read-deep : {Z W : Type 0} {a b c : D} {e : Error} (r : Result Z Error) {L : Z → W → Type 0} {whole : Context Answer ArcRef → Gets Answer W} → IsErrAnd r (λ f. f ≡ e) → MovesOn (d.standing a) (d.standing b) → d.environment b ≡ d.environment a → d.levels b ≡ d.levels a
+      → (e ≡ errors.TooDeep) × (deepest ≤ d.levels b) × (d.levels c ≡ d.levels b) → d.standing c ≡ d.standing b → d.environment c ≡ d.environment b → (deepest ≤ d.levels a → whole (context_in env d a) (d.rest a) ≡ Err errors.TooDeep) → Reads env d L whole a c r
+  read-deep r is moves same_env same_levels deep standing_in env_in same =
+      let q = err_from_is_err_and r is in
+      rw (q.1, q.2, deep.0) (record { gives = inl (same (rw same_levels at deep.1)); moves = rw standing_in moves; same_env = env_in ∙ same_env; same_levels = deep.2 ∙ same_levels })
+
+  -- of this many, those before the index were read, and they mean this
+  pub record SoFar (P : List (Meaning ArcRef) → Type 0) (get : Context Answer ArcRef → Gets Answer (Meaning ArcRef)) (count index : ℕ) (old new : D) : Type 0 where
+    pub gives : (ms : List (Meaning ArcRef)) × P ms × (with_front ms (items (get (context_in env d old)) (count - index) (d.rest new)) ≡ items (get (context_in env d old)) count (d.rest old))
+    pub moves : MovesOn (d.standing old) (d.standing new)
+    pub same_env : d.environment new ≡ d.environment old
+    pub same_levels : d.levels new ≡ d.levels old
+
+  pub none-so-far : {P : List (Meaning ArcRef) → Type 0} (get : Context Answer ArcRef → Gets Answer (Meaning ArcRef)) (count : ℕ) {a b : D} → P [] → d.rest b ≡ d.rest a → MovesOn (d.standing a) (d.standing b) → d.environment b ≡ d.environment a → d.levels b ≡ d.levels a → SoFar P get count 0 a b
+  none-so-far get count {a} h rest moves same_env same_levels = record { gives = ([], h, rw rest (starts (get (context_in env d a)) count (d.rest a))); moves = moves; same_env = same_env; same_levels = same_levels }
+
+  module _ {P : List (Meaning ArcRef) → Type 0} (get : Context Answer ArcRef → Gets Answer (Meaning ArcRef)) (count i : ℕ) {a b : D} where
+    pub one-more : {X : Type 0} {M : X → Meaning ArcRef → Type 0} {Q : List (Meaning ArcRef) → Type 0} {c : D} {x : X} → i < count → SoFar P get count i a b → Reads env d M get b c (Ok x) → ((ms : List (Meaning ArcRef)) (m : Meaning ArcRef) → P ms → M x m → Q (ms ++ m ∷ [])) → SoFar Q get count (i + 1) a c
+    one-more lt so q also =
+        let g = rw (so.same_levels, so.same_env) at q.gives in
+        record {
+          gives = (so.gives.0 ++ g.m ∷ [], also so.gives.0 g.m so.gives.1 g.is, goes_on (get (context_in env d a)) so.gives.0 count i (d.rest b) g.m _ _ lt g.gave so.gives.2);
+          moves = moves_trans _ _ _ so.moves q.moves;
+          same_env = q.same_env ∙ so.same_env;
+          same_levels = q.same_levels ∙ so.same_levels;
+        }
+
+    pub refused-so-far : {X Z W : Type 0} {M : X → Meaning ArcRef → Type 0} {c : D} {e : Error} (r : Result Z Error) {L : Z → W → Type 0} {whole : Context Answer ArcRef → Gets Answer W} → IsErrAnd r (λ f. f ≡ e) → i < count → SoFar P get count i a b → Reads env d M get b c (let p : Result X Error = Err e in p)
+        → (items (get (context_in env d a)) count (d.rest a) ≡ Err e → whole (context_in env d a) (d.rest a) ≡ Err e) → Reads env d L whole a c r
+    refused-so-far {e = e} r is lt so q same =
+        read-err r is (ends memory (get (context_in env d a)) e so.gives.0 count i (d.rest b) _ lt (rw (so.same_levels, so.same_env) at q.gives) so.gives.2)
+        (moves_trans _ _ _ so.moves q.moves) (q.same_env ∙ so.same_env) (q.same_levels ∙ so.same_levels) (either-memory e) same
+      where
+        either-memory : (e : Error) → memory_or memory e → memory e
+        either-memory e (inl h) = h
+        either-memory e (inr h) = h
+
+    pub all-read : {Z W : Type 0} (z : Z) (view : List (Meaning ArcRef) → W) {L : Z → W → Type 0} {whole : Context Answer ArcRef → Gets Answer W} → count ≤ i → SoFar P get count i a b → ((ms : List (Meaning ArcRef)) → P ms → L z (view ms)) → whole (context_in env d a) (d.rest a) ≡ viewed view (items (get (context_in env d a)) count (d.rest a))
+        → Reads env d L whole a b (let r : Result Z Error = Ok z in r)
+    all-read z view le so means same =
+        record { gives = record { m = view so.gives.0; is = means so.gives.0 so.gives.1; gave = same ∙ rw (is_done (get (context_in env d a)) so.gives.0 count i (d.rest b) _ le so.gives.2) refl }; moves = so.moves; same_env = so.same_env; same_levels = so.same_levels }

@@ -1,0 +1,76 @@
+-- What the functions that write and read JSON values owe: the clauses that the traits of values have, in one record.
+use Rattle.std.specs.Prelude.{◌≡◌, ◌≤◌, ℕ, List, [], Result, OnOk, IfErr, String}
+use Rattle.std.specs.BTreeMap.{BTreeMap, insert_entry}
+use Rattle.std.specs.Int.{w64}
+use Rattle.std.specs.String.{string_cmp}
+use Rattle.std.specs.declared.alloc.Global.{Global}
+use Rattle.serde_json.specs.declared.value.Value.{Value}
+use Rattle.serde_json.specs.declared.value.Value as values
+use Rattle.pagable_codec.specs.declared.env.Env.{Ghosts as Environments}
+use Rattle.pagable_codec.specs.declared.serializer.PagableSerializer.{Ghosts as Serializers}
+use Rattle.pagable_codec.specs.declared.deserializer.PagableDeserializer.{Ghosts as Deserializers}
+use Rattle.pagable_model.specs.declared.error.Error.{Error}
+use Rattle.pagable_model.specs.declared.numbers.ArcRef.{ArcRef}
+use Rattle.pagable_model.specs.Collected.{Collected}
+use Rattle.pagable_model.specs.Lifted.{MeansPair}
+use Rattle.pagable_model.specs.Basic.{longest, length_form}
+use Rattle.pagable_model.specs.Gives.{memory}
+use Rattle.pagable_model.specs.Meaning.{Meaning}
+use Rattle.pagable_model.specs.Numbers.{unsigned_form}
+use Rattle.pagable_model.specs.Reading.{Context, Gets, JsonCase}
+use Rattle.pagable_model.specs.Shape.{Shape}
+use Rattle.pagable_model.specs.Standing.{Answer, GivesSome, Is, MovesOn, handles_at}
+use Rattle.pagable_traits.specs.JsonData.{of_key, of_value, part_at}
+use Rattle.pagable_model.specs.Writing.{Out, Nesting, nesting, added, WritesSome, WritesSomeAll, Refused, RefusedAll, Grows}
+
+-- what is added in a nesting, and what a refusal says there
+pub record Piece : Type 1 where
+  pub wrote : Nesting → Out → Out → Type 0
+  pub lacks : Nesting → Error → Type 0
+
+-- these bytes; a case and a count after it; a form of a value; the forms of items
+abbrev pub bytes : List ℕ → Piece
+bytes b = record { wrote = λ n old new. new ≡ added old b []; lacks = λ n e. Unit {0} }
+
+abbrev pub front : ℕ → ℕ → Piece
+front case count = record { wrote = λ n old new. (count ≤ longest) × (new ≡ added (added old (unsigned_form w64 case) []) (length_form count) []); lacks = λ n e. Unit {0} }
+
+abbrev pub value : (Meaning ArcRef → Type 0) → Shape → Piece
+value M shape = record { wrote = λ n. WritesSome M n shape; lacks = λ n. Refused M n shape }
+
+abbrev pub all : (List (Meaning ArcRef) → Type 0) → Shape → Piece
+all M shape = record { wrote = λ n. WritesSomeAll M n shape; lacks = λ n. RefusedAll M n shape }
+
+module _ {S E N H K V : Type 0} (env : Environments E N H K V) (s : Serializers S E N H K V) where
+  abbrev pub nested_in : S → Nesting
+  nested_in x = nesting (s.levels x) (env.parts (s.environment x))
+
+  -- as PagableSerialize says it of a value
+  pub record Wrote {X : Type 0} (piece : Piece) (causes : Error → Type 0) (old new : S) (result : Result X Error) : Type 0 where
+    pub ok : OnOk result (piece.wrote (nested_in old) (s.out old) (s.out new))
+    pub refused : IfErr result (piece.lacks (nested_in old))
+    pub only : IfErr result causes
+    pub err : Grows (s.out old) (s.out new)
+    pub same_env : s.environment new ≡ s.environment old
+    pub same_levels : s.levels new ≡ s.levels old
+
+module _ {D E R N H K V : Type 0} (env : Environments E N H K V) (d : Deserializers D E R N H K V) where
+  abbrev pub context_in : D → Context Answer ArcRef
+  context_in x = handles_at (d.levels x) (env.parts (d.environment x))
+
+  -- as PagableDeserialize says it of a value
+  pub record Reads {X Y : Type 0} (means : X → Y → Type 0) (get : Context Answer ArcRef → Gets Answer Y) (old new : D) (result : Result X Error) : Type 0 where
+    pub gives : GivesSome memory means (d.rest new) result (get (context_in old) (d.rest old))
+    pub moves : MovesOn (d.standing old) (d.standing new)
+    pub same_env : d.environment new ≡ d.environment old
+    pub same_levels : d.levels new ≡ d.levels old
+
+-- a JSON value after its case
+abbrev pub part_of : JsonCase → Context Answer ArcRef → Gets Answer (Meaning ArcRef)
+part_of case c = part_at c.levels c.parts case
+
+-- an object whose members these mean, one after another: a later value of a repeated key stands
+pub record ObjectOf (v : Value) (ms : List (Meaning ArcRef)) : Type 0 where
+  pub members : BTreeMap (String Global) Value
+  pub is : v ≡ values.Object members
+  pub each : Collected (MeansPair (Is of_key) (Is of_value)) (λ es e fs. fs ≡ insert_entry string_cmp es e.0 e.1) members.entries ms
