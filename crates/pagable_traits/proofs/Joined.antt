@@ -1,10 +1,10 @@
 -- Successes and failures, arrays, and tuples: what writing their parts one after another adds, and what reading them so gives.
-use Rattle.std.proofs.Common.{◌≡◌, ℕ, List, [], ◌∷◌, ◌++◌, length, refl, ◌∙◌, Result, Ok, Err, inl, inr, subst, ap, ◌≤◌}
+use Rattle.std.proofs.Common.{◌≡◌, ℕ, List, [], ◌++◌, length, refl, ◌∙◌, Result, Ok, Err, inl, inr, subst, ap, ◌≤◌}
 use Rattle.std.specs.Prelude.{IfErr, OnOk, ◌⊎◌, Bool, true, false}
 use Rattle.pagable_model.specs.declared.error.Error.{Error}
 use Rattle.pagable_model.specs.declared.numbers.ArcRef.{ArcRef}
 use Rattle.pagable_model.specs.Basic.{bool_form, bool_at, longest, text_form}
-use Rattle.pagable_model.specs.Gives.{memory_or, either}
+use Rattle.pagable_model.specs.Gives.{either}
 use Rattle.pagable_model.specs.Lifted.{MeanAll, MeansList, MeansPair, MeansResult, means-ok, means-err}
 use Rattle.pagable_model.specs.Meaning.{Meaning, none, sequence, success, failure}
 use Rattle.pagable_model.specs.Shape.{Shape, nothing, outcome, array}
@@ -18,10 +18,23 @@ use Rattle.pagable_model.specs.Writing.{Out, Nesting, FormAt, FormsAt, WritesSom
 use Rattle.pagable_codec.proofs.Writing.{then, writes_is, writes_bytes}
 use Rattle.pagable_traits.proofs.Items.{mean-length, sequence-same}
 
--- ---- what is written grows on
+-- ---- a flag and the part after it
 
-pub grows_on : (old mid new : Out) (b : List ℕ) → mid ≡ added old b [] → Grows mid new → Grows old new
+grows_on : (old mid new : Out) (b : List ℕ) → mid ≡ added old b [] → Grows mid new → Grows old new
 grows_on old mid new b e g = record { bytes = b ++ g.bytes; refs = [] ++ g.refs; grown = then old mid new b g.bytes [] g.refs e g.grown }
+
+-- all that the writer of both owes, by what the part's writer tells: a meaning of the part leads to one of the whole, and a form of it to one of the whole, which has none where the part has none
+pub flagged : {Y E : Type 0} (r : Result Y Error) (P Q : Meaning ArcRef → Type 0) (n : Nesting) (s t : Shape) (flag : Bool) (whole : Meaning ArcRef → Meaning ArcRef) (first causes : Error → Type 0) {old mid new : Out} {env env_after : E} {levels levels_after : ℕ}
+    → ((m : Meaning ArcRef) → P m → Q (whole m)) → ((m : Meaning ArcRef) (b : List ℕ) (k : List ArcRef) → FormAt n s m b k → FormAt n t (whole m) (bool_form flag ++ b) k) → ((m : Meaning ArcRef) → NoForm n s m → NoForm n t (whole m))
+    → ((e : Error) → first e → causes e) → mid ≡ added old (bool_form flag) []
+    → record { ok : OnOk r (WritesSome P n s mid new); refused : IfErr r (Refused P n s); only : IfErr r first; err : Grows mid new; same_env : env_after ≡ env; same_levels : levels_after ≡ levels }
+    → record { ok : OnOk r (WritesSome Q n t old new); refused : IfErr r (Refused Q n t); only : IfErr r causes; err : Grows old new; same_env : env_after ≡ env; same_levels : levels_after ≡ levels }
+flagged (Ok y) P Q n s t flag whole first causes {old = old} {mid = mid} {new = new} means form lacks own wrote told =
+    let w = told.ok in
+    let grown = then old mid new (bool_form flag) w.wrote.bytes [] w.wrote.refs wrote w.wrote.grown in
+    record { ok = record { m = whole w.m; is = means w.m w.is; wrote = record { bytes = bool_form flag ++ w.wrote.bytes; refs = w.wrote.refs; form = form w.m w.wrote.bytes w.wrote.refs w.wrote.form; grown = grown } }; refused = tt; only = tt; err = grows_on old mid new (bool_form flag) wrote told.err; same_env = told.same_env; same_levels = told.same_levels }
+flagged (Err e) P Q n s t flag whole first causes {old = old} {mid = mid} {new = new} means form lacks own wrote told =
+    record { ok = tt; refused = λ fault. let no = told.refused fault in record { m = whole no.m; is = means no.m no.is; no_form = lacks no.m no.no_form }; only = own e told.only; err = grows_on old mid new (bool_form flag) wrote told.err; same_env = told.same_env; same_levels = told.same_levels }
 
 -- ---- a text that is lent
 
@@ -38,39 +51,11 @@ gives_nothing levels parts rest = record { m = none; is = refl; gave = refl }
 
 -- ---- a success or a failure
 
-pub writes_success : {Y T X : Type 0} (r : Result Y Error) (M : T → Meaning ArcRef → Type 0) (N : X → Meaning ArcRef → Type 0) (x : T) (n : Nesting) (s t : Shape) (old mid new : Out) → mid ≡ added old (bool_form true) [] → OnOk r (WritesSome (M x) n s mid new)
-    → OnOk r (WritesSome (MeansResult M N (Ok x)) n (outcome s t) old new)
-writes_success (Ok y) M N x n s t old mid new e w =
-    record { m = success w.m; is = means-ok x w.m w.is; wrote = record { bytes = 1 ∷ w.wrote.bytes; refs = w.wrote.refs; form = ok-form _ s t w.m _ _ w.wrote.form; grown = then old mid new _ _ _ _ e w.wrote.grown } }
-writes_success (Err y) M N x n s t old mid new e w = tt
-
-pub writes_failure : {Y T X : Type 0} (r : Result Y Error) (M : T → Meaning ArcRef → Type 0) (N : X → Meaning ArcRef → Type 0) (x : X) (n : Nesting) (s t : Shape) (old mid new : Out) → mid ≡ added old (bool_form false) [] → OnOk r (WritesSome (N x) n t mid new)
-    → OnOk r (WritesSome (MeansResult M N (Err x)) n (outcome s t) old new)
-writes_failure (Ok y) M N x n s t old mid new e w =
-    record { m = failure w.m; is = means-err x w.m w.is; wrote = record { bytes = 0 ∷ w.wrote.bytes; refs = w.wrote.refs; form = err-form _ s t w.m _ _ w.wrote.form; grown = then old mid new _ _ _ _ e w.wrote.grown } }
-writes_failure (Err y) M N x n s t old mid new e w = tt
-
-no-success : (n : Nesting) (s t : Shape) (m : Meaning ArcRef) → NoForm n s m → NoForm n (outcome s t) (success m)
+pub no-success : (n : Nesting) (s t : Shape) (m : Meaning ArcRef) → NoForm n s m → NoForm n (outcome s t) (success m)
 no-success n s t m h b k (ok-form l s' t' m' c k' f) = h c k' f
 
-no-failure : (n : Nesting) (s t : Shape) (m : Meaning ArcRef) → NoForm n t m → NoForm n (outcome s t) (failure m)
+pub no-failure : (n : Nesting) (s t : Shape) (m : Meaning ArcRef) → NoForm n t m → NoForm n (outcome s t) (failure m)
 no-failure n s t m h b k (err-form l s' t' m' c k' f) = h c k' f
-
-pub refused_success : {Y T X : Type 0} (r : Result Y Error) (M : T → Meaning ArcRef → Type 0) (N : X → Meaning ArcRef → Type 0) (x : T) (n : Nesting) (s t : Shape) → IfErr r (Refused (M x) n s) → IfErr r (Refused (MeansResult M N (Ok x)) n (outcome s t))
-refused_success (Ok y) M N x n s t h = tt
-refused_success (Err e) M N x n s t h = λ fault. let no = h fault in record { m = success no.m; is = means-ok x no.m no.is; no_form = no-success n s t no.m no.no_form }
-
-pub refused_failure : {Y T X : Type 0} (r : Result Y Error) (M : T → Meaning ArcRef → Type 0) (N : X → Meaning ArcRef → Type 0) (x : X) (n : Nesting) (s t : Shape) → IfErr r (Refused (N x) n t) → IfErr r (Refused (MeansResult M N (Err x)) n (outcome s t))
-refused_failure (Ok y) M N x n s t h = tt
-refused_failure (Err e) M N x n s t h = λ fault. let no = h fault in record { m = failure no.m; is = means-err x no.m no.is; no_form = no-failure n s t no.m no.no_form }
-
-pub only_success : {Y : Type 0} (r : Result Y Error) (first second : Error → Type 0) → IfErr r first → IfErr r (memory_or (either first second))
-only_success (Ok y) first second h = tt
-only_success (Err e) first second h = inr (inl h)
-
-pub only_failure : {Y : Type 0} (r : Result Y Error) (first second : Error → Type 0) → IfErr r second → IfErr r (memory_or (either first second))
-only_failure (Ok y) first second h = tt
-only_failure (Err e) first second h = inr (inr h)
 
 -- ---- reading one
 

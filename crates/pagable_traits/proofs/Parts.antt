@@ -68,7 +68,7 @@ pub writes_present : {T : Type 0} (M : T → Meaning ArcRef → Type 0) (x : T) 
 writes_present M x n s old mid new e w =
     record { m = present w.m; is = means-some x w.m w.is; wrote = record { bytes = 1 ∷ w.wrote.bytes; refs = w.wrote.refs; form = some-form _ s w.m _ _ w.wrote.form; grown = then old mid new _ _ _ _ e w.wrote.grown } }
 
-no-some : (n : Nesting) (s : Shape) (m : Meaning ArcRef) → NoForm n s m → NoForm n (optional s) (present m)
+pub no-some : (n : Nesting) (s : Shape) (m : Meaning ArcRef) → NoForm n s m → NoForm n (optional s) (present m)
 no-some n s m h b k (some-form l s' m' c k' f) = h c k' f
 
 pub refused_present : {X T : Type 0} (r : Result X Error) (M : T → Meaning ArcRef → Type 0) (x : T) (n : Nesting) (s : Shape) → IfErr r (Refused (M x) n s) → IfErr r (Refused (MeansOption M (Some x)) n (optional s))
