@@ -86,11 +86,12 @@ pub fn run_row(
     count: u32,
     runs: u64,
 ) -> anyhow::Result<Outcome> {
-    let Some((name_of_type, drawn)) = input_of(alloc, name, count)? else {
+    let Some((name_of_type, mut bytes)) = input_of(alloc, name, count)? else {
         return cells(clock, alloc, count, runs);
     };
     // A map is drawn in another order than it is written in, so the bytes that are timed are those of a first writing.
-    let (bytes, _) = once_of(clock, alloc, name_of_type, drawn.as_slice())?;
+    let (written, _) = once_of(clock, alloc, name_of_type, bytes.as_slice())?;
+    bytes = written;
     let mut outcome = again(clock, alloc, name_of_type, bytes.as_slice())?;
     for _ in 1..runs {
         outcome = outcome.with_shorter(again(clock, alloc, name_of_type, bytes.as_slice())?);
