@@ -1,100 +1,119 @@
 //! Cells that are paged out and loaded again.
 
-use crate::data;
 use crate::outcome::Outcome;
-use anyhow::Context;
+use anyhow::{Context, bail};
 use pagable::{HandleNumber, InMemoryBlobs, Pager, WeighHash, paging};
-use pagable_examples::{TextEnv, TextNode};
+use pagable_examples::{Draws, TextEnv, TextNode};
 use std::alloc::{AllocError, Global};
+use std::collections::BTreeSet;
 use std::time::{Clock, Instant};
 
 type TextPager = Pager<TextEnv<WeighHash>, InMemoryBlobs<TextEnv<WeighHash>>>;
 
-/// A pager of unpinned cells that wait for page-out.
-#[derive(Drop)]
-struct Stage {
-    pager: TextPager,
-    cells: Vec<HandleNumber>,
+/// The sum of each byte of a text times its place in what is hashed of it: after a count of 8 bytes and a length of one, from
+/// 10 on.
+fn weight_of(text: &str) -> u64 {
+    let mut weight = 0u64;
+    for (place, byte) in text.as_bytes().iter().enumerate() {
+        let factor = (place as u64).wrapping_add(10);
+        weight = weight.wrapping_add(factor.wrapping_mul(u64::from(*byte)));
+    }
+    weight
 }
 
-impl Stage {
-    /// No cells, with room for so many.
-    fn with_room(alloc: Global, cells: usize) -> Result<Stage, AllocError> {
-        Ok(Stage {
-            cells: Vec::with_capacity(alloc, cells)?,
-            pager: Pager::new(alloc, InMemoryBlobs::new(alloc), TextEnv::new()),
-        })
-    }
-
-    /// Makes a cell for each text.
-    fn fill(&mut self, alloc: Global, texts: &[String]) -> anyhow::Result<()> {
-        for text in texts {
-            self.add(alloc, text.as_str())?;
+/// So many texts of 100 letters. One whose weight an earlier one has is left out, since their blobs would have one key.
+fn drawn_texts(alloc: Global, count: usize) -> Result<Vec<String>, AllocError> {
+    let mut draws = Draws::new(7);
+    let mut weights = BTreeSet::new(alloc);
+    let mut texts = Vec::with_capacity(alloc, count)?;
+    for _ in 0..u64::MAX {
+        if texts.len() == count {
+            break;
         }
-        Ok(())
-    }
-
-    /// Makes a cell, and gives its pin up.
-    fn add(&mut self, alloc: Global, text: &str) -> anyhow::Result<()> {
-        let node = TextNode::new(alloc, text)?;
-        let Ok(cell) = self.pager.new_loose(alloc, node) else {
-            anyhow::bail!("a cell is refused");
-        };
-        self.pager.unpin(cell)?;
-        self.cells.push(cell)?;
-        Ok(())
-    }
-
-    /// Loads every cell, and answers the pins.
-    fn load(&mut self, alloc: Global) -> anyhow::Result<Vec<HandleNumber>> {
-        let mut pins = Vec::with_capacity(alloc, self.cells.len())?;
-        for cell in &self.cells {
-            pins.push(paging::pin(alloc, &mut self.pager, *cell)?)?;
+        let text = draws.text(alloc, 100)?;
+        if weights.insert(weight_of(text.as_str()))? {
+            texts.push(text)?;
         }
-        Ok(pins)
     }
-
-    /// How many bytes the pinned texts have.
-    fn bytes(&self, pins: &[HandleNumber]) -> anyhow::Result<usize> {
-        let mut bytes = 0usize;
-        for pin in pins {
-            let node = self.pager.value(*pin)?.context("a cell isn't pinned")?;
-            bytes = bytes.wrapping_add(node.as_str().len());
-        }
-        Ok(bytes)
-    }
+    Ok(texts)
 }
 
-/// Pages all cells out once, and loads them.
-fn cells_once(clock: &impl Clock, alloc: Global, texts: &[String]) -> anyhow::Result<Outcome> {
-    let mut stage = Stage::with_room(alloc, texts.len())?;
-    out_and_in(clock, alloc, &mut stage, texts)
+/// Makes a cell of a text, and gives its pin up.
+fn add(alloc: Global, pager: &mut TextPager, text: &str) -> anyhow::Result<HandleNumber> {
+    let node = TextNode::new(alloc, text)?;
+    let Ok(cell) = pager.new_loose(alloc, node) else {
+        bail!("a cell is refused");
+    };
+    pager.unpin(cell)?;
+    Ok(cell)
 }
 
-/// Makes the cells of a stage, pages them out, and loads them.
+/// Makes a cell of each text.
+fn fill(
+    alloc: Global,
+    pager: &mut TextPager,
+    texts: &[String],
+) -> anyhow::Result<Vec<HandleNumber>> {
+    let mut cells = Vec::with_capacity(alloc, texts.len())?;
+    for text in texts {
+        cells.push(add(alloc, pager, text.as_str())?)?;
+    }
+    Ok(cells)
+}
+
+/// Loads every cell, and answers the pins.
+fn load(
+    alloc: Global,
+    pager: &mut TextPager,
+    cells: &[HandleNumber],
+) -> anyhow::Result<Vec<HandleNumber>> {
+    let mut pins = Vec::with_capacity(alloc, cells.len())?;
+    for cell in cells {
+        pins.push(paging::pin(alloc, pager, *cell)?)?;
+    }
+    Ok(pins)
+}
+
+/// How many bytes the pinned texts have.
+fn bytes_of(pager: &TextPager, pins: &[HandleNumber]) -> anyhow::Result<usize> {
+    let mut bytes = 0usize;
+    for pin in pins {
+        let node = pager.value(*pin)?.context("a cell isn't pinned")?;
+        bytes = bytes.wrapping_add(node.as_str().len());
+    }
+    Ok(bytes)
+}
+
+/// Makes a cell of each text, pages all out, and loads them.
 fn out_and_in(
     clock: &impl Clock,
     alloc: Global,
-    stage: &mut Stage,
+    pager: &mut TextPager,
     texts: &[String],
 ) -> anyhow::Result<Outcome> {
-    stage.fill(alloc, texts)?;
+    let cells = fill(alloc, pager, texts)?;
     let start = Instant::now(clock)?;
-    paging::page_out_pending(alloc, &mut stage.pager)?;
+    paging::page_out_pending(alloc, pager)?;
     let write = start.elapsed(clock)?;
     let start = Instant::now(clock)?;
-    let pins = stage.load(alloc)?;
+    let pins = load(alloc, pager, cells.as_slice())?;
     let read = start.elapsed(clock)?;
-    let bytes = stage.bytes(pins.as_slice())?;
+    let bytes = bytes_of(pager, pins.as_slice())?;
     Ok(Outcome { bytes, write, read })
 }
 
-/// Pages 10,000 cells out and loads them, so often.
-pub fn cells(clock: &impl Clock, alloc: Global, runs: u64) -> anyhow::Result<Outcome> {
-    let texts = data::cell_texts(alloc)?;
-    let mut outcome = cells_once(clock, alloc, texts.as_slice())?;
+/// Pages the cells of a new pager out once, and loads them.
+fn once(clock: &impl Clock, alloc: Global, texts: &[String]) -> anyhow::Result<Outcome> {
+    let mut pager = Pager::new(alloc, InMemoryBlobs::new(alloc), TextEnv::new());
+    out_and_in(clock, alloc, &mut pager, texts)
+}
+
+/// Pages so many cells out and loads them, so often.
+pub fn cells(clock: &impl Clock, alloc: Global, count: u32, runs: u64) -> anyhow::Result<Outcome> {
+    let texts = drawn_texts(alloc, count as usize)?;
+    let mut outcome = once(clock, alloc, texts.as_slice())?;
     for _ in 1..runs {
-        outcome = outcome.with_shorter(cells_once(clock, alloc, texts.as_slice())?);
+        outcome = outcome.with_shorter(once(clock, alloc, texts.as_slice())?);
     }
     Ok(outcome)
 }

@@ -1,98 +1,100 @@
 //! The rows.
 
 use crate::cells::cells;
-use crate::codec::{read_back, timed_write};
-use crate::data;
 use crate::outcome::Outcome;
+use anyhow::ensure;
 use indexmap::IndexMap;
+use pagable::{
+    NoReferences, PagableDeserialize, PagableDeserializerImpl, PagableSerialize,
+    PagableSerializerImpl, SessionContext, WeighHash,
+};
+use pagable_examples::{TextEnv, input_of};
 use std::alloc::Global;
 use std::collections::BTreeMap;
-use std::time::Clock;
+use std::time::{Clock, Instant};
 
-/// One kind of work.
-#[derive(Clone, Copy, Debug, PartialEq)]
-pub enum Row {
-    /// A list of numbers.
-    Numbers,
-    /// A list of bytes.
-    Bytes,
-    /// A list of texts.
-    Texts,
-    /// Maps in a map, in the order of their keys.
-    Maps,
-    /// A map in order of arrival.
-    Ordered,
-    /// Cells that are paged out and loaded again.
-    Cells,
-}
+/// The values hold no references, so any environment will do.
+type AnyEnv = TextEnv<WeighHash>;
 
-/// All rows, in their order.
-pub const ROWS: [Row; 6] = [
-    Row::Numbers,
-    Row::Bytes,
-    Row::Texts,
-    Row::Maps,
-    Row::Ordered,
-    Row::Cells,
+/// All rows in their order, and how many values each has.
+pub const ROWS: [(&'static str, u32); 6] = [
+    ("numbers", 1_000_000),
+    ("bytes", 1_000_000),
+    ("texts", 200_000),
+    ("maps", 400),
+    ("ordered", 100_000),
+    ("cells", 10_000),
 ];
 
-impl Row {
-    /// The row's name.
-    pub fn name(self) -> &'static str {
-        match self {
-            Row::Numbers => "numbers",
-            Row::Bytes => "bytes",
-            Row::Texts => "texts",
-            Row::Maps => "maps",
-            Row::Ordered => "ordered",
-            Row::Cells => "cells",
-        }
+/// Reads a `T` from these bytes and writes it again: what was written, and how long both took.
+fn once<'de, T>(
+    clock: &impl Clock,
+    alloc: Global,
+    bytes: &'de [u8],
+) -> anyhow::Result<(Vec<u8>, Outcome)>
+where
+    T: PagableSerialize<AnyEnv> + PagableDeserialize<'de, AnyEnv> + Drop,
+{
+    let env = AnyEnv::new();
+    let session = SessionContext::new(alloc);
+    let start = Instant::now(clock)?;
+    let mut source = PagableDeserializerImpl::new(bytes, &[], NoReferences::new(&env, &session));
+    let value = T::pagable_deserialize(alloc, &mut source)?;
+    let read = start.elapsed(clock)?;
+    let start = Instant::now(clock)?;
+    let mut out = PagableSerializerImpl::testing_new(alloc, &env);
+    value.pagable_serialize(&mut out)?;
+    let written = out.finish()?.bytes;
+    let write = start.elapsed(clock)?;
+    let bytes = written.len();
+    Ok((written, Outcome { bytes, write, read }))
+}
+
+/// As `once`, of the type of this name.
+fn once_of(
+    clock: &impl Clock,
+    alloc: Global,
+    name_of_type: &str,
+    bytes: &[u8],
+) -> anyhow::Result<(Vec<u8>, Outcome)> {
+    match name_of_type {
+        "Vec<u64>" => once::<Vec<u64>>(clock, alloc, bytes),
+        "Vec<u8>" => once::<Vec<u8>>(clock, alloc, bytes),
+        "Vec<String>" => once::<Vec<String>>(clock, alloc, bytes),
+        "IndexMap<String,u32>" => once::<IndexMap<String, u32>>(clock, alloc, bytes),
+        _ => once::<BTreeMap<u64, BTreeMap<u64, u64>>>(clock, alloc, bytes),
     }
 }
 
-/// The row of this name, or None.
-pub fn row_of(name: &str) -> Option<Row> {
-    ROWS.into_iter().find(|row| row.name() == name)
+/// Reads what was written, which has to be written alike.
+fn again(
+    clock: &impl Clock,
+    alloc: Global,
+    name_of_type: &str,
+    bytes: &[u8],
+) -> anyhow::Result<Outcome> {
+    let (written, outcome) = once_of(clock, alloc, name_of_type, bytes)?;
+    ensure!(written.as_slice() == bytes, "another value was read");
+    Ok(outcome)
 }
 
-/// Runs a row so often, and tells its sums and its shortest times.
-pub fn run_row(clock: &impl Clock, alloc: Global, row: Row, runs: u64) -> anyhow::Result<Outcome> {
-    match row {
-        Row::Numbers => numbers(clock, alloc, runs),
-        Row::Bytes => bytes(clock, alloc, runs),
-        Row::Texts => texts(clock, alloc, runs),
-        Row::Maps => maps(clock, alloc, runs),
-        Row::Ordered => ordered(clock, alloc, runs),
-        Row::Cells => cells(clock, alloc, runs),
+/// Runs a row so often, and tells its shortest times.
+pub fn run_row(
+    clock: &impl Clock,
+    alloc: Global,
+    name: &str,
+    count: u32,
+    runs: u64,
+) -> anyhow::Result<Outcome> {
+    let Some((name_of_type, mut bytes)) = input_of(alloc, name, count)? else {
+        return cells(clock, alloc, count, runs);
+    };
+    // A map is drawn in another order than it is written in, so the bytes that are timed are those of a first writing.
+    let (written, _) = once_of(clock, alloc, name_of_type, bytes.as_slice())?;
+    bytes = written;
+    let mut outcome = again(clock, alloc, name_of_type, bytes.as_slice())?;
+    for _ in 1..runs {
+        outcome = outcome.with_shorter(again(clock, alloc, name_of_type, bytes.as_slice())?);
     }
-}
-
-fn numbers(clock: &impl Clock, alloc: Global, runs: u64) -> anyhow::Result<Outcome> {
-    let value = data::numbers(alloc)?;
-    let (bytes, took) = timed_write(clock, alloc, &value, runs)?;
-    read_back::<Vec<u64>>(clock, alloc, &bytes, took, runs)
-}
-
-fn bytes(clock: &impl Clock, alloc: Global, runs: u64) -> anyhow::Result<Outcome> {
-    let value = data::bytes(alloc, 2, 1_000_000)?;
-    let (bytes, took) = timed_write(clock, alloc, &value, runs)?;
-    read_back::<Vec<u8>>(clock, alloc, &bytes, took, runs)
-}
-
-fn texts(clock: &impl Clock, alloc: Global, runs: u64) -> anyhow::Result<Outcome> {
-    let value = data::texts(alloc)?;
-    let (bytes, took) = timed_write(clock, alloc, &value, runs)?;
-    read_back::<Vec<String>>(clock, alloc, &bytes, took, runs)
-}
-
-fn maps(clock: &impl Clock, alloc: Global, runs: u64) -> anyhow::Result<Outcome> {
-    let value = data::maps(alloc)?;
-    let (bytes, took) = timed_write(clock, alloc, &value, runs)?;
-    read_back::<BTreeMap<u64, BTreeMap<u64, u64>>>(clock, alloc, &bytes, took, runs)
-}
-
-fn ordered(clock: &impl Clock, alloc: Global, runs: u64) -> anyhow::Result<Outcome> {
-    let value = data::ordered(alloc)?;
-    let (bytes, took) = timed_write(clock, alloc, &value, runs)?;
-    read_back::<IndexMap<String, u32>>(clock, alloc, &bytes, took, runs)
+    Ok(outcome)
 }

@@ -1,11 +1,12 @@
 //! How a caller carries types of its own, and what programs and tests share: a struct of named fields, an enum that is
 //! carried as an option, an environment of both, a type that holds values of its own type, and one that is written eagerly;
 //! an environment of registries, with tagged values and a type that has a tagged and a static value; an environment of
-//! texts; and storages over another storage.
+//! texts; storages over another storage; and inputs that are drawn.
 #![tactic(auto)]
 
 pub mod animal;
 pub mod dish;
+pub mod drawn;
 pub mod expression;
 pub mod menu;
 pub mod quick_start;
@@ -18,6 +19,7 @@ pub mod zoo;
 
 pub use animal::{Animal, AnimalReader};
 pub use dish::Dish;
+pub use drawn::{Draws, input_of};
 pub use expression::{Expression, Sheet};
 pub use menu::{Menu, MenuNode};
 pub use sighting::Sighting;

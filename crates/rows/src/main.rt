@@ -6,7 +6,6 @@ pub mod blobs;
 pub mod calls;
 pub mod carried;
 pub mod drawn;
-pub mod draws;
 pub mod lines;
 pub mod outcome;
 pub mod types;
