@@ -5,8 +5,9 @@ use crate::calls::asked::{event, parts, split};
 use crate::calls::{CellCall, CellPager};
 use anyhow::bail;
 use either::Either;
-use pagable::{Error, Found, LoadNumber, MachineCall, MachineEvent, PagableData, Reply, Want};
-use pagable::paging;
+use pagable::{
+    Error, Found, LoadNumber, MachineCall, MachineEvent, PagableData, Reply, Want, paging,
+};
 use std::alloc::Global;
 use std::sync::Arc;
 
