@@ -8,9 +8,9 @@ WORK, together with tools/original_speed.rs as one of its examples, and built by
 LTO, one codegen unit and the processor level for which `bench` is built (x86-64-v2). Nothing of it comes into the repository. `bench`
 has to be built before: (cd crates/bench && rt run -- time).
 
-First the original has to write what tools/speed_sums.py works out, which `rows` is held against too. Then each row is timed ROUNDS times
-(5 if left out), by all three in turn, each time in a process of its own; a row's time is the least of all. The peak of memory is that
-of a process that makes the row's value, writes it and reads it once, by GNU time.
+The values come from tools/speed_sums.py, which `rows` is held against too; both programs fail where they write another form than they
+read. Each row is timed ROUNDS times (5 if left out), by all three in turn, each time in a process of its own; a row's time is the least
+of all. The peak of memory is that of a process that reads the row's value and writes it once, by GNU time.
 """
 import datetime
 import os
@@ -51,36 +51,32 @@ def built(folder, target, settings):
     return target / "release" / "examples" / "speed"
 
 
-def compare_sums(program):
-    """Fails where the original writes other values than they are worked out."""
-    theirs = dict(line.split(" ", 1) for line in output([program, "check"]).splitlines())
-    for line in output([sys.executable, TOP / "tools" / "speed_sums.py"]).splitlines():
-        name, wanted = line.split(" ", 1)
-        if not theirs[name].startswith(wanted):
-            sys.exit(f"the check sums differ:\n{line}\n{name} {theirs[name]}")
+def words_of(program, forms, row, runs):
+    """`bench` draws a row's value itself; the original reads it from a file."""
+    return [program, "time", row, str(runs)] if program == BENCH else [program, row, forms / row, str(runs)]
 
 
-def timed(program, row, best):
+def timed(words, best):
     """Runs a row, and keeps the least times of writing and of reading."""
-    found = TIMES.match(output([program, "time", row, "5"]))
+    found = TIMES.match(output(words))
     best["bytes"] = int(found[2])
     best["write"] = min(best.get("write", float("inf")), float(found[3]))
     best["read"] = min(best.get("read", float("inf")), float(found[4]))
 
 
-def peak(program, row):
+def peak(words):
     """The peak of memory in KiB. GNU time stands between, since a child's peak counts the memory of whoever forked it."""
-    ran = subprocess.run(["env", "time", "-f", "%M", program, "time", row, "1"], check=True, text=True, capture_output=True)
+    ran = subprocess.run(["env", "time", "-f", "%M", *words], check=True, text=True, capture_output=True)
     return int(ran.stderr.split()[-1])
 
 
-def measured(programs, row, rounds):
+def measured(programs, forms, row, rounds):
     best = [{} for _ in programs]
     for _ in range(rounds):
         for program, mine in zip(programs, best):
-            timed(program, row, mine)
+            timed(words_of(program, forms, row, 5), mine)
     for program, mine in zip(programs, best):
-        mine["peak"] = peak(program, row)
+        mine["peak"] = peak(words_of(program, forms, row, 1))
     return best
 
 
@@ -109,8 +105,10 @@ def main():
         sys.exit("bench isn't built: (cd crates/bench && rt run -- time)")
     folder = laid_out(original, work)
     programs = [BENCH, built(folder, work / "target", {}), built(folder, work / "tuned", TUNED)]
-    compare_sums(programs[1])
-    rows = {row: measured(programs, row, rounds) for row in ROWS}
+    forms = work / "forms"
+    forms.mkdir(exist_ok=True)
+    output([sys.executable, TOP / "tools" / "speed_sums.py", forms])
+    rows = {row: measured(programs, forms, row, rounds) for row in ROWS}
     table = "\n".join([machine(), "", *lines(rows)])
     before, rest = PAGE.read_text().split(BEGIN)
     PAGE.write_text(f"{before}{BEGIN}\n{table}\n{END}{rest.split(END)[1]}")

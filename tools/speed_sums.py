@@ -1,9 +1,12 @@
 #!/usr/bin/env python3
-"""Prints the check sums of large values that are drawn, whose forms are worked out from the rules of docs/PROOFS.md and of the wire
-format. It shares no code with the crates.
+"""Works out large values that are drawn, as the wire format spells them. It shares no code with the crates.
 
-    tools/speed_sums.py     # the part of crates/rows/stdout that answers crates/rows/data/drawn.txt
+    tools/speed_sums.py            # the part of crates/rows/stdout that answers crates/rows/data/drawn.txt: their check sums
+    tools/speed_sums.py FOLDER     # the values themselves, a file for each in FOLDER, and the texts of the cells of `bench`
 """
+
+import pathlib
+import sys
 
 WORD = (1 << 64) - 1
 
@@ -33,10 +36,6 @@ def sum_of(numbers):
     return state
 
 
-def with_length(numbers):
-    return [len(numbers), *numbers]
-
-
 def varint(number):
     out = bytearray()
     while number >= 128:
@@ -54,33 +53,22 @@ def list_form(forms):
     return varint(len(forms)) + b"".join(forms)
 
 
-def line(name, form):
-    print(f"{name} {len(form)} bytes wrote {sum_of(with_length(form)):016x}")
-
-
-def numbers_row():
+def numbers():
     draws = Draws(1)
-    numbers = [draws.number() >> place % 64 for place in range(1_000_000)]
-    line("numbers", list_form([varint(number) for number in numbers]))
+    return list_form([varint(draws.number() >> place % 64) for place in range(1_000_000)])
 
 
-def drawn_bytes(seed, count):
-    draws = Draws(seed)
-    return bytes(draws.number() >> 56 for _ in range(count))
+def drawn_bytes():
+    draws = Draws(2)
+    return text_form(bytes(draws.number() >> 56 for _ in range(1_000_000)))
 
 
-def bytes_row():
-    drawn = drawn_bytes(2, 1_000_000)
-    line("bytes", varint(len(drawn)) + drawn)
-
-
-def texts_row():
+def texts():
     draws = Draws(3)
-    texts = [draws.text(draws.number() % 32) for _ in range(200_000)]
-    line("texts", list_form([text_form(text) for text in texts]))
+    return list_form([text_form(draws.text(draws.number() % 32)) for _ in range(200_000)])
 
 
-def maps_row():
+def maps():
     draws = Draws(4)
     outer = {}
     for _ in range(400):
@@ -88,24 +76,35 @@ def maps_row():
         for place in range(400):
             key = draws.number() >> 16
             inner[key] = draws.number() >> place % 64
-    forms = []
-    for key, inner in sorted(outer.items()):
-        forms.append(varint(key) + list_form([varint(k) + varint(v) for k, v in sorted(inner.items())]))
-    line("maps", list_form(forms))
+    return list_form([varint(key) + list_form([varint(k) + varint(v) for k, v in sorted(inner.items())]) for key, inner in sorted(outer.items())])
 
 
-def ordered_row():
+def ordered():
     draws = Draws(5)
     entries = {}
     for _ in range(100_000):
         key = draws.text(12 + draws.number() % 16)
         entries[key] = draws.number() >> 32
-    line("ordered", list_form([text_form(k) + varint(v) for k, v in entries.items()]))
+    return list_form([text_form(k) + varint(v) for k, v in entries.items()])
 
+
+def cells():
+    """Texts of which no two have one weighed key: the sum of each byte times its place behind a count and a length, nine bytes."""
+    draws = Draws(7)
+    drawn = {}
+    while len(drawn) < 10_000:
+        text = draws.text(100)
+        drawn.setdefault(sum(place * byte for place, byte in enumerate(text, 10)), text)
+    return list_form([text_form(text) for text in drawn.values()])
+
+
+FORMS = {"numbers": numbers, "bytes": drawn_bytes, "texts": texts, "maps": maps, "ordered": ordered}
 
 if __name__ == "__main__":
-    numbers_row()
-    bytes_row()
-    texts_row()
-    maps_row()
-    ordered_row()
+    for name, form in {name: make() for name, make in FORMS.items()}.items():
+        if len(sys.argv) > 1:
+            (pathlib.Path(sys.argv[1]) / name).write_bytes(form)
+        else:
+            print(f"{name} {len(form)} bytes wrote {sum_of([len(form), *form]):016x}")
+    if len(sys.argv) > 1:
+        (pathlib.Path(sys.argv[1]) / "cells").write_bytes(cells())

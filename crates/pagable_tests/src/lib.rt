@@ -1,13 +1,11 @@
 //! Tests of the crates below that are no data of `rows`: cells that change, references, registries, types of one's own, sessions,
-//! storages, regular expressions, and laws.
+//! storages and regular expressions.
 #![tactic(auto)]
 
 #[cfg(test)]
 mod cells;
 #[cfg(test)]
 mod equal;
-#[cfg(test)]
-mod laws;
 #[cfg(test)]
 mod lent;
 #[cfg(test)]
