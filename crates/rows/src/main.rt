@@ -2,16 +2,9 @@
 //! outside the program.
 #![tactic(auto)]
 
-pub mod blobs;
-pub mod calls;
-pub mod carried;
-pub mod drawn;
-pub mod lines;
-pub mod outcome;
-pub mod types;
-
-use crate::calls::Calls;
 use anyhow::Context;
+use row_answers::calls::Calls;
+use row_answers::lines;
 use std::alloc::Global;
 use std::{env, fs};
 

@@ -28,6 +28,17 @@ fn word(alloc: Global, input: &[u8]) -> Option<Outcome> {
     Some(outcome.with_shown(text))
 }
 
+/// What comes of static bytes, which are shown as a text.
+fn static_bytes(alloc: Global, input: &[u8]) -> Option<Outcome> {
+    let zoo = zoo(alloc, &[])?;
+    let outcome = replay_in::<Zoo, StaticBytes>(alloc, &zoo, input)?;
+    let text = match read::<Zoo, StaticBytes>(alloc, &zoo, input) {
+        Ok(bytes) => String::from_utf8(bytes.as_bytes().to_vec(alloc).ok()?).ok(),
+        Err(_) => None,
+    };
+    Some(outcome.with_shown(text))
+}
+
 /// What comes of an animal, where these readers are registered in their order.
 fn animal(alloc: Global, readers: &[AnimalReader], input: &[u8]) -> Option<Outcome> {
     replay_in::<Zoo, Animal>(alloc, &zoo(alloc, readers)?, input)
@@ -76,7 +87,7 @@ pub fn answer(alloc: Global, name: &str, input: &[u8]) -> Option<Outcome> {
         "Expression" => replay_in::<Sheet, Expression>(alloc, &Sheet, input),
         "Ticket" => Some(ticket(alloc, input)),
         "StaticStr" => word(alloc, input),
-        "StaticBytes" => replay_in::<Zoo, StaticBytes>(alloc, &zoo(alloc, &[])?, input),
+        "StaticBytes" => static_bytes(alloc, input),
         _ => tagged(alloc, name, input),
     }
 }
