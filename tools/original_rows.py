@@ -5,7 +5,7 @@
     tools/original_rows.py answers original.jsonl     # the part of crates/rows/stdout that begins with the same comment
 
 Each line of the input is a JSON object: a value that the original wrote ("op": "enc"), an input that it read ("op":
-"dec"), or a tree of blobs that it stored ("op": "blob"). docs/TESTING.md says what the lines of the output mean. A type is
+"dec"), or a tree of blobs that it stored ("op": "blob"). docs/PROOFS.md says what the lines of the output mean. A type is
 added by its name in CARRIED, and by a case of `form` where it is a new kind of type.
 
 The original's own bytes check `form`: a line that it wrote and `form` doesn't give ends the program.

@@ -5,7 +5,7 @@
     plain_rows.py draw SEED COUNT [looks]  prints a new machine, COUNT drawn lists of events and a look; or lists of one event
                                            with a look after each
 
-A row is one line: a new pager, a look, or calls and events parted by semicolons. docs/TESTING.md tells its words.
+A row is one line: a new pager, a look, or calls and events parted by semicolons. docs/PROOFS.md tells its words.
 """
 
 import random
