@@ -155,7 +155,7 @@ def tried_alone(copy, edit):
 
 
 def rounds_of(edits, folder):
-    """Rounds of edits that meet in no function, each with its texts; and what can't be applied, with the reason."""
+    """Rounds of edits that meet in no function; and what can't be applied, with the reason."""
     rounds, bad = [], []
     for edit in edits:
         why = edit.apply({}, folder)
@@ -170,7 +170,19 @@ def rounds_of(edits, folder):
             texts = {}
             edit.apply(texts, folder)
             rounds.append((texts, [edit]))
-    return rounds, bad
+    return [held for _, held in rounds], bad
+
+
+def refused_of(copy, edits):
+    """The functions that a check of these edits together refuses; where it doesn't come to the proofs, those of either half."""
+    texts = {}
+    for edit in edits:
+        edit.apply(texts, copy.folder)
+    refused = refused_in(copy.check(texts))
+    if refused is None and len(edits) > 1:
+        half = len(edits) // 2
+        return refused_of(copy, edits[:half]) + refused_of(copy, edits[half:])
+    return refused or []
 
 
 def try_crate(crate):
@@ -180,8 +192,8 @@ def try_crate(crate):
         copy = Copy(room, crate)
         rounds, failed = rounds_of(edits, copy.folder)
         passed = 0
-        for texts, held in rounds:
-            refused = refused_in(copy.check(texts)) or []
+        for held in rounds:
+            refused = refused_of(copy, held)
             for edit in held:
                 is_refused = all(any(is_of(told, it) for told in refused) for it in edit.functions)
                 why = None if is_refused else tried_alone(copy, edit)
