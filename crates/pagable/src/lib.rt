@@ -53,9 +53,9 @@ pub use pagable_registries::{
 };
 pub use pagable_traits as traits;
 pub use pagable_traits::{
-    Canonical, Carried, EagerlyCarried, Env, InNode, KeyHash, NodeSet, OneMeaning, Pagable,
+    Canonical, Carried, EagerlyCarried, Env, InNode, KeyHash, NodeSet, OfNode, OneMeaning, Pagable,
     PagableBoxDeserialize, PagableDeserialize, PagableDeserializeOwned, PagableDeserializer,
     PagableEagerDeserialize, PagableEagerSerialize, PagableKey, PagableOrdKey, PagableSerialize,
-    PagableSerializer, PathText, Reader, SessionContext, SessionMap, Thin, serialize_slice,
-    serialize_str,
+    PagableSerializer, PathText, ReadBack, Reader, SessionContext, SessionMap, SessionValue, Thin,
+    serialize_slice, serialize_str,
 };

@@ -14,10 +14,10 @@ pub mod session;
 pub use deserializer::PagableDeserializer;
 pub use env::Env;
 pub use hash::KeyHash;
-pub use nodes::NodeSet;
+pub use nodes::{NodeSet, OfNode};
 pub use pagable_model::{
     ArcRef, HandleNumber, Identity, Kind, LoadNumber, NodeNumber, PagableCursor, WorkerNumber,
 };
 pub use reader::Reader;
 pub use serializer::PagableSerializer;
-pub use session::{SessionContext, SessionMap};
+pub use session::{SessionContext, SessionMap, SessionValue};

@@ -1,6 +1,8 @@
 //! What one session of reading and writing shares among its values: a map under a lock.
 
-ghost use Rattle.std.specs.Prelude.{◌≡◌, None, Some, IfOk, IfErr, IfSome, IsSome, OnOk, OnErr};
+ghost use Rattle.std.specs.Prelude.{◌≡◌, None, Some, IfOk, IfErr, IfSome, IsSome, OnOk, OnErr, IsTrue, refl};
+ghost use Rattle.std.proofs.Common.{rules};
+ghost use Rattle.std.specs.Cmp.Rules.{comparing};
 ghost use Rattle.std.specs.BTreeMap.{IsEmpty, IsUnchanged, Updates, get};
 ghost use Rattle.pagable_model.specs.Gives.{memory};
 ghost use Rattle.pagable_model.specs.Session.{IsCloneOf, IsBack};
@@ -8,7 +10,32 @@ ghost use Rattle.pagable_model.specs.Session.{IsCloneOf, IsBack};
 use pagable_flavors::Error;
 use std::alloc::Global;
 use std::collections::BTreeMap;
-use std::sync::{Mutex, Wait};
+use std::sync::{Arc, Mutex, Wait};
+
+/// A value of a session: its clones are equal to it.
+pub trait SessionValue: Clone + Eq + Drop {
+    ghost clones_equal: { (x y : Self) → Self.is_clone x y → IsTrue (Self.eq x y) };
+}
+
+impl SessionValue for () {
+    ghost clones_equal = { λ x y is. refl };
+}
+
+impl SessionValue for u32 {
+    ghost clones_equal = { Prim.search (comparing, rules) };
+}
+
+impl SessionValue for u64 {
+    ghost clones_equal = { Prim.search (comparing, rules) };
+}
+
+impl SessionValue for String {
+    ghost clones_equal = { Prim.search (comparing, rules) };
+}
+
+impl<T: Eq + Drop> SessionValue for Arc<T> {
+    ghost clones_equal = { Prim.search (comparing, rules) };
+}
 
 /// The values of a session by their keys. Answers are clones of the values.
 #[derive(Drop)]

@@ -2,19 +2,23 @@
 
 ghost use Rattle.pagable_model.specs.Causes.{memory_is_own_reading, text_may_refuse_writing};
 ghost use Rattle.pagable_model.specs.Gives.{memory, long_or};
+ghost use Rattle.pagable_model.specs.KeyParts.{both_refers_to_nothing};
+ghost use Rattle.pagable_model.specs.Keyed.{text_refers_to_nothing, unsigned_refers_to_nothing};
 ghost use Rattle.pagable_model.specs.Lifted.{MeansPair};
+ghost use Rattle.pagable_model.specs.OneForm.{both_has_one_form, text_has_one_form, unsigned_has_one_form};
 ghost use Rattle.pagable_model.specs.Shape.{both, text, unsigned};
-ghost use Rattle.pagable_examples.specs.Dishes.{dish_means, dish_has_meaning};
+ghost use Rattle.pagable_traits.specs.ReadBack.{both_is_read, text_is_read, unsigned_is_read};
+ghost use Rattle.pagable_examples.specs.Dishes.{dish_means, dish_meaning, dish_is_meaning, dish_has_meaning, dish_single, dish_is_same};
 ghost use Rattle.std.specs.Int.{w16};
 
 use pagable::{
-    Carried, Env, Error, PagableDeserialize, PagableDeserializer, PagableSerialize,
-    PagableSerializer,
+    Canonical, Carried, Env, Error, OneMeaning, PagableDeserialize, PagableDeserializer, PagableKey,
+    PagableSerialize, PagableSerializer, ReadBack,
 };
 use std::alloc::Global;
 
 /// A dish on the menu.
-#[derive(Debug, PartialEq, Drop)]
+#[derive(Debug, PartialEq, Eq, Hash, Drop)]
 pub struct Dish {
     pub name: String,
     /// What it weighs.
@@ -27,6 +31,32 @@ impl<E: Env> Carried<E> for Dish {
     ghost means = { dish_means };
 
     ghost has_meaning = { dish_has_meaning };
+}
+
+/// A dish means one thing,
+impl<E: Env> OneMeaning<E> for Dish {
+    ghost meaning = { dish_meaning };
+
+    ghost is_meaning = { dish_is_meaning };
+
+    ghost single = { dish_single };
+}
+
+/// so equal dishes are written alike, as a name and a number have one form each;
+impl<E: Env> Canonical<E> for Dish {
+    ghost one_form = { λ e. both_has_one_form (E.parts e) text (unsigned w16) (text_has_one_form (E.parts e)) (unsigned_has_one_form (E.parts e) w16) };
+}
+
+/// what is written is read again, as names and numbers are;
+impl<E: Env> ReadBack<E> for Dish {
+    ghost is_read = { λ e. both_is_read (E.parts e) text (unsigned w16) (text_is_read (E.parts e)) (unsigned_is_read (E.parts e) w16) };
+}
+
+/// and a dish may be a key of maps and an item of sets.
+impl<E: Env> PagableKey<E> for Dish {
+    ghost same = { dish_is_same };
+
+    ghost refers_to_nothing = { λ e. both_refers_to_nothing (E.parts e) text (unsigned w16) (text_refers_to_nothing (E.parts e)) (unsigned_refers_to_nothing (E.parts e) w16) };
 }
 
 impl<E: Env> PagableSerialize<E> for Dish {

@@ -3,7 +3,7 @@
 use crate::dish::Dish;
 use crate::size::Size;
 use pagable::{
-    ArcRef, Env, Error, InNode, KeyHash, NodeSet, PagableDeserialize, PagableDeserializer,
+    ArcRef, Env, Error, InNode, KeyHash, NodeSet, OfNode, PagableDeserialize, PagableDeserializer,
     PagableSerialize, PagableSerializer,
 };
 use std::alloc::Global;
@@ -111,11 +111,10 @@ impl<H: KeyHash> NodeSet<Menu<H>> for MenuNode {
     }
 }
 
-impl<H: KeyHash> InNode<Menu<H>> for Dish {
-    ghost use Rattle.std.specs.Prelude.{◌≡◌, Some, refl};
-    ghost use Rattle.std.proofs.Common.{inl};
+impl<H: KeyHash> OfNode<Menu<H>> for Dish {
+    ghost use Rattle.std.specs.Prelude.{◌≡◌, Some};
     ghost use Rattle.std.specs.Arc.{arc_value};
-    ghost use Rattle.pagable_examples.specs.Menus.{dish_in, dish_number_is_small, dish_type, no_dish_type, dish_meaning, dish_meaning_back};
+    ghost use Rattle.pagable_examples.specs.Menus.{dish_in, dish_number_is_small, dish_type, no_dish_type};
 
     ghost TYPE = { 0 };
 
@@ -138,11 +137,17 @@ impl<H: KeyHash> InNode<Menu<H>> for Dish {
 
     ghost small = { dish_number_is_small };
 
-    ghost shape_is = { λ e. refl };
-
     ghost in_type = { dish_type };
 
     ghost other_type = { no_dish_type };
+}
+
+impl<H: KeyHash> InNode<Menu<H>> for Dish {
+    ghost use Rattle.std.specs.Prelude.{refl};
+    ghost use Rattle.std.proofs.Common.{inl};
+    ghost use Rattle.pagable_examples.specs.Menus.{dish_meaning, dish_meaning_back};
+
+    ghost shape_is = { λ e. refl };
 
     ghost same_meaning = { dish_meaning };
 
@@ -153,11 +158,10 @@ impl<H: KeyHash> InNode<Menu<H>> for Dish {
     ghost meaning_back = { dish_meaning_back };
 }
 
-impl<H: KeyHash> InNode<Menu<H>> for Size {
-    ghost use Rattle.std.specs.Prelude.{◌≡◌, Some, refl};
-    ghost use Rattle.std.proofs.Common.{inl};
+impl<H: KeyHash> OfNode<Menu<H>> for Size {
+    ghost use Rattle.std.specs.Prelude.{◌≡◌, Some};
     ghost use Rattle.std.specs.Arc.{arc_value};
-    ghost use Rattle.pagable_examples.specs.Menus.{size_in, size_number_is_small, size_type, no_size_type, size_meaning, size_meaning_back};
+    ghost use Rattle.pagable_examples.specs.Menus.{size_in, size_number_is_small, size_type, no_size_type};
 
     ghost TYPE = { 1 };
 
@@ -180,11 +184,17 @@ impl<H: KeyHash> InNode<Menu<H>> for Size {
 
     ghost small = { size_number_is_small };
 
-    ghost shape_is = { λ e. refl };
-
     ghost in_type = { size_type };
 
     ghost other_type = { no_size_type };
+}
+
+impl<H: KeyHash> InNode<Menu<H>> for Size {
+    ghost use Rattle.std.specs.Prelude.{refl};
+    ghost use Rattle.std.proofs.Common.{inl};
+    ghost use Rattle.pagable_examples.specs.Menus.{size_meaning, size_meaning_back};
+
+    ghost shape_is = { λ e. refl };
 
     ghost same_meaning = { size_meaning };
 

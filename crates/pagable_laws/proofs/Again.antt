@@ -123,6 +123,6 @@ module _ {A B : Type 0} {look : Look A B} {kind_of : B → ℕ} {parts : ℕ →
           entries-again x q.back y f q.second t v,
         ) refl
 
-pub read_again : {A B : Type 0} → IsReadAgain A B
+pub read_again : {A B : Type 0} (parts : ℕ → Shape) (s : Shape) → Throughout IsReadable parts s → IsReadAgain A B parts s
 unfolding read
-read_again context kind_of s m b x k r y t u f = form-again x r y f u t
+read_again parts s t levels look kind_of m b x k r y u f = form-again x r y f u t

@@ -1,7 +1,9 @@
 -- No form of one meaning begins a form of another.
 use Rattle.std.proofs.Common.{◌≡◌, ℕ, List, [], ◌∷◌, ◌++◌, Result, Ok, refl, sym, ap, ◌∙◌}
 use Rattle.std.proofs.lemmas.List.{append_cancel_right}
+use Rattle.pagable_model.specs.Canonical.{IsReadable, Throughout}
 use Rattle.pagable_model.specs.Meaning.{Meaning}
+use Rattle.pagable_model.specs.Shape.{Shape}
 use Rattle.pagable_model.specs.Reading.{Rest, Look}
 use Rattle.pagable_laws.specs.FormLaws.{rest, LooksUp, no-references, more-references, IsPrefixFree}
 use Rattle.pagable_laws.proofs.Again.{read_at, form-again}
@@ -17,8 +19,8 @@ pub looks-itself : {A : Type 0} {kind_of : A → ℕ} (k : List A) → LooksUp i
 looks-itself [] = no-references
 looks-itself (a ∷ k) = more-references a k a k refl (looks-itself k)
 
-pub prefix_free : {A : Type 0} → IsPrefixFree A
-prefix_free {A} kind_of parts left s m n b c x y k l u v t f g e h =
+pub prefix_free : {A : Type 0} (parts : ℕ → Shape) (s : Shape) → Throughout IsReadable parts s → IsPrefixFree A parts s
+prefix_free {A} parts s t kind_of left m n b c x y k l u v f g e h =
     let first = form-again x k u f (looks-itself k) t in
     let second = form-again y l v g (looks-itself l) t in
     let inputs : rest (b ++ x) (k ++ u) ≡ rest (c ++ y) (l ++ v) = rw (e, h) refl in

@@ -23,16 +23,15 @@ pub data LooksUp {A B : Type 0} (look : Look A B) (kind_of : B → ℕ) : List A
   no-references : LooksUp look kind_of [] []
   more-references : (a : A) (r : List A) (b : B) (k : List B) → look (kind_of b) a ≡ Ok b → LooksUp look kind_of r k → LooksUp look kind_of (a ∷ r) (b ∷ k)
 
--- A form is read again, whatever follows it.
-abbrev pub IsReadAgain : Type 0 → Type 0 → Type 0
-IsReadAgain A B = (context : Context A B) (kind_of : B → ℕ) (s : Shape) (m : Meaning B) (b x : List ℕ) (k : List B) (r y : List A)
-    → Throughout IsReadable context.parts s → LooksUp context.look kind_of r k → Form B kind_of context.parts (deepest - context.levels) s m b k
-    → read context s (rest (b ++ x) (r ++ y)) ≡ Ok (m, rest x y)
+-- A form of the shape is read again, whatever follows it.
+abbrev pub IsReadAgain : Type 0 → Type 0 → (ℕ → Shape) → Shape → Type 0
+IsReadAgain A B parts s = (levels : ℕ) (look : Look A B) (kind_of : B → ℕ) (m : Meaning B) (b x : List ℕ) (k : List B) (r y : List A)
+    → LooksUp look kind_of r k → Form B kind_of parts (deepest - levels) s m b k → read (at levels look parts) s (rest (b ++ x) (r ++ y)) ≡ Ok (m, rest x y)
 
--- No form of one meaning begins a form of another.
-abbrev pub IsPrefixFree : Type 0 → Type 0
-IsPrefixFree A = (kind_of : A → ℕ) (parts : ℕ → Shape) (left : ℕ) (s : Shape) (m n : Meaning A) (b c x y : List ℕ) (k l u v : List A)
-    → Throughout IsReadable parts s → Form A kind_of parts left s m b k → Form A kind_of parts left s n c l → b ++ x ≡ c ++ y → k ++ u ≡ l ++ v → (m ≡ n) × (b ≡ c) × (k ≡ l)
+-- No form of one meaning of the shape begins a form of another.
+abbrev pub IsPrefixFree : Type 0 → (ℕ → Shape) → Shape → Type 0
+IsPrefixFree A parts s = (kind_of : A → ℕ) (left : ℕ) (m n : Meaning A) (b c x y : List ℕ) (k l u v : List A)
+    → Form A kind_of parts left s m b k → Form A kind_of parts left s n c l → b ++ x ≡ c ++ y → k ++ u ≡ l ++ v → (m ≡ n) × (b ≡ c) × (k ≡ l)
 
 -- A meaning of a canonical shape has at most one form.
 abbrev pub CanonicalHasOneForm : Type 0 → Type 0

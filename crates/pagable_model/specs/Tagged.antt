@@ -5,7 +5,7 @@ use Rattle.std.specs.Str.{bytes_eq}
 use Rattle.pagable_model.specs.declared.numbers.ArcRef.{ArcRef}
 use Rattle.pagable_model.specs.Meaning.{Meaning}
 use Rattle.pagable_model.specs.Carried.{of_tagged}
-use Rattle.pagable_model.specs.Canonical.{HasNoCase, IsReadable}
+use Rattle.pagable_model.specs.Canonical.{HasNoCase, IsReadable, Throughout}
 use Rattle.pagable_model.specs.Shape.{Shape}
 
 -- the tag with what the body means
@@ -32,7 +32,8 @@ NoneFor {F} tag readers = (j : ℕ) (r : List ℕ × F) → slice_get readers j 
 abbrev pub HasDistinctTags : List (List ℕ × Shape) → Type 0
 HasDistinctTags registrations = (i j : ℕ) (r s : List ℕ × Shape) → slice_get registrations i ≡ Some r → slice_get registrations j ≡ Some s → bytes_eq r.0 s.0 ≡ true → i ≡ j
 
--- Each tag under which a body has a form is registered, and each registered reader reads what is written under its tag.
-pub record ReadsWhatIsWritten (written : List ℕ → Shape) (registrations : List (List ℕ × Shape)) : Type 0 where
-  pub each : (i : ℕ) (tag : List ℕ) (s : Shape) → slice_get registrations i ≡ Some (tag, s) → (s ≡ written tag) × IsReadable s
+-- Each tag under which a body has a form is registered, and each registered reader reads what is written under its tag, of which
+-- the forms are read again, with the parts of values in one blob.
+pub record ReadsWhatIsWritten (parts : ℕ → Shape) (written : List ℕ → Shape) (registrations : List (List ℕ × Shape)) : Type 0 where
+  pub each : (i : ℕ) (tag : List ℕ) (s : Shape) → slice_get registrations i ≡ Some (tag, s) → (s ≡ written tag) × Throughout IsReadable parts s
   pub all : (tag : List ℕ) → HasNoCase (written tag) ⊎ ((i : ℕ) × (slice_get registrations i ≡ Some (tag, written tag)))

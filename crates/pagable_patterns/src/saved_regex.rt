@@ -14,13 +14,14 @@ ghost use Rattle.pagable_model.specs.Reading.{read};
 ghost use Rattle.pagable_model.specs.Shape as shapes;
 ghost use Rattle.pagable_model.specs.Standing.{handles_at, Is, MovesOn, GivesSome};
 ghost use Rattle.pagable_model.specs.Writing.{nesting, WritesSome, Refused, Grows};
+ghost use Rattle.pagable_traits.specs.ReadBack.{pattern_is_read};
 ghost use Rattle.pagable_patterns.specs.Building.{IsBuiltFrom, IsRefusedPattern, refusal_of, pattern_causes, pattern_causes_are_own, ReadsNoPattern};
 ghost use Rattle.pagable_model.specs.declared.error.Error.TheVariants.{RegexRefused};
 
 use pagable_codec::{Env, PagableDeserializer, PagableSerializer, Reader};
 use pagable_flavors::Error;
 use pagable_traits::{
-    Canonical, Carried, OneMeaning, PagableDeserialize, PagableKey, PagableSerialize,
+    Canonical, Carried, OneMeaning, PagableDeserialize, PagableKey, PagableSerialize, ReadBack,
 };
 use regex::Regex;
 use std::alloc::Global;
@@ -138,6 +139,10 @@ impl<E: Env> Carried<E> for SavedRegex {
     ghost means = { Is pattern };
 
     ghost has_meaning = { λ r. (pattern r, refl) };
+}
+
+impl<E: Env> ReadBack<E> for SavedRegex {
+    ghost is_read = { λ e. pattern_is_read (E.parts e) };
 }
 
 impl<E: Env> OneMeaning<E> for SavedRegex {

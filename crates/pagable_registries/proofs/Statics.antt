@@ -3,14 +3,13 @@ use Rattle.std.proofs.Common.{◌≡◌, ℕ, zero, suc, ◌+◌, ◌<◌, ◌�
 use Rattle.std.specs.Prelude.{IsTrue, ◌⊎◌, take}
 use Rattle.std.proofs.lemmas.List.{take_more, map-append}
 use Rattle.std.specs.Int.{w32}
-use Rattle.std.specs.List.{slice_get, AllByRecursion}
+use Rattle.std.specs.List.{slice_get}
 use Rattle.std.proofs.lemmas.Bool.{cases_lt}
 use Rattle.std.proofs.lemmas.Option.{slice_get_read, get_or_from_slice_get}
 use Rattle.pagable_model.specs.declared.error.Error.{Error}
 use Rattle.pagable_model.specs.declared.error.Error.TheVariants as errors
 use Rattle.pagable_model.specs.Gives.{never}
 use Rattle.pagable_model.specs.declared.numbers.ArcRef.{ArcRef}
-use Rattle.pagable_model.specs.Canonical.{HasNoReference, IsReadable}
 use Rattle.pagable_model.specs.Numbers.{bound, unsigned_form, unsigned_at}
 use Rattle.pagable_model.specs.Meaning.{Meaning, lifted}
 use Rattle.pagable_model.specs.Shape.{static_value}
@@ -93,13 +92,3 @@ pub static_read : {X A : Type 0} (meaning : X → Meaning ArcRef) (context : Con
     → registered registry i ≡ Ok m → meaning x ≡ lifted m → Gave (Is meaning x) last (read context (static_value registry) rest)
 unfolding read read_with
 static_read meaning context registry x m rest last bytes after i f l h g is = record { m = meaning x; is = refl; gave = rw (l, is, f, h, g) refl }
-
--- ---- reading again
-
-all-plain : {T : Type 0} (plain : T → Meaning ⊥) → ((x : T) → HasNoReference (plain x)) → (registry : List T) → AllByRecursion HasNoReference (meanings_of plain registry)
-all-plain plain none [] = tt
-all-plain plain none (v ∷ vs) = (none v, all-plain plain none vs)
-
-pub static_is_readable : {T : Type 0} (plain : T → Meaning ⊥) → ((x : T) → HasNoReference (plain x)) → (registry : List T) → IsReadable (static_value (meanings_of plain registry))
-unfolding IsReadable
-static_is_readable plain none registry = all-plain plain none registry

@@ -11,12 +11,12 @@ use Rattle.std.proofs.lemmas.Slice.Eq.{bytes_eq-Decides}
 use Rattle.pagable_model.specs.declared.error.Error.TheVariants as errors
 use Rattle.pagable_model.specs.Steps.{◌>>=◌}
 use Rattle.pagable_model.specs.Basic.{longest, text_form, text_at}
-use Rattle.pagable_model.specs.Canonical.{IsReadable}
+use Rattle.pagable_model.specs.Canonical.{HasNoCase, IsReadable, LiesIn, Within, Throughout}
 use Rattle.pagable_model.specs.Gives.{Gives, memory, memory_or}
 use Rattle.pagable_model.specs.Reading.{Rest, Context, read, read_with, bytes_of}
 use Rattle.pagable_model.specs.Carried.{of_tagged, is_registered, body_of, tagged_by}
 use Rattle.pagable_model.specs.Meaning.{Meaning}
-use Rattle.pagable_model.specs.Shape.{Shape, tagged}
+use Rattle.pagable_model.specs.Shape.{Shape, tagged, cases}
 use Rattle.pagable_model.specs.Form.{tagged-form}
 use Rattle.pagable_model.specs.Standing.{Answer, SomeMeaning, Gave}
 use Rattle.pagable_model.specs.Writing.{Out, Nesting, FormAt, WritesSome, NoForm, Refused, added}
@@ -212,17 +212,36 @@ registered-place (r ∷ rs) tag e = go (is_registered rs tag) refl (λ known. re
         let same : tag ≡ r.0 = (bytes_eq-Decides tag r.0).0 here in
         (0, rw unknown (let P : List ℕ → Type 0 = λ t. slice_get (r ∷ rs) 0 ≡ Some (t, r.1) in subst P (sym same) refl))
 
-pub distinct_is_readable : (written : List ℕ → Shape) (rs : List (List ℕ × Shape)) → HasDistinctTags rs → ReadsWhatIsWritten written rs → IsReadable (tagged_by written rs)
-unfolding IsReadable
-distinct_is_readable written rs distinct reads = (
-  λ tag. elim (reads.all tag) [
-    | inl none ↦ inl none
-    | inr p ↦ inr (own-registration rs p.0 tag (written tag) distinct p.1)
-  ],
-  λ tag known. let p = registered-place rs tag known in (reads.each p.0 tag (body_of rs tag) p.1).1,
-)
+no_case-lies : (nodes parts : ℕ → Type 0) (s : Shape) → HasNoCase s → LiesIn nodes parts s
+unfolding LiesIn
+no_case-lies nodes parts (cases w known part) h = λ n e. let no : false ≡ true = sym (h n) ∙ e in absurd cc
+no_case-lies nodes parts s h = absurd h
 
-pub ruleset laws = (distinct_is_readable)
+pub distinct_is_read : (parts : ℕ → Shape) (written : List ℕ → Shape) (rs : List (List ℕ × Shape)) → HasDistinctTags rs → ReadsWhatIsWritten parts written rs → Throughout IsReadable parts (tagged_by written rs)
+unfolding IsReadable LiesIn Within
+distinct_is_read parts written rs distinct reads = record { within = within }
+  where
+    readable : IsReadable (tagged_by written rs)
+    readable = (
+      λ tag. elim (reads.all tag) [
+        | inl none ↦ inl none
+        | inr p ↦ inr (own-registration rs p.0 tag (written tag) distinct p.1)
+      ],
+      λ tag known. let p = registered-place rs tag known in (reads.each p.0 tag (body_of rs tag) p.1).1.within 0,
+    )
+
+    below : (steps : ℕ) → LiesIn (λ n. Unit {0}) (λ n. Within IsReadable parts steps (parts n)) (tagged_by written rs)
+    below steps = (
+      λ tag. elim (reads.all tag) [
+        | inl none ↦ no_case-lies (λ n. Unit {0}) (λ n. Within IsReadable parts steps (parts n)) (written tag) none
+        | inr p ↦ ((reads.each p.0 tag (written tag) p.1).1.within (suc steps)).1
+      ],
+      λ tag known. let p = registered-place rs tag known in ((reads.each p.0 tag (body_of rs tag) p.1).1.within (suc steps)).1,
+    )
+
+    within : (steps : ℕ) → Within IsReadable parts steps (tagged_by written rs)
+    within zero = readable
+    within (suc steps) = (readable, below steps)
 
 -- a tagged value means something where its body does
 pub tagged_means : {T : Type 0} (tag : T → List ℕ) (body : T → Meaning ArcRef → Type 0) → ((x : T) → SomeMeaning (body x)) → (x : T) → SomeMeaning (MeansTagged (tag x) (body x))

@@ -3,7 +3,6 @@
 
 ghost use Rattle.std.specs.Prelude.{◌≡◌, ◌↔◌, ℕ, Some, Ok};
 ghost use Rattle.std.specs.List.{slice_get};
-ghost use Rattle.pagable_model.specs.Canonical.{IsReadable};
 ghost use Rattle.pagable_model.specs.Gives.{never, memory_or};
 ghost use Rattle.pagable_model.specs.Meaning.{Meaning, lifted};
 ghost use Rattle.pagable_model.specs.Reading.{registered};
@@ -29,10 +28,9 @@ pub fn static_value_is_carried<E: Env, T: HasStaticValueRegistry<E>>()
     ensures reads { (e : Refusal) → ⟦<StaticValue<T> as PagableDeserialize<'static, E>>⟧.read_causes e ↔ never e }
 {}
 
-/// The forms of static values are read again: each index of a registered value as that value.
+/// Each index of a registered value is read as that value.
 pub fn static_values_are_read_again<E: Env, T: HasStaticValueRegistry<E>>()
-    ensures readable { (e : E) → IsReadable (static_value (meanings_of T.plain (T.known e))) }
-    ensures value { (e : E) (i : ℕ) (known : T) → slice_get (T.known e) i ≡ Some known → registered (meanings_of T.plain (T.known e)) i ≡ Ok (T.plain known) }
+    ensures { (e : E) (i : ℕ) (known : T) → slice_get (T.known e) i ≡ Some known → registered (meanings_of T.plain (T.known e)) i ≡ Ok (T.plain known) }
 {}
 
 /// A tagged value means its tag with something that its body means: what its type owes as the law `has_meaning` of `Carried`.

@@ -17,12 +17,15 @@ ghost use Rattle.pagable_model.specs.Writing.{nesting, WritesSome, Refused, Grow
 ghost use Rattle.pagable_model.specs.Lengths.{long_or_memory};
 ghost use Rattle.pagable_model.specs.Causes.{never_is_own_reading, memory_or_may_refuse_writing};
 ghost use Rattle.pagable_model.specs.Statics.{HasEqual, NoEqualBelow, StandsAt, meanings_of, unregistered, unregistered_may_refuse_writing};
+ghost use Rattle.pagable_registries.specs.StaticValues.{static_is_read, static_is_same, static_refers_to_nothing};
 
 use pagable_codec::deserializer::PagableDeserializer;
 use pagable_codec::env::Env;
 use pagable_codec::reader::Reader;
 use pagable_codec::serializer::PagableSerializer;
 use pagable_flavors::Error;
+use pagable_traits::keys::PagableKey;
+use pagable_traits::read_back::ReadBack;
 use pagable_traits::traits::{Carried, OneMeaning, PagableDeserialize, PagableSerialize};
 use std::alloc::{AllocError, Global};
 use std::fmt;
@@ -325,6 +328,17 @@ impl<E: Env, T: HasStaticValueRegistry<E>> OneMeaning<E> for StaticValue<T> {
     ghost is_meaning = { λ v. refl };
 
     ghost single = { λ v m is. is };
+}
+
+/// By the value alone, as equality and the hash are.
+impl<E: Env, T: HasStaticValueRegistry<E>> PagableKey<E> for StaticValue<T> {
+    ghost same = { λ x y. static_is_same T.eq T.plain T.same_meaning T.same_value x.0.value y.0.value };
+
+    ghost refers_to_nothing = { λ e. static_refers_to_nothing (E.parts e) (meanings_of T.plain (T.known e)) };
+}
+
+impl<E: Env, T: HasStaticValueRegistry<E>> ReadBack<E> for StaticValue<T> {
+    ghost is_read = { λ e. static_is_read (E.parts e) T.plain T.holds_no_reference (T.known e) };
 }
 
 impl<E: Env, T: HasStaticValueRegistry<E>> PagableSerialize<E> for StaticValue<T> {

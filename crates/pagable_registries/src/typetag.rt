@@ -5,7 +5,6 @@ ghost use Rattle.std.specs.Prelude.{◌≡◌, ◌≤◌, ◌∷◌, [], ℕ, Li
 ghost use Rattle.std.specs.Str.{IsUtf8};
 ghost use Rattle.std.specs.String.{string_bytes};
 ghost use Rattle.pagable_model.specs.Basic.{text_form, text_at, longest};
-ghost use Rattle.pagable_model.specs.Canonical.{IsReadable};
 ghost use Rattle.pagable_model.specs.Carried.{tagged_by};
 ghost use Rattle.pagable_model.specs.Gives.{Gives, memory, memory_or, long_or};
 ghost use Rattle.pagable_model.specs.Meaning.{Meaning};
@@ -18,6 +17,7 @@ ghost use Rattle.pagable_model.specs.declared.error.Error.{Error as Refusal};
 ghost use Rattle.pagable_model.specs.declared.numbers.ArcRef.{ArcRef as Reference};
 ghost use Rattle.pagable_model.specs.Lengths.{long_or_memory};
 ghost use Rattle.pagable_model.specs.Tagged.{MeansTagged, IsLastFor, NoneFor, grammars, HasDistinctTags, ReadsWhatIsWritten};
+ghost use Rattle.pagable_traits.specs.ReadBack.{IsReadThroughout};
 
 use pagable_codec::deserializer::PagableDeserializer;
 use pagable_codec::env::Env;
@@ -300,8 +300,7 @@ pub fn deserialize_tagged<E: Env, T: HasTypetagRegistry<E>, D: PagableDeserializ
 }
 
 /// With distinct tags, each under which a body has a form being registered with a reader of what is written under it,
-/// the forms of tagged values are among those that are read again.
-#[tactic(auto, using(crate::proofs::Tagged::laws))]
+/// the forms of tagged values are read again: what a tagged type needs to be `ReadBack`.
 pub fn distinct_tags_are_read_again()
-    ensures { (written : List ℕ → Shape) (registrations : List (List ℕ × Shape)) → HasDistinctTags registrations → ReadsWhatIsWritten written registrations → IsReadable (tagged_by written registrations) }
+    ensures { (parts : ℕ → Shape) (written : List ℕ → Shape) (registrations : List (List ℕ × Shape)) → HasDistinctTags registrations → ReadsWhatIsWritten parts written registrations → IsReadThroughout parts (tagged_by written registrations) }
 {}

@@ -2,7 +2,7 @@
 
 use crate::equal::equal;
 use pagable::{
-    Env, Error, InNode, NoReferences, NodeSet, PagableDeserialize, PagableDeserializerImpl,
+    Env, Error, NoReferences, NodeSet, OfNode, PagableDeserialize, PagableDeserializerImpl,
     PagableSerialize, PagableSerializerImpl, SessionContext, WeighHash,
 };
 use pagable_examples::{Dish, Expression, Menu, MenuNode, Sheet, Size, quick_start};
@@ -92,7 +92,7 @@ fn a_node_holds_a_value_of_its_type(rt: HostRuntime) -> Result<(), Fail> {
     let alloc = rt.alloc();
     let env = Card::new();
     let large = Arc::new(alloc, Size::Large(200))?;
-    let node = <Size as InNode<Card>>::into_node(large);
+    let node = <Size as OfNode<Card>>::into_node(large);
     equal(&rt, NodeSet::<Card>::node_type(&node), 1, "type");
     let refs = NodeSet::<Card>::refs(&node, alloc).ok().ok_or("refs")?;
     equal(&rt, refs.len(), 0, "references");
@@ -103,12 +103,12 @@ fn a_node_holds_a_value_of_its_type(rt: HostRuntime) -> Result<(), Fail> {
     let again = read_node(alloc, &env, 1, data.bytes.as_slice())
         .ok()
         .ok_or("not read")?;
-    let size = <Size as InNode<Card>>::from_node(alloc, &again)
+    let size = <Size as OfNode<Card>>::from_node(alloc, &again)
         .ok()
         .flatten();
     let size = size.ok_or("another type")?;
     equal(&rt, size.as_ref(), &Size::Large(200), "value");
-    let dish = <Dish as InNode<Card>>::from_node(alloc, &again)
+    let dish = <Dish as OfNode<Card>>::from_node(alloc, &again)
         .ok()
         .ok_or("memory")?;
     equal(&rt, dish.is_none(), true, "no dish");

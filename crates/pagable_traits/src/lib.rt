@@ -9,6 +9,7 @@ pub mod keys;
 pub mod laws;
 pub mod one_form;
 pub mod owned;
+pub mod read_back;
 pub mod traits;
 
 pub use boxes::PagableBoxDeserialize;
@@ -22,8 +23,9 @@ pub use keys::{PagableKey, PagableOrdKey};
 pub use one_form::Canonical;
 pub use owned::{Pagable, PagableDeserializeOwned};
 pub use pagable_codec::{
-    ArcRef, Env, HandleNumber, Identity, KeyHash, Kind, LoadNumber, NodeNumber, NodeSet,
+    ArcRef, Env, HandleNumber, Identity, KeyHash, Kind, LoadNumber, NodeNumber, NodeSet, OfNode,
     PagableCursor, PagableDeserializer, PagableSerializer, Reader, SessionContext, SessionMap,
-    WorkerNumber,
+    SessionValue, WorkerNumber,
 };
+pub use read_back::ReadBack;
 pub use traits::{Carried, OneMeaning, PagableDeserialize, PagableSerialize};

@@ -1,0 +1,44 @@
+-- Why static values may be keys, and why their forms are read again: each index of a registered value as that value, in which
+-- nothing is referred to.
+use Rattle.std.specs.Prelude.{◌≡◌, ℕ, List, [], ◌∷◌, Bool, IsTrue, refl}
+use Rattle.std.proofs.Common.{sym, ◌∙◌}
+use Rattle.std.specs.List.{AllByRecursion}
+use Rattle.pagable_model.specs.declared.numbers.ArcRef.{ArcRef}
+use Rattle.pagable_model.specs.Canonical.{HasNoReference, IsReadable, LiesIn}
+use Rattle.pagable_model.specs.Codes.{one-meaning}
+use Rattle.pagable_model.specs.Keyed.{RefersToNothing, throughout-alone, same-by}
+use Rattle.pagable_model.specs.Keys.{same_key}
+use Rattle.pagable_model.specs.Meaning.{Meaning, number, integer, text, pattern, none, pair, variant, reference, followed, plain, rename, lifted}
+use Rattle.pagable_model.specs.Shape.{Shape, static_value}
+use Rattle.pagable_model.specs.Statics.{meanings_of}
+use Rattle.pagable_traits.specs.ReadBack.{IsReadThroughout}
+
+all-plain : {T : Type 0} (meaning : T → Meaning ⊥) → ((x : T) → HasNoReference (meaning x)) → (registry : List T) → AllByRecursion HasNoReference (meanings_of meaning registry)
+all-plain meaning holds_none [] = tt
+all-plain meaning holds_none (v ∷ vs) = (holds_none v, all-plain meaning holds_none vs)
+
+pub static_is_read : {T : Type 0} (parts : ℕ → Shape) (meaning : T → Meaning ⊥) → ((x : T) → HasNoReference (meaning x)) → (registry : List T) → IsReadThroughout parts (static_value (meanings_of meaning registry))
+unfolding IsReadable LiesIn
+static_is_read parts meaning holds_none registry = throughout-alone IsReadable parts (static_value (meanings_of meaning registry)) (all-plain meaning holds_none registry) (λ those. tt)
+
+-- what is lifted, and loses its references again, is as it was
+plain-lifted : (A : Type 0) (m : Meaning ⊥) → plain {A = A} (lifted m) ≡ m
+unfolding plain rename
+plain-lifted A (number n) = refl
+plain-lifted A (integer z) = refl
+plain-lifted A (text t) = refl
+plain-lifted A (pattern t) = refl
+plain-lifted A none = refl
+plain-lifted A (pair a b) = rw (plain-lifted A a, plain-lifted A b) refl
+plain-lifted A (variant n a) = rw (plain-lifted A a) refl
+plain-lifted A (reference a) = absurd a
+plain-lifted A (followed kind a) = rw (plain-lifted A a) refl
+
+pub static_is_same : {T : Type 0} (eq : T → T → Bool) (meaning : T → Meaning ⊥) → ((x y : T) → IsTrue (eq x y) → meaning x ≡ meaning y) → ((x y : T) → meaning x ≡ meaning y → IsTrue (eq x y))
+    → (x y : T) → eq x y ≡ same_key {A = ArcRef} (lifted (meaning x)) (lifted (meaning y))
+static_is_same eq meaning same_meaning same_value x y =
+    rw (plain-lifted ArcRef (meaning x), plain-lifted ArcRef (meaning y)) (same-by (eq x y) (meaning x) (meaning y) (same_meaning x y) (λ e. same_value x y (one-meaning (meaning x) (meaning y) e)))
+
+pub static_refers_to_nothing : (parts : ℕ → Shape) (registry : List (Meaning ⊥)) → RefersToNothing parts (static_value registry)
+unfolding LiesIn
+static_refers_to_nothing parts registry = throughout-alone (LiesIn (λ node. ⊥) (λ part. Unit {0})) parts (static_value registry) tt (λ those. tt)
