@@ -31,6 +31,9 @@ pub mod pagable_arc {
     pub use pagable_pager::{Beginning, Mode, Owner, Pager, Pinning, Want};
 }
 
+/// What a call of this crate answers: what it gives, or why it is refused.
+pub type Result<O> = std::result::Result<O, Error>;
+
 pub use pagable_core::{
     InMemoryBlobs, NoReferences, PagableData, PagableDeserializerImpl, PagableKeys,
     PagableSerializerImpl, PagableStorage, References, SerializedData, SerializerForPaging,

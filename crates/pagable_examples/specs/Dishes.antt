@@ -28,4 +28,4 @@ dish_single d m h = rw (h.is, h.is_first, h.is_second) refl
 pub dish_is_same : (d e : Dish) → (string_eq d.name e.name && nat_eq d.grams e.grams) ≡ same_key (dish_meaning d) (dish_meaning e)
 dish_is_same d e =
     pair_is_same (string_eq d.name e.name) (nat_eq d.grams e.grams) (text (string_bytes d.name)) (number d.grams) (text (string_bytes e.name)) (number e.grams)
-        (text_is_same (string_bytes d.name) (string_bytes e.name)) (number_is_same d.grams e.grams)
+    (text_is_same (string_bytes d.name) (string_bytes e.name)) (number_is_same d.grams e.grams)

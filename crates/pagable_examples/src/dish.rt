@@ -12,8 +12,8 @@ ghost use Rattle.pagable_examples.specs.Dishes.{dish_means, dish_meaning, dish_i
 ghost use Rattle.std.specs.Int.{w16};
 
 use pagable::{
-    Canonical, Carried, Env, Error, OneMeaning, PagableDeserialize, PagableDeserializer, PagableKey,
-    PagableSerialize, PagableSerializer, ReadBack,
+    Canonical, Carried, Env, Error, OneMeaning, PagableDeserialize, PagableDeserializer,
+    PagableKey, PagableSerialize, PagableSerializer, ReadBack,
 };
 use std::alloc::Global;
 
