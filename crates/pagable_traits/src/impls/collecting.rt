@@ -1,6 +1,6 @@
 //! What items are put into one after another as they are read: lists, maps and sets.
 
-ghost use Rattle.std.specs.Prelude.{◌≡◌, ℕ, List, [], OnOk, IfOk, IfErr};
+ghost use Rattle.std.specs.Prelude.{◌≡◌, ℕ, List, [], length, min, OnOk, IfOk, IfErr};
 ghost use Rattle.pagable_model.specs.Gives.{memory, memory_or};
 ghost use Rattle.pagable_model.specs.Reading.{items, counted, read};
 ghost use Rattle.pagable_model.specs.Standing.{handles_at, MovesOn, GivesSome};
@@ -21,7 +21,7 @@ pub trait Collects<T>: Sized {
     // What it held, the item that was put in, and what it holds then.
     ghost puts: { List T → T → List T → Type 0 };
 
-    // That it has room for so many items more, where it keeps room.
+    // That it has room for so many items more, where it keeps room; a list for no others.
     ghost has_room: { Self → ℕ → Type 0 };
 
     /// Nothing, with room for so many items where it keeps room. Refused by want of memory alone.
@@ -36,8 +36,27 @@ pub trait Collects<T>: Sized {
         ensures only { IfErr result memory };
 }
 
-/// Reads this many items and puts each in. A refusal is the first item's that is refused, or want of memory. As many
-/// places as bytes are left are reserved at most; items that take no byte need room one by one.
+/// Nothing, to hold so many items: with room for as many of them as bytes are left, so that a count alone takes no memory.
+/// Refused by want of memory alone.
+pub fn with_room<E: Env, T, C: Collects<T>, D: PagableDeserializer<E>>(
+    alloc: Global,
+    count: usize,
+    deserializer: &mut D,
+) -> Result<C, Error>
+    ensures empty { IfOk result (λ c. C.held c ≡ []) }
+    ensures room { IfOk result (λ c. C.has_room c (min count (length (D.rest deserializer.old).bytes))) }
+    ensures only { IfErr result memory }
+    ensures same_rest { D.rest deserializer.new ≡ D.rest deserializer.old }
+    ensures moves { MovesOn (D.standing deserializer.old) (D.standing deserializer.new) }
+    ensures same_env { D.environment deserializer.new ≡ D.environment deserializer.old }
+    ensures same_levels { D.levels deserializer.new ≡ D.levels deserializer.old }
+{
+    let places = places_for(count, deserializer);
+    C::with_places(alloc, places)
+}
+
+/// Reads this many items and puts each in. A refusal is the first item's that is refused, or want of memory. Room is made
+/// by `with_room`; items that take no byte need room one by one.
 pub fn collect_items<
     'de,
     E: Env,
@@ -51,8 +70,7 @@ pub fn collect_items<
     ensures same_env { D.environment deserializer.new ≡ D.environment deserializer.old }
     ensures same_levels { D.levels deserializer.new ≡ D.levels deserializer.old }
 {
-    let places = places_for(count, deserializer);
-    let mut collected = C::with_places(alloc, places)?;
+    let mut collected: C = with_room(alloc, count, deserializer)?;
     for index in 0..count {
         let value = T::pagable_deserialize(alloc, deserializer)?;
         collected.put_in(value)?;

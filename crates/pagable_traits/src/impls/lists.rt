@@ -72,7 +72,7 @@ impl<T: Drop> Collects<T> for Vec<T> {
 
     ghost puts = { λ xs x ys. ys ≡ xs ++ x ∷ [] };
 
-    ghost has_room = { λ v n. n ≤ vec_capacity v };
+    ghost has_room = { λ v n. vec_capacity v ≡ n };
 
     fn with_places(alloc: Global, places: usize) -> Result<Self, Error> {
         Ok(Vec::with_capacity(alloc, places)?)

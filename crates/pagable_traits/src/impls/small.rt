@@ -1,6 +1,6 @@
 //! Lists whose first items are kept in the value.
 
-ghost use Rattle.std.specs.Prelude.{◌≡◌, ◌≤◌, ◌++◌, ◌∷◌, [], map};
+ghost use Rattle.std.specs.Prelude.{◌≡◌, ◌++◌, ◌∷◌, [], map, max};
 ghost use Rattle.pagable_model.specs.Gives.{memory_or, long_or};
 ghost use Rattle.pagable_model.specs.Meaning.{sequence};
 ghost use Rattle.pagable_model.specs.Shape.{list};
@@ -23,7 +23,7 @@ impl<T: MadeWith<Global> + Drop, const N: usize> Collects<T> for SmallVec<T, N> 
 
     ghost puts = { λ xs x ys. ys ≡ xs ++ x ∷ [] };
 
-    ghost has_room = { λ v n. n ≤ v.capacity };
+    ghost has_room = { λ v n. v.capacity ≡ max N n };
 
     fn with_places(alloc: Global, places: usize) -> Result<Self, Error> {
         Ok(SmallVec::with_capacity(alloc, places)?)
