@@ -1,9 +1,13 @@
 -- What reading a part gives, and where a deserializer stands then.
-use Rattle.std.proofs.Common.{◌≡◌, Result, Ok, refl, arith, ◌∙◌}
+use Rattle.std.proofs.Common.{◌≡◌, ℕ, List, Result, Ok, Err, refl, arith, ◌∙◌, inl, inr}
 use Rattle.pagable_model.specs.declared.error.Error.{Error}
 use Rattle.pagable_model.specs.declared.numbers.ArcRef.{ArcRef}
+use Rattle.pagable_model.specs.Gives.{Gives, never}
 use Rattle.pagable_model.specs.Meaning.{Meaning}
-use Rattle.pagable_model.specs.Standing.{Gave, MovesOn, Standing}
+use Rattle.pagable_model.specs.Numbers.{Read}
+use Rattle.pagable_model.specs.Reading.{Rest, bytes_of}
+use Rattle.pagable_model.specs.Standing.{Answer, Gave, MovesOn, Standing}
+use Rattle.pagable_model.specs.Track.{Track, left, GoesOn}
 
 pub moves_trans : (a b c : Standing) → MovesOn a b → MovesOn b c → MovesOn a c
 moves_trans a b c g h = record { whole = h.whole ∙ g.whole; bytes = omega (arith, g.bytes, h.bytes); refs = omega (arith, g.refs, h.refs); within = λ w. h.within (g.within w) }
@@ -14,5 +18,22 @@ moves_refl a = record { whole = refl; bytes = omega arith; refs = omega arith; w
 -- the one meaning of a value
 pub gave_is : {R : Type 0} (meaning : Meaning ArcRef) (after : R) (read : Result (Meaning ArcRef × R) Error) → read ≡ Ok (meaning, after) → Gave (λ m. m ≡ meaning) after read
 gave_is meaning after read e = record { m = meaning; is = refl; gave = e }
+
+gives_part : {X : Type 0} (at : List ℕ → Read X) (r : Result X Error) (rest : Rest Answer) (after : List ℕ) → Gives never (λ x. (x, after)) r (at rest.bytes) → Gives never (λ x. (x, record rest { bytes = after })) r (bytes_of at (λ x. x) rest)
+gives_part at (Ok x) rest after h = rw h refl
+gives_part at (Err e) rest after (inl h) = inl (rw h refl)
+gives_part at (Err e) rest after (inr h) = absurd h
+
+-- a part of a value, by what a deserializer says of itself with another reader
+pub part_read : {X E : Type 0} (at : List ℕ → Read X) (r : Result X Error) {rest last : Rest Answer} {old new : Standing} {env env_after : E} {levels levels_after : ℕ} {given used : Track}
+    → rest.bytes ≡ left given → last ≡ record rest { bytes = left used } → (GoesOn given used → MovesOn old new) → env_after ≡ env → levels_after ≡ levels
+    → record { gives : Gives never (λ x. (x, left used)) r (at (left given)); goes : GoesOn given used }
+    → record { gives : Gives never (λ x. (x, last)) r (bytes_of at (λ x. x) rest); moves : MovesOn old new; same_env : env_after ≡ env; same_levels : levels_after ≡ levels }
+part_read at r {rest = rest} {used = used} e f moves same_env same_levels told = record {
+  gives = rw f (gives_part at r rest (left used) (rw e told.gives));
+  moves = moves told.goes;
+  same_env = same_env;
+  same_levels = same_levels;
+}
 
 pub ruleset parts = (gave_is, moves_trans, moves_refl)

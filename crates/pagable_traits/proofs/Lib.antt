@@ -9,6 +9,7 @@ pub mod Placed
 pub mod Sets
 pub mod Held
 pub mod Times
+pub mod InTurn
 pub mod Joined
 pub mod Cells
 pub mod Reordered

@@ -34,8 +34,7 @@ pub fn write_entry<E: Env, K: PagableSerialize<E>, V: PagableSerialize<E>, S: Pa
     ensures same_levels { S.levels serializer.new ≡ S.levels serializer.old }
 {
     key.pagable_serialize(serializer)?;
-    value.pagable_serialize(serializer)?;
-    Ok(())
+    value.pagable_serialize(serializer)
 }
 
 /// An entry whose key is there already gives its value to the key that stands.

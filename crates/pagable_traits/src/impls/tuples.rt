@@ -41,7 +41,8 @@ impl<
     ghost write_causes_may_refuse = { either_may_refuse_writing A.write_causes (either B.write_causes C.write_causes) A.write_causes_may_refuse (either_may_refuse_writing B.write_causes C.write_causes B.write_causes_may_refuse C.write_causes_may_refuse) };
 
     fn pagable_serialize<S: PagableSerializer<E>>(&self, serializer: &mut S) -> Result<(), Error> {
-        write_entry(&self.0, &(&self.1, &self.2), serializer)
+        self.0.pagable_serialize(serializer)?;
+        write_entry(&self.1, &self.2, serializer)
     }
 }
 
@@ -60,8 +61,9 @@ impl<
         alloc: Global,
         deserializer: &mut D,
     ) -> Result<Self, Error> {
-        let value: (A, (B, C)) = PagableDeserialize::pagable_deserialize(alloc, deserializer)?;
-        let (first, (second, third)) = value;
+        let first = A::pagable_deserialize(alloc, deserializer)?;
+        let others: (B, C) = PagableDeserialize::pagable_deserialize(alloc, deserializer)?;
+        let (second, third) = others;
         Ok((first, second, third))
     }
 }
@@ -96,7 +98,9 @@ impl<
     ghost write_causes_may_refuse = { either_may_refuse_writing A.write_causes (either B.write_causes (either C.write_causes D.write_causes)) A.write_causes_may_refuse (either_may_refuse_writing B.write_causes (either C.write_causes D.write_causes) B.write_causes_may_refuse (either_may_refuse_writing C.write_causes D.write_causes C.write_causes_may_refuse D.write_causes_may_refuse)) };
 
     fn pagable_serialize<S: PagableSerializer<E>>(&self, serializer: &mut S) -> Result<(), Error> {
-        write_entry(&self.0, &(&self.1, &self.2, &self.3), serializer)
+        self.0.pagable_serialize(serializer)?;
+        self.1.pagable_serialize(serializer)?;
+        write_entry(&self.2, &self.3, serializer)
     }
 }
 
@@ -116,8 +120,9 @@ impl<
         alloc: Global,
         deserializer: &mut X,
     ) -> Result<Self, Error> {
-        let value: (A, (B, C, D)) = PagableDeserialize::pagable_deserialize(alloc, deserializer)?;
-        let (first, (second, third, fourth)) = value;
+        let first = A::pagable_deserialize(alloc, deserializer)?;
+        let others: (B, C, D) = PagableDeserialize::pagable_deserialize(alloc, deserializer)?;
+        let (second, third, fourth) = others;
         Ok((first, second, third, fourth))
     }
 }
@@ -159,7 +164,10 @@ impl<
     ghost write_causes_may_refuse = { either_may_refuse_writing A.write_causes (either B.write_causes (either C.write_causes (either D.write_causes F.write_causes))) A.write_causes_may_refuse (either_may_refuse_writing B.write_causes (either C.write_causes (either D.write_causes F.write_causes)) B.write_causes_may_refuse (either_may_refuse_writing C.write_causes (either D.write_causes F.write_causes) C.write_causes_may_refuse (either_may_refuse_writing D.write_causes F.write_causes D.write_causes_may_refuse F.write_causes_may_refuse))) };
 
     fn pagable_serialize<S: PagableSerializer<E>>(&self, serializer: &mut S) -> Result<(), Error> {
-        write_entry(&self.0, &(&self.1, &self.2, &self.3, &self.4), serializer)
+        self.0.pagable_serialize(serializer)?;
+        self.1.pagable_serialize(serializer)?;
+        self.2.pagable_serialize(serializer)?;
+        write_entry(&self.3, &self.4, serializer)
     }
 }
 
@@ -180,11 +188,9 @@ impl<
         alloc: Global,
         deserializer: &mut X,
     ) -> Result<Self, Error> {
-        let value: (A, (B, C, D, F)) = PagableDeserialize::pagable_deserialize(
-            alloc,
-            deserializer,
-        )?;
-        let (first, (second, third, fourth, fifth)) = value;
+        let first = A::pagable_deserialize(alloc, deserializer)?;
+        let others: (B, C, D, F) = PagableDeserialize::pagable_deserialize(alloc, deserializer)?;
+        let (second, third, fourth, fifth) = others;
         Ok((first, second, third, fourth, fifth))
     }
 }

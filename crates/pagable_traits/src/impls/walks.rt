@@ -52,6 +52,5 @@ pub fn write_counted<
     ensures same_levels { S.levels serializer.new ≡ S.levels serializer.old }
 {
     write_count(count, serializer)?;
-    write_each(walk, serializer)?;
-    Ok(())
+    write_each(walk, serializer)
 }

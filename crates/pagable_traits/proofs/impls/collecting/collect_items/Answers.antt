@@ -35,34 +35,42 @@ loop-index-preserved g c =
       same_levels = c.in_ok-value.ensures.same_levels ∙ i.same_levels;
     }
 
-pub returns-in_err-value-clause-gives : goal.returns-in_err-value-clause-gives
-returns-in_err-value-clause-gives g c =
+pub returns-in_err-value : goal.returns-in_err-value
+returns-in_err-value g c =
     let p = err_from_is_err_and c.from_residual-in_err-value.result c.from_residual-in_err-value.ensures.1 in
     let env = g.D.PagableDeserializer.environment c.args.deserializer.now in
     let get = read (handles_at (g.D.PagableDeserializer.levels c.args.deserializer.now) (g.E.Env.parts env)) (g.T.Carried.shape env) in
     let i = c.loop-index.invariant in
-    rw (p.1, p.2) (ends g.T.PagableDeserialize.read_causes get _ i.gives.0 c.args.count c.loop-index.index (g.D.PagableDeserializer.rest c.loop-index.deserializer) (items get c.args.count (g.D.PagableDeserializer.rest c.args.deserializer.now)) c.loop-index-test.true
-    (rw (i.same_levels, i.same_env) at c.in_err-value.ensures.gives) i.gives.2)
+    let told = c.in_err-value.ensures in
+    rw (p.1, p.2) (record {
+      gives = ends g.T.PagableDeserialize.read_causes get _ i.gives.0 c.args.count c.loop-index.index (g.D.PagableDeserializer.rest c.loop-index.deserializer) (items get c.args.count (g.D.PagableDeserializer.rest c.args.deserializer.now)) c.loop-index-test.true
+          (rw (i.same_levels, i.same_env) at told.gives) i.gives.2;
+      moves = moves_trans _ _ _ i.moves told.moves;
+      same_env = told.same_env ∙ i.same_env;
+      same_levels = told.same_levels ∙ i.same_levels;
+    })
 
-pub returns-clause-gives : goal.returns-clause-gives
-returns-clause-gives g c =
+pub returns : goal.returns
+returns g c =
     let env = g.D.PagableDeserializer.environment c.args.deserializer.now in
     let get = read (handles_at (g.D.PagableDeserializer.levels c.args.deserializer.now) (g.E.Env.parts env)) (g.T.Carried.shape env) in
     let i = c.loop-index.invariant in
-    record { m = i.gives.0; is = i.gives.1; gave = is_done get i.gives.0 c.args.count c.loop-index.index (g.D.PagableDeserializer.rest c.loop-index.deserializer) (items get c.args.count (g.D.PagableDeserializer.rest c.args.deserializer.now)) c.loop-index-test.false i.gives.2 }
+    record {
+      gives = record { m = i.gives.0; is = i.gives.1; gave = is_done get i.gives.0 c.args.count c.loop-index.index (g.D.PagableDeserializer.rest c.loop-index.deserializer) (items get c.args.count (g.D.PagableDeserializer.rest c.args.deserializer.now)) c.loop-index-test.false i.gives.2 };
+      moves = i.moves;
+      same_env = i.same_env;
+      same_levels = i.same_levels;
+    }
 
-pub returns-in_err-collected-clause-gives : goal.returns-in_err-collected-clause-gives
-returns-in_err-collected-clause-gives g c =
+pub returns-in_err-collected : goal.returns-in_err-collected
+returns-in_err-collected g c =
     let p = err_from_is_err_and c.from_residual.result c.from_residual.ensures.1 in
-    rw (p.1, p.2) (inr (inl c.in_err-collected.ensures.only))
+    let placed = c.places_for-places.ensures in
+    rw (p.1, p.2) (record { gives = inr (inl c.in_err-collected.ensures.only); moves = placed.moves; same_env = placed.same_env; same_levels = placed.same_levels })
 
-pub returns-in_err-put_in-clause-gives : goal.returns-in_err-put_in-clause-gives
-returns-in_err-put_in-clause-gives g c =
+pub returns-in_err-put_in : goal.returns-in_err-put_in
+returns-in_err-put_in g c =
     let p = err_from_is_err_and c.from_residual-in_err-put_in.result c.from_residual-in_err-put_in.ensures.1 in
-    rw (p.1, p.2) (inr (inl c.in_err-put_in.ensures.only))
-
-pub returns-in_err-value-clause-moves : goal.returns-in_err-value-clause-moves
-returns-in_err-value-clause-moves g c = moves_trans _ _ _ c.loop-index.invariant.moves c.in_err-value.ensures.moves
-
-pub returns-in_err-put_in-clause-moves : goal.returns-in_err-put_in-clause-moves
-returns-in_err-put_in-clause-moves g c = moves_trans _ _ _ c.loop-index.invariant.moves c.in_ok-value.ensures.moves
+    let i = c.loop-index.invariant in
+    let told = c.in_ok-value.ensures in
+    rw (p.1, p.2) (record { gives = inr (inl c.in_err-put_in.ensures.only); moves = moves_trans _ _ _ i.moves told.moves; same_env = told.same_env ∙ i.same_env; same_levels = told.same_levels ∙ i.same_levels })

@@ -1,3 +1,4 @@
+use Rattle.std.proofs.Common.{◌∙◌}
 use Rattle.std.proofs.lemmas.Result.{err_from_is_err_and}
 use Rattle.pagable_model.specs.Gives.{memory_or}
 use Rattle.pagable_model.specs.Reading.{read}
@@ -6,19 +7,23 @@ use Rattle.pagable_codec.proofs.Reading.{moves_trans}
 use Rattle.pagable_traits.proofs.Collecting.{uncounted, gives_counted}
 use Rattle.pagable_traits.proofs.impls.collecting.read_collected.Goals as goal
 
-pub returns-in_err-count-clause-gives : goal.returns-in_err-count-clause-gives
-returns-in_err-count-clause-gives g c =
+pub returns-in_err-count : goal.returns-in_err-count
+returns-in_err-count g c =
     let p = err_from_is_err_and c.from_residual.result c.from_residual.ensures.1 in
     let env = g.D.PagableDeserializer.environment c.args.deserializer.now in
     let get = read (handles_at (g.D.PagableDeserializer.levels c.args.deserializer.now) (g.E.Env.parts env)) (g.T.Carried.shape env) in
-    rw (p.1, p.2) (uncounted (memory_or g.T.PagableDeserialize.read_causes) get (g.D.PagableDeserializer.rest c.args.deserializer.now) _ c.in_err-count.ensures.gives)
+    let told = c.in_err-count.ensures in
+    rw (p.1, p.2) (record { gives = uncounted (memory_or g.T.PagableDeserialize.read_causes) get (g.D.PagableDeserializer.rest c.args.deserializer.now) _ told.gives; moves = told.moves; same_env = told.same_env; same_levels = told.same_levels })
 
-pub returns-clause-gives : goal.returns-clause-gives
-returns-clause-gives g c =
+pub returns : goal.returns
+returns g c =
     let env = g.D.PagableDeserializer.environment c.args.deserializer.now in
     let get = read (handles_at (g.D.PagableDeserializer.levels c.args.deserializer.now) (g.E.Env.parts env)) (g.T.Carried.shape env) in
     let counted = c.in_ok-count.ensures in
-    gives_counted (memory_or g.T.PagableDeserialize.read_causes) _ c.collect_items.result get (g.D.PagableDeserializer.rest c.args.deserializer.now) _ _ _ counted.gives (rw (counted.same_levels, counted.same_env) at c.collect_items.ensures.gives)
-
-pub returns-clause-moves : goal.returns-clause-moves
-returns-clause-moves g c = moves_trans _ _ _ c.in_ok-count.ensures.moves c.collect_items.ensures.moves
+    let told = c.collect_items.ensures in
+    record {
+      gives = gives_counted (memory_or g.T.PagableDeserialize.read_causes) _ c.collect_items.result get (g.D.PagableDeserializer.rest c.args.deserializer.now) _ _ _ counted.gives (rw (counted.same_levels, counted.same_env) at told.gives);
+      moves = moves_trans _ _ _ counted.moves told.moves;
+      same_env = told.same_env ∙ counted.same_env;
+      same_levels = told.same_levels ∙ counted.same_levels;
+    }

@@ -21,25 +21,35 @@ loop-item-preserved g c =
       same_levels = wrote.same_levels ∙ i.same_levels;
     }
 
-pub returns-in_err-pagable_serialize-clause-refused : goal.returns-in_err-pagable_serialize-clause-refused
-returns-in_err-pagable_serialize-clause-refused g c =
+pub returns-in_err-pagable_serialize : goal.returns-in_err-pagable_serialize
+returns-in_err-pagable_serialize g c =
     let p = err_from_is_err_and c.from_residual.result c.from_residual.ensures.1 in
     let i = c.loop-item.invariant in
+    let told = c.in_err-pagable_serialize.ensures in
     rw (p.1, p.2) (record {
-      before = c.loop-item.yielded;
-      x = c.in-Some.item;
-      after = c.next.new.self;
-      yields = (c.loop-item.item-iterator, rw c.into_iter-item-iterator.ensures.into_iter_gives at c.loop-item.yielded_by, c.in-Some.ensures.steps);
-      refused = rw (i.same_levels, i.same_env) at c.in_err-pagable_serialize.ensures.refused;
+      ok = tt;
+      refused = record {
+        before = c.loop-item.yielded;
+        x = c.in-Some.item;
+        after = c.next.new.self;
+        yields = (c.loop-item.item-iterator, rw c.into_iter-item-iterator.ensures.into_iter_gives at c.loop-item.yielded_by, c.in-Some.ensures.steps);
+        refused = rw (i.same_levels, i.same_env) at told.refused;
+      };
+      only = told.only;
+      err = grows_trans _ _ _ (grows_some_all _ _ _ _ _ i.ok) told.err;
+      same_env = told.same_env ∙ i.same_env;
+      same_levels = told.same_levels ∙ i.same_levels;
     })
 
-pub returns-in_err-pagable_serialize-clause-err : goal.returns-in_err-pagable_serialize-clause-err
-returns-in_err-pagable_serialize-clause-err g c = grows_trans _ _ _ (grows_some_all _ _ _ _ _ c.loop-item.invariant.ok) c.in_err-pagable_serialize.ensures.err
-
-pub returns-clause-ok : goal.returns-clause-ok
-returns-clause-ok g c =
+pub returns : goal.returns
+returns g c =
     let by = rw c.into_iter-item-iterator.ensures.into_iter_gives at c.loop-item.yielded_by in
-    record { xs = c.loop-item.yielded; all = (c.next.new.self, (c.loop-item.item-iterator, by, c.in-None.ensures.steps)); wrote = c.loop-item.invariant.ok }
-
-pub returns-clause-err : goal.returns-clause-err
-returns-clause-err g c = grows_some_all _ _ _ _ _ c.loop-item.invariant.ok
+    let i = c.loop-item.invariant in
+    record {
+      ok = record { xs = c.loop-item.yielded; all = (c.next.new.self, (c.loop-item.item-iterator, by, c.in-None.ensures.steps)); wrote = i.ok };
+      refused = tt;
+      only = tt;
+      err = grows_some_all _ _ _ _ _ i.ok;
+      same_env = i.same_env;
+      same_levels = i.same_levels;
+    }

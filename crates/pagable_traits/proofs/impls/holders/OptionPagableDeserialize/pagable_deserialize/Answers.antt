@@ -1,32 +1,48 @@
+use Rattle.std.proofs.Common.{◌∙◌}
 use Rattle.std.proofs.lemmas.Result.{err_from_is_err_and}
 use Rattle.pagable_model.specs.Standing.{handles_at}
+use Rattle.pagable_codec.proofs.Reading.{moves_trans}
 use Rattle.pagable_traits.proofs.Held.{option_unflagged, option_absent, option_refused, option_present}
 use Rattle.pagable_traits.proofs.impls.holders.OptionPagableDeserialize.pagable_deserialize.Goals as goal
 
-pub returns-in_err-read_flag-clause-gives : goal.returns-in_err-read_flag-clause-gives
-returns-in_err-read_flag-clause-gives g c =
+pub returns-in_err-read_flag : goal.returns-in_err-read_flag
+returns-in_err-read_flag g c =
     let p = err_from_is_err_and c.from_residual.result c.from_residual.ensures.1 in
     let env = g.D.PagableDeserializer.environment c.args.deserializer.now in
     let context = handles_at (g.D.PagableDeserializer.levels c.args.deserializer.now) (g.E.Env.parts env) in
-    rw (p.1, p.2) (option_unflagged g.T.PagableDeserialize.read_causes context (g.T.Carried.shape env) _ (g.D.PagableDeserializer.rest c.args.deserializer.now) c.in_err-read_flag.ensures.gives)
+    let told = c.in_err-read_flag.ensures in
+    rw (p.1, p.2) (record { gives = option_unflagged g.T.PagableDeserialize.read_causes context (g.T.Carried.shape env) _ (g.D.PagableDeserializer.rest c.args.deserializer.now) told.gives; moves = told.moves; same_env = told.same_env; same_levels = told.same_levels })
 
-pub returns-then-not-branch-clause-gives : goal.returns-then-not-branch-clause-gives
-returns-then-not-branch-clause-gives g c =
+pub returns-then-not-branch : goal.returns-then-not-branch
+returns-then-not-branch g c =
     let env = g.D.PagableDeserializer.environment c.args.deserializer.now in
     let context = handles_at (g.D.PagableDeserializer.levels c.args.deserializer.now) (g.E.Env.parts env) in
-    option_absent g.T.Carried.means context (g.T.Carried.shape env) (g.D.PagableDeserializer.rest c.args.deserializer.now) _ _ c.if-not-branch.true c.in_ok-read_flag.ensures.gives
+    let told = c.in_ok-read_flag.ensures in
+    record { gives = option_absent g.T.Carried.means context (g.T.Carried.shape env) (g.D.PagableDeserializer.rest c.args.deserializer.now) _ _ c.if-not-branch.true told.gives; moves = told.moves; same_env = told.same_env; same_levels = told.same_levels }
 
-pub returns-in_err-value-clause-gives : goal.returns-in_err-value-clause-gives
-returns-in_err-value-clause-gives g c =
+pub returns-in_err-value : goal.returns-in_err-value
+returns-in_err-value g c =
     let p = err_from_is_err_and c.from_residual-in_err-value.result c.from_residual-in_err-value.ensures.1 in
     let env = g.D.PagableDeserializer.environment c.args.deserializer.now in
     let context = handles_at (g.D.PagableDeserializer.levels c.args.deserializer.now) (g.E.Env.parts env) in
     let told = c.in_ok-read_flag.ensures in
-    rw (p.1, p.2) (option_refused g.T.PagableDeserialize.read_causes context (g.T.Carried.shape env) _ (g.D.PagableDeserializer.rest c.args.deserializer.now) _ _ c.if-not-branch.false told.gives (rw (told.same_levels, told.same_env) at c.in_err-value.ensures.gives))
+    let part = c.in_err-value.ensures in
+    rw (p.1, p.2) (record {
+      gives = option_refused g.T.PagableDeserialize.read_causes context (g.T.Carried.shape env) _ (g.D.PagableDeserializer.rest c.args.deserializer.now) _ _ c.if-not-branch.false told.gives (rw (told.same_levels, told.same_env) at part.gives);
+      moves = moves_trans _ _ _ told.moves part.moves;
+      same_env = part.same_env ∙ told.same_env;
+      same_levels = part.same_levels ∙ told.same_levels;
+    })
 
-pub returns-clause-gives : goal.returns-clause-gives
-returns-clause-gives g c =
+pub returns : goal.returns
+returns g c =
     let env = g.D.PagableDeserializer.environment c.args.deserializer.now in
     let context = handles_at (g.D.PagableDeserializer.levels c.args.deserializer.now) (g.E.Env.parts env) in
     let told = c.in_ok-read_flag.ensures in
-    option_present g.T.Carried.means context (g.T.Carried.shape env) _ (g.D.PagableDeserializer.rest c.args.deserializer.now) _ _ _ c.if-not-branch.false told.gives (rw (told.same_levels, told.same_env) at c.in_ok-value.ensures.gives)
+    let part = c.in_ok-value.ensures in
+    record {
+      gives = option_present g.T.Carried.means context (g.T.Carried.shape env) _ (g.D.PagableDeserializer.rest c.args.deserializer.now) _ _ _ c.if-not-branch.false told.gives (rw (told.same_levels, told.same_env) at part.gives);
+      moves = moves_trans _ _ _ told.moves part.moves;
+      same_env = part.same_env ∙ told.same_env;
+      same_levels = part.same_levels ∙ told.same_levels;
+    }

@@ -1,10 +1,13 @@
-use Rattle.std.proofs.lemmas.Result.{err_from_is_err_and}
+use Rattle.pagable_model.specs.Lifted.{MeansPair}
+use Rattle.pagable_model.specs.Shape.{both}
+use Rattle.pagable_traits.proofs.InTurn.{first-unread, second-unread, both-read}
 use Rattle.pagable_traits.proofs.impls.tuples.Tuple3PagableDeserialize.pagable_deserialize.Goals as goal
 
-pub returns-in_err-value-clause-gives : goal.returns-in_err-value-clause-gives
-returns-in_err-value-clause-gives g c =
-    let p = err_from_is_err_and c.from_residual.result c.from_residual.ensures.1 in
-    rw (p.1, p.2) c.in_err-value.ensures.gives
+pub returns-in_err-first : goal.returns-in_err-first
+returns-in_err-first g c = first-unread g.E.Env g.D.PagableDeserializer _ g.A.Carried.shape (λ k. both (g.B.Carried.shape k) (g.C.Carried.shape k)) _ _ c.from_residual.result c.from_residual.ensures.1 c.in_err-first.ensures
 
-pub returns-clause-gives : goal.returns-clause-gives
-returns-clause-gives g c = c.in_ok-value.ensures.gives
+pub returns-in_err-others : goal.returns-in_err-others
+returns-in_err-others g c = second-unread g.E.Env g.D.PagableDeserializer _ _ g.A.Carried.shape (λ k. both (g.B.Carried.shape k) (g.C.Carried.shape k)) _ _ c.from_residual-in_err-others.result c.from_residual-in_err-others.ensures.1 c.in_ok-first.ensures c.in_err-others.ensures
+
+pub returns : goal.returns
+returns g c = both-read g.E.Env g.D.PagableDeserializer c.in_ok-first.first c.in_ok-others.others g.A.Carried.means (MeansPair g.B.Carried.means g.C.Carried.means) g.A.Carried.shape (λ k. both (g.B.Carried.shape k) (g.C.Carried.shape k)) c.in_ok-first.ensures c.in_ok-others.ensures (λ m h. h)
