@@ -34,6 +34,7 @@ pub mod pagable_arc {
 /// What a call of this crate answers: what it gives, or why it is refused.
 pub type Result<O> = std::result::Result<O, Error>;
 
+pub use pagable_codec::parts;
 pub use pagable_core::{
     InMemoryBlobs, NoReferences, PagableData, PagableDeserializerImpl, PagableKeys,
     PagableSerializerImpl, PagableStorage, References, SerializedData, SerializerForPaging,

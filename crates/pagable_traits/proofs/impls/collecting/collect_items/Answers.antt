@@ -12,10 +12,10 @@ loop-index-init g c =
     let env = g.D.PagableDeserializer.environment c.args.deserializer.now in
     let get = read (handles_at (g.D.PagableDeserializer.levels c.args.deserializer.now) (g.E.Env.parts env)) (g.T.Carried.shape env) in
     record {
-      gives = ([], collected_none g.T.Carried.means g.C.Collects.puts _ c.in_ok-collected.ensures.empty, rw c.places_for-places.ensures.same_rest (starts get c.args.count (g.D.PagableDeserializer.rest c.args.deserializer.now)));
-      moves = c.places_for-places.ensures.moves;
-      same_env = c.places_for-places.ensures.same_env;
-      same_levels = c.places_for-places.ensures.same_levels;
+      gives = ([], collected_none g.T.Carried.means g.C.Collects.puts _ c.in_ok-collected.ensures.empty, rw c.in_ok-collected.ensures.same_rest (starts get c.args.count (g.D.PagableDeserializer.rest c.args.deserializer.now)));
+      moves = c.in_ok-collected.ensures.moves;
+      same_env = c.in_ok-collected.ensures.same_env;
+      same_levels = c.in_ok-collected.ensures.same_levels;
     }
 
 pub loop-index-preserved : goal.loop-index-preserved
