@@ -1,4 +1,5 @@
-// Refuses one request for memory of a program: the one whose number, from 1, stands in REFUSE_AT. Tells it on descriptor 9.
+// Refuses requests for memory of a program: the one whose number, from 1, stands in REFUSE_AT, and each of more bytes than
+// REFUSE_ABOVE. Tells each on descriptor 9.
 #define _GNU_SOURCE
 #include <dlfcn.h>
 #include <errno.h>
@@ -6,14 +7,16 @@
 #include <stdlib.h>
 #include <unistd.h>
 
-static long count, at = -1;
+static long count, at = -1, above;
 
-static int is_refused(void) {
+static int is_refused(size_t size) {
     if (at == -1) {
-        const char *word = getenv("REFUSE_AT");
+        const char *word = getenv("REFUSE_AT"), *most = getenv("REFUSE_ABOVE");
         at = word ? atol(word) : 0;
+        above = most ? atol(most) : 0;
     }
-    if (at == 0 || ++count != at) return 0;
+    ++count;
+    if (count != at && (above == 0 || size <= (size_t)above)) return 0;
     if (write(9, "refused\n", 8) != 8) _exit(3);
     errno = ENOMEM;
     return 1;
@@ -25,20 +28,20 @@ static int is_refused(void) {
 
 void *malloc(size_t size) {
     REAL(malloc);
-    return is_refused() ? NULL : real(size);
+    return is_refused(size) ? NULL : real(size);
 }
 
 void *realloc(void *old, size_t size) {
     REAL(realloc);
-    return is_refused() ? NULL : real(old, size);
+    return is_refused(size) ? NULL : real(old, size);
 }
 
 void *aligned_alloc(size_t align, size_t size) {
     REAL(aligned_alloc);
-    return is_refused() ? NULL : real(align, size);
+    return is_refused(size) ? NULL : real(align, size);
 }
 
 int posix_memalign(void **made, size_t align, size_t size) {
     REAL(posix_memalign);
-    return is_refused() ? ENOMEM : real(made, align, size);
+    return is_refused(size) ? ENOMEM : real(made, align, size);
 }
