@@ -13,11 +13,10 @@ ghost use Rattle.pagable_model.specs.Standing.{Is, MovesOn};
 ghost use Rattle.pagable_traits.specs.JsonData.{of_value, of_key};
 ghost use Rattle.pagable_traits.specs.JsonSteps.{Reads, part_of, ObjectOf};
 
-use crate::impls::collecting::with_room;
 use crate::traits::PagableDeserialize;
 use pagable_codec::deserializer::PagableDeserializer;
 use pagable_codec::env::Env;
-use pagable_codec::parts::{read_count, read_flag};
+use pagable_codec::parts::{places_for, read_count, read_flag};
 use pagable_codec::reader::Reader;
 use pagable_flavors::Error;
 use serde_json::Value;
@@ -107,7 +106,7 @@ fn array_part<E: Env, D: PagableDeserializer<E>>(
     read
 }
 
-// Reads an array of this many items, for which room is made by `with_room`.
+// Reads an array of this many items. As many places as bytes are left are reserved at most.
 #[cycle(reading_json)]
 fn read_items<E: Env, D: PagableDeserializer<E>>(
     alloc: Global,
@@ -116,7 +115,8 @@ fn read_items<E: Env, D: PagableDeserializer<E>>(
 ) -> Result<Value, Error>
     ensures { Reads E.Env D.PagableDeserializer (Is of_value) (λ c. seen (λ ms. variant 4 (sequence ms)) (items_at (read c json) count)) deserializer.old deserializer.new result }
 {
-    let mut values: Vec<Value> = with_room(alloc, count, deserializer)?;
+    let places = places_for(count, deserializer);
+    let mut values = Vec::with_capacity(alloc, places)?;
     for index in 0..count {
         let value = read_value(alloc, deserializer)?;
         values.push(value)?;
