@@ -1,5 +1,5 @@
 -- One value after another: what the writers and the readers of two values owe, the writer and the reader of both owe.
-use Rattle.std.proofs.Common.{◌≡◌, ◌≤◌, ℕ, [], refl, ◌∙◌, Option, Result, Ok, Err, inl, inr}
+use Rattle.std.proofs.Common.{◌≡◌, ◌≤◌, ℕ, [], ◌∙◌, Option, Result, Ok, Err, inl, inr}
 use Rattle.std.proofs.lemmas.Result.{err_from_is_err_and}
 use Rattle.std.specs.Prelude.{OnOk, IfErr, ◌⊎◌}
 use Rattle.std.specs.Result.{IsErrAnd}
@@ -145,6 +145,16 @@ module _ {D E R N H K V : Type 0} (env : Environments E N H K V) (d : Deserializ
         same_env = told.same_env ∙ gave.same_env;
         same_levels = told.same_levels ∙ gave.same_levels;
       })
+
+  -- what is to be put into a box was refused
+  pub boxed-unread : {Z : Type 0} (L : Z → Meaning ArcRef → Type 0) (shape : E → Shape) (causes : Error → Type 0) {a b : D} {e : Error} (r : Result Z Error) → IsErrAnd r (λ f. f ≡ e) → Refuses shape causes a b e → Tells L shape (memory_or causes) a b r
+  boxed-unread L shape causes r is told =
+      let q = err_from_is_err_and r is in
+      rw (q.1, q.2) (record { gives = or-memory told.gives; moves = told.moves; same_env = told.same_env; same_levels = told.same_levels })
+    where
+      or-memory : {P : Type 0} {Q : Type 0} {M : Type 0} → P ⊎ Q → P ⊎ (M ⊎ Q)
+      or-memory (inl p) = inl p
+      or-memory (inr q) = inr (inr q)
 
   -- both were read
   pub both-read : {X Y : Type 0} (x : X) (y : Y) (M : X → Meaning ArcRef → Type 0) (N : Y → Meaning ArcRef → Type 0) {W : Meaning ArcRef → Type 0} (t u : E → Shape) {a b c : D} → Given (M x) t a b → Given (N y) u b c → ((m : Meaning ArcRef) → MeansPair M N (x, y) m → W m) → Given W (λ k. both (t k) (u k)) a c

@@ -45,7 +45,6 @@ impl<'de, E: Env, T: PagableDeserialize<'de, E> + Drop> PagableBoxDeserialize<'d
         alloc: Global,
         deserializer: &mut D,
     ) -> Result<Box<Self>, Error> {
-        let value = T::pagable_deserialize(alloc, deserializer)?;
-        Ok(Box::new(alloc, value)?)
+        PagableDeserialize::<E>::pagable_deserialize(alloc, deserializer)
     }
 }

@@ -8,6 +8,7 @@ ghost use Rattle.pagable_model.specs.Meaning.{text as text_meaning};
 ghost use Rattle.pagable_model.specs.Standing.{Is};
 ghost use Rattle.pagable_model.specs.Causes.{memory_is_own_reading, text_may_refuse_writing};
 
+use crate::impls::boxed_texts::serialize_str;
 use crate::traits::{Carried, OneMeaning, PagableDeserialize, PagableSerialize};
 use pagable_codec::deserializer::PagableDeserializer;
 use pagable_codec::env::Env;
@@ -37,9 +38,8 @@ impl<E: Env> PagableSerialize<E> for String {
 
     ghost write_causes_may_refuse = { text_may_refuse_writing };
 
-    #[tactic(auto, using(pagable_codec::proofs::Writing::parts))]
     fn pagable_serialize<S: PagableSerializer<E>>(&self, serializer: &mut S) -> Result<(), Error> {
-        serializer.serde().write_str(self.as_str())
+        serialize_str(self.as_str(), serializer)
     }
 }
 

@@ -1,15 +1,20 @@
 use Rattle.std.proofs.Common.{refl}
 use Rattle.pagable_model.specs.Meaning as meanings
 use Rattle.pagable_codec.proofs.Writing.{refused_text, only_long}
+use Rattle.pagable_traits.proofs.Basics.{wrote_on}
 use Rattle.pagable_traits.proofs.Joined.{writes_str}
 use Rattle.pagable_traits.proofs.impls.boxed_texts.serialize_str.Goals as goal
 
-pub returns-clause-ok : goal.returns-clause-ok
-returns-clause-ok g c =
-    writes_str _ _ _ _ _ _ _ c.serde.ensures.value (g.met.S.PagableSerializer.out_of_with c.args.serializer.now _) c.utf8.text c.write_str.ensures.fits c.write_str.ensures.ok
-
-pub returns-clause-refused : goal.returns-clause-refused
-returns-clause-refused g c = refused_text _ meanings.text _ _ _ refl c.write_str.ensures.only
-
-pub returns-clause-only : goal.returns-clause-only
-returns-clause-only g c = only_long _ _ c.write_str.ensures.only
+pub returns : goal.returns
+returns g c =
+    let law = g.met.S.PagableSerializer in
+    let now = c.args.serializer.now in
+    let told = c.write_str.ensures in
+    record {
+      ok = writes_str _ _ _ _ _ _ _ c.serde.ensures.value (law.out_of_with now _) c.utf8.text told.fits told.ok;
+      refused = refused_text _ meanings.text _ _ _ refl told.only;
+      only = only_long _ _ told.only;
+      err = wrote_on _ _ _ _ c.serde.ensures.value (law.out_of_with now _) told.err;
+      same_env = law.environment_of_with now _;
+      same_levels = law.levels_of_with now _;
+    }

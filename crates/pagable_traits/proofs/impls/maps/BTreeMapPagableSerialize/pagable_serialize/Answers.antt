@@ -4,22 +4,21 @@ use Rattle.pagable_traits.proofs.Walks.{shows_entries, written_counted, refused_
 use Rattle.pagable_traits.proofs.Maps.{key-order, wraps_sorted_map}
 use Rattle.pagable_traits.proofs.impls.maps.BTreeMapPagableSerialize.pagable_serialize.Goals as goal
 
-pub returns-clause-ok : goal.returns-clause-ok
-returns-clause-ok g c =
+pub returns : goal.returns
+returns g c =
     let env = g.S.PagableSerializer.environment c.args.serializer.now in
     let n = nesting (g.S.PagableSerializer.levels c.args.serializer.now) (g.E.Env.parts env) in
     let same = key-order g.K.Carried.means g.K.OneMeaning.meaning g.met.K.OneMeaning.single g.K.Ord.cmp g.K.PagableOrdKey.order g.met.K.PagableOrdKey.is_order g.met.K.Ord.total in
     let shows = shows_entries g.K.Carried.means g.V.Carried.means c.args.self.now.entries c.iter.ensures.rest in
     let wraps = wraps_sorted_map g.K.Carried.means g.V.Carried.means g.K.Ord.cmp g.K.PagableOrdKey.order same c.args.self.now.entries n (g.K.Carried.shape env) (g.V.Carried.shape env) c.len.ensures.ordered in
     let out = g.S.PagableSerializer.out in
-    written_counted c.write_counted.result c.len.result (out c.args.serializer.now) (out c.write_counted.new.serializer) shows wraps c.len.ensures.len c.write_counted.ensures.ok
-
-pub returns-clause-refused : goal.returns-clause-refused
-returns-clause-refused g c =
-    let env = g.S.PagableSerializer.environment c.args.serializer.now in
-    let n = nesting (g.S.PagableSerializer.levels c.args.serializer.now) (g.E.Env.parts env) in
-    let same = key-order g.K.Carried.means g.K.OneMeaning.meaning g.met.K.OneMeaning.single g.K.Ord.cmp g.K.PagableOrdKey.order g.met.K.PagableOrdKey.is_order g.met.K.Ord.total in
-    let shows = shows_entries g.K.Carried.means g.V.Carried.means c.args.self.now.entries c.iter.ensures.rest in
-    let wraps = wraps_sorted_map g.K.Carried.means g.V.Carried.means g.K.Ord.cmp g.K.PagableOrdKey.order same c.args.self.now.entries n (g.K.Carried.shape env) (g.V.Carried.shape env) c.len.ensures.ordered in
     let has = pair_has_meaning g.K.Carried.means g.V.Carried.means g.K.Carried.has_meaning g.V.Carried.has_meaning in
-    refused_counted c.write_counted.result c.len.result shows wraps has c.len.ensures.len c.write_counted.ensures.refused
+    let told = c.write_counted.ensures in
+    record {
+      ok = written_counted c.write_counted.result c.len.result (out c.args.serializer.now) (out c.write_counted.new.serializer) shows wraps c.len.ensures.len c.write_counted.ensures.ok;
+      refused = refused_counted c.write_counted.result c.len.result shows wraps has c.len.ensures.len c.write_counted.ensures.refused;
+      only = told.only;
+      err = told.err;
+      same_env = told.same_env;
+      same_levels = told.same_levels;
+    }

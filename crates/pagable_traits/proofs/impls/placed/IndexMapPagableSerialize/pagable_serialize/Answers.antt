@@ -4,22 +4,21 @@ use Rattle.pagable_traits.proofs.Walks.{shows_entries, written_counted, refused_
 use Rattle.pagable_traits.proofs.Placed.{key-same, wraps_placed_map}
 use Rattle.pagable_traits.proofs.impls.placed.IndexMapPagableSerialize.pagable_serialize.Goals as goal
 
-pub returns-clause-ok : goal.returns-clause-ok
-returns-clause-ok g c =
+pub returns : goal.returns
+returns g c =
     let env = g.S.PagableSerializer.environment c.args.serializer.now in
     let n = nesting (g.S.PagableSerializer.levels c.args.serializer.now) (g.E.Env.parts env) in
     let same = key-same g.K.Carried.means g.K.OneMeaning.meaning g.met.K.OneMeaning.single g.K.PartialEq.eq g.met.K.PagableKey.same g.met.K.Eq.laws in
     let shows = shows_entries g.K.Carried.means g.V.Carried.means c.args.self.now.entries c.iter.ensures.rest in
     let wraps = wraps_placed_map g.K.Carried.means g.V.Carried.means g.K.PartialEq.eq same c.args.self.now.entries n (g.K.Carried.shape env) (g.V.Carried.shape env) c.len.ensures.unique in
     let out = g.S.PagableSerializer.out in
-    written_counted c.write_counted.result c.len.result (out c.args.serializer.now) (out c.write_counted.new.serializer) shows wraps c.len.ensures.len c.write_counted.ensures.ok
-
-pub returns-clause-refused : goal.returns-clause-refused
-returns-clause-refused g c =
-    let env = g.S.PagableSerializer.environment c.args.serializer.now in
-    let n = nesting (g.S.PagableSerializer.levels c.args.serializer.now) (g.E.Env.parts env) in
-    let same = key-same g.K.Carried.means g.K.OneMeaning.meaning g.met.K.OneMeaning.single g.K.PartialEq.eq g.met.K.PagableKey.same g.met.K.Eq.laws in
-    let shows = shows_entries g.K.Carried.means g.V.Carried.means c.args.self.now.entries c.iter.ensures.rest in
-    let wraps = wraps_placed_map g.K.Carried.means g.V.Carried.means g.K.PartialEq.eq same c.args.self.now.entries n (g.K.Carried.shape env) (g.V.Carried.shape env) c.len.ensures.unique in
     let has = pair_has_meaning g.K.Carried.means g.V.Carried.means g.K.Carried.has_meaning g.V.Carried.has_meaning in
-    refused_counted c.write_counted.result c.len.result shows wraps has c.len.ensures.len c.write_counted.ensures.refused
+    let told = c.write_counted.ensures in
+    record {
+      ok = written_counted c.write_counted.result c.len.result (out c.args.serializer.now) (out c.write_counted.new.serializer) shows wraps c.len.ensures.len c.write_counted.ensures.ok;
+      refused = refused_counted c.write_counted.result c.len.result shows wraps has c.len.ensures.len c.write_counted.ensures.refused;
+      only = told.only;
+      err = told.err;
+      same_env = told.same_env;
+      same_levels = told.same_levels;
+    }

@@ -4,21 +4,20 @@ use Rattle.pagable_traits.proofs.Maps.{key-order}
 use Rattle.pagable_traits.proofs.Sets.{wraps_sorted_set}
 use Rattle.pagable_traits.proofs.impls.sets.BTreeSetPagableSerialize.pagable_serialize.Goals as goal
 
-pub returns-clause-ok : goal.returns-clause-ok
-returns-clause-ok g c =
+pub returns : goal.returns
+returns g c =
     let env = g.S.PagableSerializer.environment c.args.serializer.now in
     let n = nesting (g.S.PagableSerializer.levels c.args.serializer.now) (g.E.Env.parts env) in
     let same = key-order g.T.Carried.means g.T.OneMeaning.meaning g.met.T.OneMeaning.single g.T.Ord.cmp g.T.PagableOrdKey.order g.met.T.PagableOrdKey.is_order g.met.T.Ord.total in
     let shows = shows_items g.T.Carried.means c.args.self.now.keys c.iter.ensures.rest in
     let wraps = wraps_sorted_set g.T.Carried.means g.T.Ord.cmp g.T.PagableOrdKey.order same c.args.self.now.keys n (g.T.Carried.shape env) c.len.ensures.ordered in
     let out = g.S.PagableSerializer.out in
-    written_counted c.write_counted.result c.len.result (out c.args.serializer.now) (out c.write_counted.new.serializer) shows wraps c.len.ensures.len c.write_counted.ensures.ok
-
-pub returns-clause-refused : goal.returns-clause-refused
-returns-clause-refused g c =
-    let env = g.S.PagableSerializer.environment c.args.serializer.now in
-    let n = nesting (g.S.PagableSerializer.levels c.args.serializer.now) (g.E.Env.parts env) in
-    let same = key-order g.T.Carried.means g.T.OneMeaning.meaning g.met.T.OneMeaning.single g.T.Ord.cmp g.T.PagableOrdKey.order g.met.T.PagableOrdKey.is_order g.met.T.Ord.total in
-    let shows = shows_items g.T.Carried.means c.args.self.now.keys c.iter.ensures.rest in
-    let wraps = wraps_sorted_set g.T.Carried.means g.T.Ord.cmp g.T.PagableOrdKey.order same c.args.self.now.keys n (g.T.Carried.shape env) c.len.ensures.ordered in
-    refused_counted c.write_counted.result c.len.result shows wraps g.T.Carried.has_meaning c.len.ensures.len c.write_counted.ensures.refused
+    let told = c.write_counted.ensures in
+    record {
+      ok = written_counted c.write_counted.result c.len.result (out c.args.serializer.now) (out c.write_counted.new.serializer) shows wraps c.len.ensures.len c.write_counted.ensures.ok;
+      refused = refused_counted c.write_counted.result c.len.result shows wraps g.T.Carried.has_meaning c.len.ensures.len c.write_counted.ensures.refused;
+      only = told.only;
+      err = told.err;
+      same_env = told.same_env;
+      same_levels = told.same_levels;
+    }

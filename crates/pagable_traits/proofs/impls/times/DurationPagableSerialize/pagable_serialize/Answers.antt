@@ -1,7 +1,18 @@
+use Rattle.pagable_codec.proofs.Writing.{refused_memory}
+use Rattle.pagable_traits.proofs.Basics.{wrote_on}
 use Rattle.pagable_traits.proofs.Times.{writes_span}
 use Rattle.pagable_traits.proofs.impls.times.DurationPagableSerialize.pagable_serialize.Goals as goal
 
-pub returns-clause-ok : goal.returns-clause-ok
-returns-clause-ok g c =
-    let start = c.args.serializer.now in
-    writes_span _ _ _ _ _ _ _ c.serde.ensures.value (g.met.S.PagableSerializer.out_of_with start _) c.write_span.ensures.fits c.write_span.ensures.ok
+pub returns : goal.returns
+returns g c =
+    let law = g.met.S.PagableSerializer in
+    let now = c.args.serializer.now in
+    let told = c.write_span.ensures in
+    record {
+      ok = writes_span _ _ _ _ _ _ _ c.serde.ensures.value (law.out_of_with now _) told.fits told.ok;
+      refused = refused_memory _ _ _ _ told.only;
+      only = told.only;
+      err = wrote_on _ _ _ _ c.serde.ensures.value (law.out_of_with now _) told.err;
+      same_env = law.environment_of_with now _;
+      same_levels = law.levels_of_with now _;
+    }
