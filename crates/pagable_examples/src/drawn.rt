@@ -34,36 +34,33 @@ impl Draws {
     }
 }
 
-/// Appends numbers of each length from 1 bit to 64.
-fn append_numbers(out: &mut PagableVecFlavor, count: u32) -> Result<(), Error> {
-    let mut draws = Draws::new(1);
-    for place in 0..count {
-        out.write_u64(draws.number() >> (place % 64))?;
-    }
-    Ok(())
+/// What is drawn for each place of an input.
+#[derive(Clone, Copy)]
+enum Drawn {
+    /// A number; those of all places have each length from 1 bit to 64.
+    Number,
+    Byte,
+    /// A text of 0 to 31 letters.
+    Text,
+    /// A map under a key of 64 bits.
+    Map,
+    /// A text of 12 to 27 letters, and a number of 32 bits.
+    Entry,
 }
 
-/// Appends bytes.
-fn append_bytes(out: &mut PagableVecFlavor, count: u32) -> Result<(), Error> {
-    let mut draws = Draws::new(2);
-    for _ in 0..count {
-        out.write_u8((draws.number() >> 56) as u8)?;
-    }
-    Ok(())
-}
-
-/// Appends texts of 0 to 31 letters.
-fn append_texts(alloc: Global, out: &mut PagableVecFlavor, count: u32) -> Result<(), Error> {
-    let mut draws = Draws::new(3);
-    for _ in 0..count {
-        let letters = draws.number() % 32;
-        out.write_bytes(draws.text(alloc, letters)?.as_str().as_bytes())?;
-    }
-    Ok(())
+/// Appends a text of so many letters.
+fn append_text(
+    alloc: Global,
+    letters: u64,
+    draws: &mut Draws,
+    out: &mut PagableVecFlavor,
+) -> Result<(), Error> {
+    let text = draws.text(alloc, letters)?;
+    out.write_str(text.as_str())
 }
 
 /// Appends a map of 400 entries, with keys of 48 bits and numbers of each length from 1 bit to 64.
-fn append_map(out: &mut PagableVecFlavor, draws: &mut Draws) -> Result<(), Error> {
+fn append_map(draws: &mut Draws, out: &mut PagableVecFlavor) -> Result<(), Error> {
     out.write_u32(400)?;
     for place in 0..400u32 {
         out.write_u64(draws.number() >> 16)?;
@@ -72,25 +69,28 @@ fn append_map(out: &mut PagableVecFlavor, draws: &mut Draws) -> Result<(), Error
     Ok(())
 }
 
-/// Appends maps, each under a key of 64 bits.
-fn append_maps(out: &mut PagableVecFlavor, count: u32) -> Result<(), Error> {
-    let mut draws = Draws::new(4);
-    for _ in 0..count {
-        out.write_u64(draws.number())?;
-        append_map(out, &mut draws)?;
+/// Appends what is drawn for this place.
+fn append(
+    alloc: Global,
+    drawn: Drawn,
+    place: u32,
+    draws: &mut Draws,
+    out: &mut PagableVecFlavor,
+) -> Result<(), Error> {
+    let number = draws.number();
+    match drawn {
+        Drawn::Number => out.write_u64(number >> (place % 64)),
+        Drawn::Byte => out.write_u8((number >> 56) as u8),
+        Drawn::Text => append_text(alloc, number % 32, draws, out),
+        Drawn::Map => {
+            out.write_u64(number)?;
+            append_map(draws, out)
+        }
+        Drawn::Entry => {
+            append_text(alloc, 12 + number % 16, draws, out)?;
+            out.write_u64(draws.number() >> 32)
+        }
     }
-    Ok(())
-}
-
-/// Appends entries in order of arrival: texts of 12 to 27 letters, and numbers of 32 bits.
-fn append_ordered(alloc: Global, out: &mut PagableVecFlavor, count: u32) -> Result<(), Error> {
-    let mut draws = Draws::new(5);
-    for _ in 0..count {
-        let letters = 12 + draws.number() % 16;
-        out.write_bytes(draws.text(alloc, letters)?.as_str().as_bytes())?;
-        out.write_u64(draws.number() >> 32)?;
-    }
-    Ok(())
 }
 
 /// The name of a type, and the bytes of a value of it that holds so many drawn ones; None for another name than `numbers`,
@@ -100,22 +100,19 @@ pub fn input_of(
     name: &str,
     count: u32,
 ) -> Result<Option<(&'static str, Vec<u8>)>, Error> {
-    let mut out = PagableVecFlavor::new(alloc);
-    out.write_u32(count)?;
-    let (name_of_type, done) = match name {
-        "numbers" => ("Vec<u64>", append_numbers(&mut out, count)),
-        "bytes" => ("Vec<u8>", append_bytes(&mut out, count)),
-        "texts" => ("Vec<String>", append_texts(alloc, &mut out, count)),
-        "maps" => (
-            "BTreeMap<u64,BTreeMap<u64,u64>>",
-            append_maps(&mut out, count),
-        ),
-        "ordered" => (
-            "IndexMap<String,u32>",
-            append_ordered(alloc, &mut out, count),
-        ),
+    let (name_of_type, seed, drawn) = match name {
+        "numbers" => ("Vec<u64>", 1, Drawn::Number),
+        "bytes" => ("Vec<u8>", 2, Drawn::Byte),
+        "texts" => ("Vec<String>", 3, Drawn::Text),
+        "maps" => ("BTreeMap<u64,BTreeMap<u64,u64>>", 4, Drawn::Map),
+        "ordered" => ("IndexMap<String,u32>", 5, Drawn::Entry),
         _ => return Ok(None),
     };
-    done?;
+    let mut out = PagableVecFlavor::new(alloc);
+    let mut draws = Draws::new(seed);
+    out.write_u32(count)?;
+    for place in 0..count {
+        append(alloc, drawn, place, &mut draws, &mut out)?;
+    }
     Ok(Some((name_of_type, out.finalize())))
 }

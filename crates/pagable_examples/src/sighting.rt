@@ -17,6 +17,7 @@ use pagable::{
     Carried, Error, PagableDeserialize, PagableDeserializer, PagableSerialize, PagableSerializer,
     StaticStr,
 };
+use pagable_traits::impls::maps::write_entry;
 use std::alloc::Global;
 
 /// What was seen, where, and how many of them.
@@ -40,13 +41,11 @@ impl PagableSerialize<Zoo> for Sighting {
 
     ghost write_causes_may_refuse = { either_may_refuse_writing (long_or (memory_or (memory_or unregistered))) (either (memory_or unregistered) memory) (long_or_may_refuse_writing (memory_or (memory_or unregistered)) (memory_or_may_refuse_writing (memory_or unregistered) (memory_or_may_refuse_writing unregistered unregistered_may_refuse_writing))) (either_may_refuse_writing (memory_or unregistered) memory (memory_or_may_refuse_writing unregistered unregistered_may_refuse_writing) memory_may_refuse_writing) };
 
-    #[tactic(auto, using(pagable_codec::proofs::Writing::parts, pagable_traits::proofs::Parts::pairs, pagable_traits::proofs::Parts::causes))]
     fn pagable_serialize<S: PagableSerializer<Zoo>>(
         &self,
         serializer: &mut S,
     ) -> Result<(), Error> {
-        self.animal.pagable_serialize(serializer)?;
-        (self.place, self.count).pagable_serialize(serializer)
+        write_entry(&self.animal, &(self.place, self.count), serializer)
     }
 }
 
@@ -59,8 +58,11 @@ impl<'de> PagableDeserialize<'de, Zoo> for Sighting {
         alloc: Global,
         deserializer: &mut D,
     ) -> Result<Self, Error> {
-        let animal = Animal::pagable_deserialize(alloc, deserializer)?;
-        let (place, count) = <(StaticStr, u16)>::pagable_deserialize(alloc, deserializer)?;
+        let value: (Animal, (StaticStr, u16)) = PagableDeserialize::pagable_deserialize(
+            alloc,
+            deserializer,
+        )?;
+        let (animal, (place, count)) = value;
         Ok(Sighting {
             animal,
             place,

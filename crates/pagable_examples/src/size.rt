@@ -29,6 +29,16 @@ impl Size {
             Size::Large(tenths) => Some(tenths),
         }
     }
+
+    /// The size of a glass that holds so many tenths of a litre.
+    pub fn of_tenths(tenths: Option<u8>) -> Size
+        ensures { tenths_of result ≡ tenths }
+    {
+        match tenths {
+            None => Size::Small,
+            Some(tenths) => Size::Large(tenths),
+        }
+    }
 }
 
 impl<E: Env> Carried<E> for Size {
@@ -59,9 +69,6 @@ impl<'de, E: Env> PagableDeserialize<'de, E> for Size {
         deserializer: &mut D,
     ) -> Result<Self, Error> {
         let tenths: Option<u8> = PagableDeserialize::pagable_deserialize(alloc, deserializer)?;
-        match tenths {
-            None => Ok(Size::Small),
-            Some(tenths) => Ok(Size::Large(tenths)),
-        }
+        Ok(Size::of_tenths(tenths))
     }
 }
