@@ -3,16 +3,16 @@ use Rattle.std.proofs.Common.{◌≡◌, refl, Result, Err, inl, inr}
 use Rattle.std.specs.Int.{w16}
 use Rattle.std.specs.Prelude.{◌⊎◌, IfErr}
 use Rattle.std.specs.String.{string_bytes}
-use Rattle.pagable_model.specs.declared.error.Error.{Error}
-use Rattle.pagable_model.specs.declared.numbers.ArcRef.{ArcRef}
-use Rattle.pagable_model.specs.Gives.{never}
-use Rattle.pagable_model.specs.Meaning.{Meaning, number}
-use Rattle.pagable_model.specs.Meaning as meanings
-use Rattle.pagable_model.specs.Reading.{Rest, Context, read, read_with}
-use Rattle.pagable_model.specs.Shape.{Shape, both, text, unsigned}
-use Rattle.pagable_model.specs.Standing.{Gave, Is}
-use Rattle.pagable_model.specs.Writing.{Nesting, Refused}
-use Rattle.pagable_traits.proofs.Parts.{writes_pair, refused_first, refused_second, only_long_or}
+use Rattle.pagable.specs.Error.{Error}
+use Rattle.pagable.specs.ArcRef.{ArcRef}
+use Rattle.pagable.specs.Gives.{never}
+use Rattle.pagable.specs.Meaning.{Meaning, number}
+use Rattle.pagable.specs.Meaning as meanings
+use Rattle.pagable.specs.Reading.{Rest, Context, read, read_with}
+use Rattle.pagable.specs.Shape.{Shape, both, text, unsigned}
+use Rattle.pagable.specs.Standing.{Gave, Is}
+use Rattle.pagable.specs.Writing.{Nesting, Refused}
+use Rattle.pagable.proofs.Parts.{writes_pair, refused_first, refused_second, only_long_or}
 use Rattle.pagable_examples.specs.declared.dish.Dish.{Dish}
 use Rattle.pagable_examples.specs.Dishes.{dish_means}
 

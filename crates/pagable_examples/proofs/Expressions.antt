@@ -2,20 +2,20 @@
 use Rattle.std.proofs.Common.{◌≡◌, ℕ, ◌+◌, ◌<◌, ◌≤◌, true, false, [], ◌∷◌, ◌++◌, refl, Result, Ok, Err, inl, inr}
 use Rattle.std.specs.Prelude.{IfErr, ◌⊎◌}
 use Rattle.std.specs.Int.{w64}
-use Rattle.pagable_model.specs.declared.error.Error.{Error}
-use Rattle.pagable_model.specs.declared.error.Error.TheVariants as errors
-use Rattle.pagable_model.specs.declared.numbers.ArcRef.{ArcRef}
-use Rattle.pagable_model.specs.Basic.{bool_at, bool_form}
-use Rattle.pagable_model.specs.Gives.{never, memory, deep_or}
-use Rattle.pagable_model.specs.Meaning.{Meaning, number, pair, success, failure}
-use Rattle.pagable_model.specs.Shape.{unsigned, nested}
-use Rattle.pagable_model.specs.Form.{ok-form, err-form, both-form}
-use Rattle.pagable_model.specs.Reading.{Rest, deepest, read, read_with, bytes_of}
-use Rattle.pagable_model.specs.Standing.{Answer, Gave, Is, handles_at}
-use Rattle.pagable_model.specs.Writing.{Out, Nesting, nesting, WritesSome, added, NoForm, Refused}
-use Rattle.pagable_codec.proofs.Writing.{grows_refl, grows_trans, grows_some, grows_same, then, refused_memory}
-use Rattle.pagable_codec.proofs.Adding.{grows_added_bytes}
-use Rattle.pagable_codec.proofs.Reading.{moves_trans, moves_refl}
+use Rattle.pagable.specs.Error.{Error}
+use Rattle.pagable.specs.Error.TheVariants as errors
+use Rattle.pagable.specs.ArcRef.{ArcRef}
+use Rattle.pagable.specs.Basic.{bool_at, bool_form}
+use Rattle.pagable.specs.Gives.{never, memory, deep_or}
+use Rattle.pagable.specs.Meaning.{Meaning, number, pair, success, failure}
+use Rattle.pagable.specs.Shape.{unsigned, nested}
+use Rattle.pagable.specs.Form.{ok-form, err-form, both-form}
+use Rattle.pagable.specs.Reading.{Rest, deepest, read, read_with, bytes_of}
+use Rattle.pagable.specs.Standing.{Answer, Gave, Is, handles_at}
+use Rattle.pagable.specs.Writing.{Out, Nesting, nesting, WritesSome, added, NoForm, Refused}
+use Rattle.pagable.proofs.Writing.{grows_refl, grows_trans, grows_some, grows_same, then, refused_memory}
+use Rattle.pagable.proofs.Adding.{grows_added_bytes}
+use Rattle.pagable.proofs.Reading.{moves_trans, moves_refl}
 use Rattle.pagable_examples.proofs.Levels.{writes-down, refused-down, refused-deep, only-deep, reads-deep, reads-down}
 use Rattle.pagable_examples.specs.declared.expression.Expression.{Expression, Number}
 use Rattle.pagable_examples.specs.Expressions.{node, nodes, of_expression}

@@ -1,11 +1,11 @@
 -- A dish and a size are written with no reference.
 use Rattle.std.proofs.Common.{◌≡◌, ◌++◌, [], List, ℕ, Result, Ok, Err, refl, ap}
 use Rattle.std.specs.Prelude.{OnOk}
-use Rattle.pagable_model.specs.declared.error.Error.{Error}
-use Rattle.pagable_model.specs.declared.numbers.ArcRef.{ArcRef}
-use Rattle.pagable_model.specs.Form.{both-form, none-form, some-form, text-form, unsigned-form}
-use Rattle.pagable_model.specs.Meaning.{Meaning}
-use Rattle.pagable_model.specs.Writing.{Out, Nesting, FormAt, WritesSome}
+use Rattle.pagable.specs.Error.{Error}
+use Rattle.pagable.specs.ArcRef.{ArcRef}
+use Rattle.pagable.specs.Form.{both-form, none-form, some-form, text-form, unsigned-form}
+use Rattle.pagable.specs.Meaning.{Meaning}
+use Rattle.pagable.specs.Writing.{Out, Nesting, FormAt, WritesSome}
 use Rattle.pagable_examples.specs.Menus.{dish_shape, size_shape}
 
 dish-form : (n : Nesting) (m : Meaning ArcRef) (b : List ℕ) (k : List ArcRef) → FormAt n dish_shape m b k → k ≡ []

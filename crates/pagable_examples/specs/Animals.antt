@@ -2,12 +2,12 @@
 use Rattle.std.specs.Prelude.{refl, ℕ, List, [], ◌∷◌, cond}
 use Rattle.std.specs.Int.{w8}
 use Rattle.std.specs.Str.{bytes_eq}
-use Rattle.pagable_model.specs.declared.numbers.ArcRef.{ArcRef}
-use Rattle.pagable_model.specs.Carried.{of_tagged}
-use Rattle.pagable_model.specs.Meaning.{Meaning, none, number}
-use Rattle.pagable_model.specs.Shape.{Shape, nothing, unsigned}
-use Rattle.pagable_model.specs.Standing.{Is, SomeMeaning}
-use Rattle.pagable_model.specs.Tagged.{MeansTagged}
+use Rattle.pagable.specs.ArcRef.{ArcRef}
+use Rattle.pagable.specs.Carried.{of_tagged}
+use Rattle.pagable.specs.Meaning.{Meaning, none, number}
+use Rattle.pagable.specs.Shape.{Shape, nothing, unsigned}
+use Rattle.pagable.specs.Standing.{Is, SomeMeaning}
+use Rattle.pagable.specs.Tagged.{MeansTagged}
 use Rattle.pagable_examples.specs.declared.animal.Animal.{Animal}
 use Rattle.pagable_examples.specs.declared.animal.Animal.TheVariants as animals
 use Rattle.pagable_examples.specs.declared.animal.AnimalReader.{AnimalReader}

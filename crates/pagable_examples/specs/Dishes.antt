@@ -1,13 +1,13 @@
 -- What a dish means: its name and its weight, one after the other. So it means one thing, and may be a key.
 use Rattle.std.specs.Prelude.{◌≡◌, ◌&&◌, ℕ, nat_eq, refl}
 use Rattle.std.specs.String.{string_bytes, string_eq}
-use Rattle.pagable_model.specs.declared.numbers.ArcRef.{ArcRef}
-use Rattle.pagable_model.specs.Keyed.{number_is_same, text_is_same}
-use Rattle.pagable_model.specs.KeyParts.{pair_is_same}
-use Rattle.pagable_model.specs.Keys.{same_key}
-use Rattle.pagable_model.specs.Lifted.{MeansPair}
-use Rattle.pagable_model.specs.Meaning.{Meaning, number, text, pair}
-use Rattle.pagable_model.specs.Standing.{Is, SomeMeaning}
+use Rattle.pagable.specs.ArcRef.{ArcRef}
+use Rattle.pagable.specs.Keyed.{number_is_same, text_is_same}
+use Rattle.pagable.specs.KeyParts.{pair_is_same}
+use Rattle.pagable.specs.Keys.{same_key}
+use Rattle.pagable.specs.Lifted.{MeansPair}
+use Rattle.pagable.specs.Meaning.{Meaning, number, text, pair}
+use Rattle.pagable.specs.Standing.{Is, SomeMeaning}
 use Rattle.pagable_examples.specs.declared.dish.Dish.{Dish}
 
 abbrev pub dish_means : Dish → Meaning ArcRef → Type 0

@@ -1,9 +1,9 @@
 -- What expressions mean, and how they are spelled.
 use Rattle.std.specs.Prelude.{ℕ}
 use Rattle.std.specs.Int.{w64}
-use Rattle.pagable_model.specs.declared.numbers.ArcRef.{ArcRef}
-use Rattle.pagable_model.specs.Meaning.{Meaning, number, pair, success, failure}
-use Rattle.pagable_model.specs.Shape.{Shape, unsigned, both, nested, outcome}
+use Rattle.pagable.specs.ArcRef.{ArcRef}
+use Rattle.pagable.specs.Meaning.{Meaning, number, pair, success, failure}
+use Rattle.pagable.specs.Shape.{Shape, unsigned, both, nested, outcome}
 use Rattle.pagable_examples.specs.declared.expression.Expression.{Expression, Number, Sum'}
 
 -- a number, or two expressions, each one level further down

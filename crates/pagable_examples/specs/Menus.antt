@@ -2,16 +2,16 @@
 use Rattle.std.proofs.Common.{arith, subst}
 use Rattle.std.specs.Prelude.{◌≡◌, ◌≢◌, ◌<◌, ◌^◌, refl, true, ℕ, zero, suc, Option, Some, None, []}
 use Rattle.std.specs.Arc.{arc_value}
-use Rattle.pagable_model.specs.declared.error.Error.{Error}
-use Rattle.pagable_model.specs.declared.numbers.ArcRef.{ArcRef}
-use Rattle.pagable_model.specs.Refusals.{may_refuse_writing}
-use Rattle.pagable_model.specs.Gives.{memory, memory_or, long_or}
-use Rattle.pagable_model.specs.Causes.{memory_may_refuse_writing, memory_or_may_refuse_writing, text_may_refuse_writing}
-use Rattle.pagable_model.specs.Meaning.{Meaning, number}
-use Rattle.pagable_model.specs.References.{references_in, SameReferences}
-use Rattle.pagable_model.specs.Shape.{Shape, both, text, unsigned, optional}
-use Rattle.pagable_model.specs.Standing.{Is, SomeMeaning}
-use Rattle.pagable_model.specs.Lifted.{MeansOption, means-none, means-some}
+use Rattle.pagable.specs.Error.{Error}
+use Rattle.pagable.specs.ArcRef.{ArcRef}
+use Rattle.pagable.specs.Refusals.{may_refuse_writing}
+use Rattle.pagable.specs.Gives.{memory, memory_or, long_or}
+use Rattle.pagable.specs.Causes.{memory_may_refuse_writing, memory_or_may_refuse_writing, text_may_refuse_writing}
+use Rattle.pagable.specs.Meaning.{Meaning, number}
+use Rattle.pagable.specs.References.{references_in, SameReferences}
+use Rattle.pagable.specs.Shape.{Shape, both, text, unsigned, optional}
+use Rattle.pagable.specs.Standing.{Is, SomeMeaning}
+use Rattle.pagable.specs.Lifted.{MeansOption, means-none, means-some}
 use Rattle.std.specs.Int.{w8, w16}
 use Rattle.pagable_examples.specs.declared.dish.Dish.{Dish}
 use Rattle.pagable_examples.specs.declared.size.Size.{Size}

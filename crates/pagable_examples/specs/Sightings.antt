@@ -1,11 +1,11 @@
 -- What a sighting means: the animal, the place, and how many there were.
 use Rattle.std.specs.Prelude.{refl, ℕ, List}
 use Rattle.std.specs.Borrow.{Bor}
-use Rattle.pagable_model.specs.declared.numbers.ArcRef.{ArcRef}
-use Rattle.pagable_model.specs.Lifted.{MeansPair, pair_has_meaning}
-use Rattle.pagable_model.specs.Meaning.{Meaning, number, lifted}
-use Rattle.pagable_model.specs.Standing.{Is, SomeMeaning}
-use Rattle.pagable_registries.specs.declared.static_value.StaticValue.{StaticValue}
+use Rattle.pagable.specs.ArcRef.{ArcRef}
+use Rattle.pagable.specs.Lifted.{MeansPair, pair_has_meaning}
+use Rattle.pagable.specs.Meaning.{Meaning, number, lifted}
+use Rattle.pagable.specs.Standing.{Is, SomeMeaning}
+use Rattle.pagable.specs.StaticValue.{StaticValue}
 use Rattle.pagable_examples.specs.Animals.{animal_means, animal_has_meaning}
 use Rattle.pagable_examples.specs.Words.{word}
 use Rattle.pagable_examples.specs.declared.sighting.Sighting.{Sighting}

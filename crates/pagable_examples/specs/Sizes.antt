@@ -1,9 +1,9 @@
 -- The size of a glass: how many tenths of a litre it holds, where it is a large one.
 use Rattle.std.specs.Prelude.{ℕ, refl, Option, Some, None}
-use Rattle.pagable_model.specs.declared.numbers.ArcRef.{ArcRef}
-use Rattle.pagable_model.specs.Lifted.{MeansOption, means-none, means-some}
-use Rattle.pagable_model.specs.Meaning.{Meaning, number, absent, present}
-use Rattle.pagable_model.specs.Standing.{Is, SomeMeaning}
+use Rattle.pagable.specs.ArcRef.{ArcRef}
+use Rattle.pagable.specs.Lifted.{MeansOption, means-none, means-some}
+use Rattle.pagable.specs.Meaning.{Meaning, number, absent, present}
+use Rattle.pagable.specs.Standing.{Is, SomeMeaning}
 use Rattle.pagable_examples.specs.declared.size.Size.{Size}
 use Rattle.pagable_examples.specs.declared.size.Size.TheVariants as sizes
 

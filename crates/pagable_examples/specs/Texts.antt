@@ -2,11 +2,11 @@
 use Rattle.std.specs.Prelude.{◌≡◌, refl, ℕ, zero, suc, [], Option, Some, None}
 use Rattle.std.specs.Arc.{arc_value}
 use Rattle.std.specs.String.{string_bytes}
-use Rattle.pagable_model.specs.Meaning.{Meaning}
-use Rattle.pagable_model.specs.Meaning as meanings
-use Rattle.pagable_model.specs.References.{references_in, SameReferences}
-use Rattle.pagable_model.specs.Shape.{Shape, text}
-use Rattle.pagable_model.specs.declared.numbers.ArcRef.{ArcRef}
+use Rattle.pagable.specs.Meaning.{Meaning}
+use Rattle.pagable.specs.Meaning as meanings
+use Rattle.pagable.specs.References.{references_in, SameReferences}
+use Rattle.pagable.specs.Shape.{Shape, text}
+use Rattle.pagable.specs.ArcRef.{ArcRef}
 use Rattle.pagable_examples.specs.declared.text.TextNode.{TextNode}
 
 -- the one type of texts has the number 0

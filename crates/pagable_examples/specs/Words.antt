@@ -4,8 +4,8 @@ use Rattle.std.specs.Borrow.{Bor}
 use Rattle.std.specs.Str.{bytes_eq}
 use Rattle.std.proofs.Common.{ap}
 use Rattle.std.proofs.lemmas.Slice.Eq.{bytes_eq-Decides}
-use Rattle.pagable_model.specs.Canonical.{HasNoReference}
-use Rattle.pagable_model.specs.Meaning.{Meaning, text, number, sequence}
+use Rattle.pagable.specs.Canonical.{HasNoReference}
+use Rattle.pagable.specs.Meaning.{Meaning, text, number, sequence}
 
 abbrev pub of_text : List ℕ → Meaning ⊥
 of_text bytes = text bytes

@@ -1,20 +1,19 @@
 //! Animals, which are written as a tag and a body, and the readers of the bodies.
 
 ghost use Rattle.std.specs.Prelude.{◌≡◌, refl};
-ghost use Rattle.pagable_model.specs.Carried.{tagged_by};
-ghost use Rattle.pagable_model.specs.Causes.{memory_or_is_own_reading, memory_or_may_refuse_writing, long_or_may_refuse_writing, never_is_own_reading};
-ghost use Rattle.pagable_model.specs.Gives.{memory_or, long_or, never};
-ghost use Rattle.pagable_model.specs.Standing.{Is};
-ghost use Rattle.pagable_model.specs.Statics.{unregistered, unregistered_may_refuse_writing};
-ghost use Rattle.pagable_model.specs.Tagged.{grammars};
+ghost use Rattle.pagable.specs.Carried.{tagged_by};
+ghost use Rattle.pagable.specs.Causes.{memory_or_is_own_reading, memory_or_may_refuse_writing, long_or_may_refuse_writing, never_is_own_reading};
+ghost use Rattle.pagable.specs.Gives.{memory_or, long_or, never};
+ghost use Rattle.pagable.specs.Standing.{Is};
+ghost use Rattle.pagable.specs.Statics.{unregistered, unregistered_may_refuse_writing};
+ghost use Rattle.pagable.specs.Tagged.{grammars};
 ghost use Rattle.pagable_examples.specs.Animals.{animal_means, animal_has_meaning, tag_of, written, body_of, tag_read, grammar_of};
 
 use crate::zoo::Zoo;
 use pagable::{
     Carried, Error, ForTag, PagableDeserialize, PagableDeserializer, PagableSerialize,
-    PagableSerializer, PagableTagged, TagReader,
+    PagableSerializer, PagableTagged, TagReader, deserialize_tagged,
 };
-use pagable_registries::typetag::deserialize_tagged;
 use std::alloc::Global;
 
 /// An animal. Of a cat of old, its lives were written; it is read, and not written any more.
@@ -70,7 +69,7 @@ impl PagableTagged<Zoo> for Animal {
     }
 
     /// Writes nothing of a cat, and a dog's age. A cat of old is refused with Unregistered.
-    #[tactic(auto, using(pagable_codec::proofs::Writing::parts))]
+    #[tactic(auto, using(pagable::proofs::Carrying::writing))]
     fn pagable_serialize_body<S: PagableSerializer<Zoo>>(
         &self,
         serializer: &mut S,

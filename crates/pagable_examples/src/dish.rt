@@ -1,13 +1,13 @@
 //! A struct of named fields: they are written one after the other, and nothing else.
 
-ghost use Rattle.pagable_model.specs.Causes.{memory_is_own_reading, text_may_refuse_writing};
-ghost use Rattle.pagable_model.specs.Gives.{memory, long_or};
-ghost use Rattle.pagable_model.specs.KeyParts.{both_refers_to_nothing};
-ghost use Rattle.pagable_model.specs.Keyed.{text_refers_to_nothing, unsigned_refers_to_nothing};
-ghost use Rattle.pagable_model.specs.Lifted.{MeansPair};
-ghost use Rattle.pagable_model.specs.OneForm.{both_has_one_form, text_has_one_form, unsigned_has_one_form};
-ghost use Rattle.pagable_model.specs.Shape.{both, text, unsigned};
-ghost use Rattle.pagable_traits.specs.ReadBack.{both_is_read, text_is_read, unsigned_is_read};
+ghost use Rattle.pagable.specs.Causes.{memory_is_own_reading, text_may_refuse_writing};
+ghost use Rattle.pagable.specs.Gives.{memory, long_or};
+ghost use Rattle.pagable.specs.KeyParts.{both_refers_to_nothing};
+ghost use Rattle.pagable.specs.Keyed.{text_refers_to_nothing, unsigned_refers_to_nothing};
+ghost use Rattle.pagable.specs.Lifted.{MeansPair};
+ghost use Rattle.pagable.specs.OneForm.{both_has_one_form, text_has_one_form, unsigned_has_one_form};
+ghost use Rattle.pagable.specs.Shape.{both, text, unsigned};
+ghost use Rattle.pagable.specs.ReadBack.{both_is_read, text_is_read, unsigned_is_read};
 ghost use Rattle.pagable_examples.specs.Dishes.{dish_means, dish_meaning, dish_is_meaning, dish_has_meaning, dish_single, dish_is_same};
 ghost use Rattle.std.specs.Int.{w16};
 
@@ -64,7 +64,7 @@ impl<E: Env> PagableSerialize<E> for Dish {
 
     ghost write_causes_may_refuse = { text_may_refuse_writing };
 
-    #[tactic(auto, using(pagable_codec::proofs::Writing::parts, crate::proofs::Dishes::writing))]
+    #[tactic(auto, using(pagable::proofs::Carrying::writing, crate::proofs::Dishes::writing))]
     fn pagable_serialize<S: PagableSerializer<E>>(&self, serializer: &mut S) -> Result<(), Error> {
         self.name.pagable_serialize(serializer)?;
         self.grams.pagable_serialize(serializer)
@@ -76,7 +76,7 @@ impl<'de, E: Env> PagableDeserialize<'de, E> for Dish {
 
     ghost read_causes_are_own = { memory_is_own_reading };
 
-    #[tactic(auto, using(pagable_codec::proofs::Reading::parts))]
+    #[tactic(auto, using(pagable::proofs::Carrying::reading))]
     fn pagable_deserialize<D: PagableDeserializer<E>>(
         alloc: Global,
         deserializer: &mut D,

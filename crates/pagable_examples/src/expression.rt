@@ -1,18 +1,18 @@
 //! A type that holds values of its own type, each one level further down: sums inside sums.
 
 ghost use Rattle.std.specs.Prelude.{◌≡◌, OnOk, IfErr};
-ghost use Rattle.pagable_model.specs.Gives.{memory, deep_or};
-ghost use Rattle.pagable_model.specs.Reading.{read};
-ghost use Rattle.pagable_model.specs.Shape.{nested};
-ghost use Rattle.pagable_model.specs.Standing.{handles_at, GivesSome, Is, MovesOn};
-ghost use Rattle.pagable_model.specs.Writing.{nesting, WritesSome, Refused, Grows};
+ghost use Rattle.pagable.specs.Gives.{memory, deep_or};
+ghost use Rattle.pagable.specs.Reading.{read};
+ghost use Rattle.pagable.specs.Shape.{nested};
+ghost use Rattle.pagable.specs.Standing.{handles_at, GivesSome, Is, MovesOn};
+ghost use Rattle.pagable.specs.Writing.{nesting, WritesSome, Refused, Grows};
 ghost use Rattle.pagable_examples.specs.Expressions.{node, nodes, of_expression};
 
+use pagable::parts::{read_flag, write_flag};
 use pagable::{
     Carried, Env, Error, PagableDeserialize, PagableDeserializer, PagableSerialize,
     PagableSerializer, WeighHash,
 };
-use pagable_codec::parts::{read_flag, write_flag};
 use std::alloc::Global;
 
 /// A number, or the sum of two expressions. Each of the two is one level further down, and at most 128 levels can be
@@ -139,8 +139,8 @@ fn read_node<D: PagableDeserializer<Sheet>>(
 
 impl Carried<Sheet> for Expression {
     ghost use Rattle.std.specs.Prelude.{refl};
-    ghost use Rattle.pagable_model.specs.Shape.{nested};
-    ghost use Rattle.pagable_model.specs.Standing.{Is};
+    ghost use Rattle.pagable.specs.Shape.{nested};
+    ghost use Rattle.pagable.specs.Standing.{Is};
     ghost use Rattle.pagable_examples.specs.Expressions.{of_expression};
 
     ghost shape = { λ e. nested 0 };
@@ -151,8 +151,8 @@ impl Carried<Sheet> for Expression {
 }
 
 impl PagableSerialize<Sheet> for Expression {
-    ghost use Rattle.pagable_model.specs.Gives.{memory, deep_or};
-    ghost use Rattle.pagable_model.specs.Causes.{memory_may_refuse_writing, deep_or_may_refuse_writing};
+    ghost use Rattle.pagable.specs.Gives.{memory, deep_or};
+    ghost use Rattle.pagable.specs.Causes.{memory_may_refuse_writing, deep_or_may_refuse_writing};
 
     ghost write_causes = { deep_or memory };
 
@@ -167,8 +167,8 @@ impl PagableSerialize<Sheet> for Expression {
 }
 
 impl<'de> PagableDeserialize<'de, Sheet> for Expression {
-    ghost use Rattle.pagable_model.specs.Gives.{memory};
-    ghost use Rattle.pagable_model.specs.Causes.{memory_is_own_reading};
+    ghost use Rattle.pagable.specs.Gives.{memory};
+    ghost use Rattle.pagable.specs.Causes.{memory_is_own_reading};
 
     ghost read_causes = { memory };
 

@@ -31,7 +31,7 @@ impl<H: KeyHash> Env for Menu<H> {
 
     type CtxValue = ();
 
-    ghost use Rattle.pagable_model.specs.Shape.{nothing};
+    ghost use Rattle.pagable.specs.Shape.{nothing};
 
     ghost parts = { λ e number. nothing };
 }
@@ -45,8 +45,8 @@ pub enum MenuNode {
 
 impl<H: KeyHash> NodeSet<Menu<H>> for MenuNode {
     ghost use Rattle.std.specs.Prelude.{[]};
-    ghost use Rattle.pagable_model.specs.Causes.{memory_is_own_reading};
-    ghost use Rattle.pagable_model.specs.Gives.{memory};
+    ghost use Rattle.pagable.specs.Causes.{memory_is_own_reading};
+    ghost use Rattle.pagable.specs.Gives.{memory};
     ghost use Rattle.pagable_examples.specs.Menus.{type_of, shape_of, own_shape, means, write_causes, write_causes_may_refuse, has_meaning, refers_to_nothing, has_shape};
 
     ghost type_of = { type_of };

@@ -2,11 +2,11 @@
 
 ghost use Rattle.std.specs.Prelude.{refl};
 ghost use Rattle.std.specs.Int.{w16};
-ghost use Rattle.pagable_model.specs.Causes.{memory_may_refuse_writing, never_is_own_reading};
-ghost use Rattle.pagable_model.specs.Gives.{memory, never};
-ghost use Rattle.pagable_model.specs.Meaning.{number};
-ghost use Rattle.pagable_model.specs.Shape.{unsigned};
-ghost use Rattle.pagable_model.specs.Standing.{Is};
+ghost use Rattle.pagable.specs.Causes.{memory_may_refuse_writing, never_is_own_reading};
+ghost use Rattle.pagable.specs.Gives.{memory, never};
+ghost use Rattle.pagable.specs.Meaning.{number};
+ghost use Rattle.pagable.specs.Shape.{unsigned};
+ghost use Rattle.pagable.specs.Standing.{Is};
 
 use pagable::{
     EagerlyCarried, Env, Error, PagableDeserializer, PagableEagerDeserialize,
@@ -33,7 +33,7 @@ impl<E: Env> PagableEagerSerialize<E> for Ticket {
 
     ghost eager_write_causes_may_refuse = { memory_may_refuse_writing };
 
-    #[tactic(auto, using(pagable_codec::proofs::Writing::parts))]
+    #[tactic(auto, using(pagable::proofs::Carrying::writing))]
     fn eager_pagable_serialize<S: PagableSerializer<E>>(
         &self,
         serializer: &mut S,
@@ -47,7 +47,7 @@ impl<'de, E: Env> PagableEagerDeserialize<'de, E> for Ticket {
 
     ghost eager_read_causes_are_own = { never_is_own_reading };
 
-    #[tactic(auto, unfolding(pagable_model::specs::Reading::read, pagable_model::specs::Reading::read_with), using(pagable_codec::proofs::Reading::parts))]
+    #[tactic(auto, unfolding(pagable::specs::Reading::read, pagable::specs::Reading::read_with), using(pagable::proofs::Carrying::reading))]
     fn eager_pagable_deserialize<D: PagableDeserializer<E>>(
         _alloc: Global,
         deserializer: &mut D,

@@ -78,7 +78,7 @@ impl Env for Zoo {
 
     type CtxValue = ();
 
-    ghost use Rattle.pagable_model.specs.Shape.{nothing};
+    ghost use Rattle.pagable.specs.Shape.{nothing};
 
     ghost parts = { λ e number. nothing };
 }

@@ -1,7 +1,7 @@
 use Rattle.std.proofs.Common.{◌≡◌, true, false, Ok, arith}
 use Rattle.std.proofs.lemmas.Result.{err_from_is_err_and}
-use Rattle.pagable_model.specs.Basic.{bool_at}
-use Rattle.pagable_model.specs.Reading.{bytes_of}
+use Rattle.pagable.specs.Basic.{bool_at}
+use Rattle.pagable.specs.Reading.{bytes_of}
 use Rattle.pagable_examples.proofs.Expressions.{flag_refused, number_refused, left_refused, right_refused}
 use Rattle.pagable_examples.proofs.expression.+reading.Goals as goal
 

@@ -1,6 +1,6 @@
 use Rattle.std.proofs.Common.{refl}
 use Rattle.std.proofs.lemmas.Result.{err_from_is_err_and}
-use Rattle.pagable_model.specs.Writing.{nesting}
+use Rattle.pagable.specs.Writing.{nesting}
 use Rattle.pagable_examples.specs.Expressions.{nodes}
 use Rattle.pagable_examples.proofs.Expressions.{refuses_left}
 use Rattle.pagable_examples.proofs.expression.+writing.Goals as goal

@@ -1,13 +1,13 @@
 use Rattle.std.proofs.lemmas.Result.{err_from_is_err_and}
 use Rattle.std.specs.Int.{w16}
 use Rattle.std.specs.String.{string_bytes}
-use Rattle.pagable_model.specs.Gives.{memory}
-use Rattle.pagable_model.specs.Meaning.{number}
-use Rattle.pagable_model.specs.Meaning as meanings
-use Rattle.pagable_model.specs.Shape.{unsigned}
-use Rattle.pagable_model.specs.Shape as shapes
-use Rattle.pagable_model.specs.Standing.{Is, handles_at}
-use Rattle.pagable_traits.proofs.Held.{pair_gave}
+use Rattle.pagable.specs.Gives.{memory}
+use Rattle.pagable.specs.Meaning.{number}
+use Rattle.pagable.specs.Meaning as meanings
+use Rattle.pagable.specs.Shape.{unsigned}
+use Rattle.pagable.specs.Shape as shapes
+use Rattle.pagable.specs.Standing.{Is, handles_at}
+use Rattle.pagable.proofs.Held.{pair_gave}
 use Rattle.pagable_examples.proofs.Dishes.{first_refused, second_refused}
 use Rattle.pagable_examples.proofs.dish.DishPagableDeserialize.pagable_deserialize.Goals as goal
 

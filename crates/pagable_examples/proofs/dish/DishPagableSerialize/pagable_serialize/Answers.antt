@@ -2,13 +2,13 @@ use Rattle.std.proofs.Common.{refl}
 use Rattle.std.proofs.lemmas.Result.{err_from_is_err_and}
 use Rattle.std.specs.Int.{w16}
 use Rattle.std.specs.String.{string_bytes}
-use Rattle.pagable_model.specs.Meaning.{number}
-use Rattle.pagable_model.specs.Meaning as meanings
-use Rattle.pagable_model.specs.Shape.{unsigned}
-use Rattle.pagable_model.specs.Shape as shapes
-use Rattle.pagable_model.specs.Standing.{Is}
-use Rattle.pagable_model.specs.Writing.{nesting}
-use Rattle.pagable_traits.proofs.Parts.{where_ok, writes_pair, refuses_first, refused_second}
+use Rattle.pagable.specs.Meaning.{number}
+use Rattle.pagable.specs.Meaning as meanings
+use Rattle.pagable.specs.Shape.{unsigned}
+use Rattle.pagable.specs.Shape as shapes
+use Rattle.pagable.specs.Standing.{Is}
+use Rattle.pagable.specs.Writing.{nesting}
+use Rattle.pagable.proofs.Parts.{where_ok, writes_pair, refuses_first, refused_second}
 use Rattle.pagable_examples.proofs.dish.DishPagableSerialize.pagable_serialize.Goals as goal
 
 pub returns-in_err-pagable_serialize-clause-refused : goal.returns-in_err-pagable_serialize-clause-refused
