@@ -139,6 +139,18 @@ module _ (levels : ℕ) (parts : ℕ → Shape) (rest : Rest Answer) where
     object-gives (Ok v) after lt g = object-gave v after lt g
     object-gives (Err e) after lt g = object-refused e lt g
 
+-- a key and its value
+module _ (c : Context Answer ArcRef) (rest : Rest Answer) (e : Error) where
+  key-unread : (read c text rest ≡ Err e) ⊎ memory e → (read c (both text json) rest ≡ Err e) ⊎ memory e
+  unfolding read read_with
+  key-unread (inl h) = inl (rw h refl)
+  key-unread (inr h) = inr h
+
+  value-unread : (m : Meaning ArcRef) (mid : Rest Answer) → read c text rest ≡ Ok (m, mid) → (read c json mid ≡ Err e) ⊎ memory e → (read c (both text json) rest ≡ Err e) ⊎ memory e
+  unfolding read read_with
+  value-unread m mid g (inl h) = inl (rw (g, h) refl)
+  value-unread m mid g (inr h) = inr h
+
 module _ {D E R N H K V : Type 0} (env : Environments E N H K V) (d : Deserializers D E R N H K V) where
   -- a part after its case
   pub case-then : {a b c : D} {n : ℕ} {r : Result Value Error} (m : ℕ) (case : JsonCase) → n ≡ m → json_case m ≡ Ok case → bytes_of (unsigned_at w64) (λ n. n) (d.rest a) ≡ Ok (n, d.rest b) → MovesOn (d.standing a) (d.standing b) → d.environment b ≡ d.environment a → d.levels b ≡ d.levels a
@@ -168,11 +180,15 @@ module _ {D E R N H K V : Type 0} (env : Environments E N H K V) (d : Deserializ
         same_levels = q.same_levels ∙ same_levels;
       }
 
-module _ (c : Context Answer ArcRef) (rest : Rest Answer) (e : Error) where
-  pub key-unread : read c text rest ≡ Err e → read c (both text json) rest ≡ Err e
-  unfolding read read_with
-  key-unread h = rw h refl
+  pub key-refused : {a b : D} {e : Error} → (read (context_in env d a) text (d.rest a) ≡ Err e) ⊎ memory e → MovesOn (d.standing a) (d.standing b) → d.environment b ≡ d.environment a → d.levels b ≡ d.levels a
+      → Reads env d (MeansPair (Is of_key) (Is of_value)) (λ x. read x (both text json)) a b (let r : Result (String Global × Value) Error = Err e in r)
+  key-refused {e = e} g moves same_env same_levels = record { gives = key-unread _ _ e g; moves = moves; same_env = same_env; same_levels = same_levels }
 
-  pub value-unread : (m : Meaning ArcRef) (mid : Rest Answer) → read c text rest ≡ Ok (m, mid) → read c json mid ≡ Err e → read c (both text json) rest ≡ Err e
-  unfolding read read_with
-  value-unread m mid g h = rw (g, h) refl
+  pub value-refused : {a b c : D} {e : Error} (k : String Global) → Gave (Is of_key k) (d.rest b) (read (context_in env d a) text (d.rest a)) → MovesOn (d.standing a) (d.standing b) → d.environment b ≡ d.environment a → d.levels b ≡ d.levels a
+      → Reads env d (Is of_value) (λ x. read x json) b c (let r : Result Value Error = Err e in r) → Reads env d (MeansPair (Is of_key) (Is of_value)) (λ x. read x (both text json)) a c (let r : Result (String Global × Value) Error = Err e in r)
+  value-refused {e = e} k g moves same_env same_levels q = record {
+    gives = value-unread _ _ e g.m _ g.gave (rw (same_levels, same_env) at q.gives);
+    moves = moves_trans _ _ _ moves q.moves;
+    same_env = q.same_env ∙ same_env;
+    same_levels = q.same_levels ∙ same_levels;
+  }

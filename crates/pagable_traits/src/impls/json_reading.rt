@@ -4,7 +4,6 @@
 ghost use Rattle.std.specs.Prelude.{◌≡◌};
 ghost use Rattle.std.specs.Int.{w64};
 ghost use Rattle.pagable_model.specs.Gives.{Gives, never};
-ghost use Rattle.pagable_model.specs.Lifted.{MeansPair};
 ghost use Rattle.pagable_model.specs.Meaning.{sequence, variant};
 ghost use Rattle.pagable_model.specs.Numbers.{unsigned_at};
 ghost use Rattle.pagable_model.specs.Reading.{bytes_of, items as items_at, read, seen, flag_case, number_case, text_case, array_case, object_case};
@@ -150,21 +149,9 @@ fn read_members<E: Env, D: PagableDeserializer<E>>(
 {
     let mut members = BTreeMap::new(alloc);
     for index in 0..count {
-        let (key, value) = read_member(alloc, deserializer)?;
+        let key = String::pagable_deserialize(alloc, deserializer)?;
+        let value = read_value(alloc, deserializer)?;
         members.insert(key, value)?;
     }
     Ok(Value::Object(members))
-}
-
-// Reads a key and its value.
-#[cycle(reading_json)]
-fn read_member<E: Env, D: PagableDeserializer<E>>(
-    alloc: Global,
-    deserializer: &mut D,
-) -> Result<(String, Value), Error>
-    ensures { Reads E.Env D.PagableDeserializer (MeansPair (Is of_key) (Is of_value)) (λ c. read c (both text json)) deserializer.old deserializer.new result }
-{
-    let key = String::pagable_deserialize(alloc, deserializer)?;
-    let value = read_value(alloc, deserializer)?;
-    Ok((key, value))
 }

@@ -11,7 +11,7 @@ use Rattle.pagable_traits.specs.JsonData.{of_value, of_key}
 use Rattle.pagable_traits.proofs.Collecting.{collected_none, collected_more}
 use Rattle.pagable_traits.proofs.Items.{mean_last}
 use Rattle.pagable_traits.proofs.JsonSteps.{read-err, read-no-memory, read-then, read-below, read-deep, none-so-far, one-more, refused-so-far, all-read, seen-same}
-use Rattle.pagable_traits.proofs.JsonRead.{case-unread, case-unknown, null-read, case-then, array-unread, array-deep, array-seen, is-array, object-unread, object-deep, object-read, key-unread, value-unread, member-read}
+use Rattle.pagable_traits.proofs.JsonRead.{case-unread, case-unknown, null-read, case-then, array-unread, array-deep, array-seen, is-array, object-unread, object-deep, object-read, key-refused, value-refused, member-read}
 use Rattle.pagable_traits.proofs.impls.json_reading.+reading_json.Goals as goal
 
 pub read_value-returns-in_err-case : goal.read_value-returns-in_err-case
@@ -125,33 +125,28 @@ read_members-loop-index-init g t c =
 
 pub read_members-loop-index-preserved : goal.read_members-loop-index-preserved
 read_members-loop-index-preserved g t c =
-    one-more g.E.Env g.D.PagableDeserializer _ _ _ c.loop-index-test.true c.loop-index.invariant c.in_ok-key.ensures
-    (λ ms m each is. collected_more (MeansPair (Is of_key) (Is of_value)) (λ es e fs. fs ≡ insert_entry string_cmp es e.0 e.1) _ _ ms (c.in_ok-key.key, c.in_ok-key.value) m each is c.in_ok-insert.ensures.entries)
+    let key = c.in_ok-key.ensures in
+    one-more g.E.Env g.D.PagableDeserializer _ _ _ c.loop-index-test.true c.loop-index.invariant (member-read g.E.Env g.D.PagableDeserializer key.gives key.moves key.same_env key.same_levels c.in_ok-value.ensures)
+    (λ ms m each is. collected_more (MeansPair (Is of_key) (Is of_value)) (λ es e fs. fs ≡ insert_entry string_cmp es e.0 e.1) _ _ ms (c.in_ok-key.key, c.in_ok-value.value) m each is c.in_ok-insert.ensures.entries)
 
 pub read_members-returns-in_err-key : goal.read_members-returns-in_err-key
-read_members-returns-in_err-key g t c = refused-so-far g.E.Env g.D.PagableDeserializer _ _ _ c.from_residual.result c.from_residual.ensures.1 c.loop-index-test.true c.loop-index.invariant c.in_err-key.ensures (λ h. h)
+read_members-returns-in_err-key g t c =
+    let told = c.in_err-key.ensures in
+    refused-so-far g.E.Env g.D.PagableDeserializer _ _ _ c.from_residual.result c.from_residual.ensures.1 c.loop-index-test.true c.loop-index.invariant (key-refused g.E.Env g.D.PagableDeserializer told.gives told.moves told.same_env told.same_levels) (λ h. h)
+
+pub read_members-returns-in_err-value : goal.read_members-returns-in_err-value
+read_members-returns-in_err-value g t c =
+    let key = c.in_ok-key.ensures in
+    refused-so-far g.E.Env g.D.PagableDeserializer _ _ _ c.from_residual-in_err-value.result c.from_residual-in_err-value.ensures.1 c.loop-index-test.true c.loop-index.invariant
+    (value-refused g.E.Env g.D.PagableDeserializer c.in_ok-key.key key.gives key.moves key.same_env key.same_levels c.in_err-value.ensures) (λ h. h)
 
 pub read_members-returns-in_err-insert : goal.read_members-returns-in_err-insert
 read_members-returns-in_err-insert g t c =
     let so = c.loop-index.invariant in
-    let told = c.in_ok-key.ensures in
+    let key = c.in_ok-key.ensures in
+    let told = member-read g.E.Env g.D.PagableDeserializer {k = c.in_ok-key.key} {v = c.in_ok-value.value} key.gives key.moves key.same_env key.same_levels c.in_ok-value.ensures in
     read-no-memory g.E.Env g.D.PagableDeserializer c.from_residual-in_err-insert.result c.from_residual-in_err-insert.ensures.1 (moves_trans _ _ _ so.moves told.moves) (told.same_env ∙ so.same_env) (told.same_levels ∙ so.same_levels)
 
 pub read_members-returns : goal.read_members-returns
 read_members-returns g t c =
     all-read g.E.Env g.D.PagableDeserializer _ _ _ (values.Object c.loop-index.members) (λ ms. ms) c.loop-index-test.false c.loop-index.invariant (λ ms each. record { members = c.loop-index.members; is = refl; each = each }) (seen-same _)
-
-pub read_member-returns-in_err-key : goal.read_member-returns-in_err-key
-read_member-returns-in_err-key g t c =
-    let told = c.in_err-key.ensures in
-    read-err g.E.Env g.D.PagableDeserializer c.from_residual.result c.from_residual.ensures.1 told.gives told.moves told.same_env told.same_levels (λ h. h) (key-unread _ _ _)
-
-pub read_member-returns-in_err-value : goal.read_member-returns-in_err-value
-read_member-returns-in_err-value g t c =
-    let key = c.in_ok-key.ensures in
-    let told = c.in_err-value.ensures in
-    read-err g.E.Env g.D.PagableDeserializer c.from_residual-in_err-value.result c.from_residual-in_err-value.ensures.1 (rw (key.same_levels, key.same_env) at told.gives) (moves_trans _ _ _ key.moves told.moves) (told.same_env ∙ key.same_env) (told.same_levels ∙ key.same_levels) (λ h. h)
-    (value-unread _ _ _ key.gives.m _ key.gives.gave)
-
-pub read_member-returns : goal.read_member-returns
-read_member-returns g t c = let key = c.in_ok-key.ensures in member-read g.E.Env g.D.PagableDeserializer key.gives key.moves key.same_env key.same_levels c.in_ok-value.ensures
