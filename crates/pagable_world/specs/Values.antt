@@ -1,53 +1,63 @@
--- Whose value is in memory, before and after a call. `fits` chooses among the types of values: with each choice allowed,
--- what is said holds of all values, and of those of every type.
-use Rattle.std.specs.Prelude.{ℕ, ◌≡◌, ◌≢◌, ◌==◌, ◌&&◌, ◌||◌, ◌⊎◌, Bool, true, not, sum_by, nat_lt}
-use Rattle.pagable_model.specs.declared.numbers.HandleNumber.{HandleNumber}
-use Rattle.pagable_world.specs.State.{State, one, has_key, pins}
-use Rattle.pagable_world.specs.Cells.{Cell}
-use Rattle.pagable_world.specs.World.{World, plain}
-use Rattle.pagable_world.specs.Refusals.{HasRow}
-use Rattle.pagable_world.specs.declared.rows.NodeRow.{NodeRow}
-use Rattle.pagable_world.specs.declared.rows.HandleRow.{HandleRow}
+-- What the caller's types say of values: the members of the traits, with what is asked of them.
+use Rattle.std.specs.Prelude.{ℕ, ◌≡◌, true, List, Some, Result, Ok, Err}
+use Rattle.pagable_model.specs.declared.error.Error.{Error}
+use Rattle.pagable_model.specs.declared.numbers.ArcRef.{ArcRef}
+use Rattle.pagable_model.specs.Meaning.{Meaning}
+use Rattle.pagable_model.specs.Shape.{Shape}
+use Rattle.pagable_model.specs.Blob.{Blob, key_of}
+use Rattle.pagable_model.specs.Reading.{deepest}
+use Rattle.pagable_model.specs.Refusals.{is_own_reading, may_refuse_writing}
+use Rattle.pagable_model.specs.Form.{Form}
+use Rattle.pagable_model.specs.Trees.{Types}
+use Rattle.pagable_model.specs.Writing.{kind_of_arc}
+use Rattle.pagable_model.specs.References.{references_in, SameReferences}
+use Rattle.pagable_world.specs.World.{Written}
 
--- 1 for the node with this number and a type that fits, if its value is in memory: it is pinned, or has no key
-abbrev pub value_with : (ℕ → Bool) → ℕ → NodeRow → ℕ
-value_with fits q n = one (fits n.node_type && (n.number.0 == q && (nat_lt 0 n.count || not (has_key n.key))))
+-- Values of the type N in an environment. Trees, forms, readings and keys follow from these alone.
+pub record Values (N : Type 0) : Type 1 where
+  -- the number of a value's type, its references in the order written, and what it may mean
+  pub node_type : N → ℕ
+  pub references : N → List ArcRef
+  pub means : N → Meaning ArcRef → Type 0
+  -- why a reader of values of the type may refuse one, beside the faults of the blob; and all refusals of a writer of them
+  pub read_causes : ℕ → Error → Type 0
+  pub write_causes : ℕ → Error → Type 0
+  -- how values are spelled, and the hash
+  pub types : Types
+  pub hash : List ℕ → List ℕ
 
--- how many values of the node are in memory, of the types that fit: at most one
-abbrev pub values_of : (ℕ → Bool) → ℕ → State → ℕ
-values_of fits q s = sum_by (value_with fits q) s.nodes
+-- the same, with how the storage's blobs and what is written of a value are seen
+pub record Seen (N B W : Type 0) : Type 1 where
+  pub values : Values N
+  pub blob_of : B → Blob
+  pub written_of : W → Written
 
--- the same of a cell, if it is told whether its node is pinned
-abbrev pub cell_here : (ℕ → Bool) → ℕ → Bool → Cell → ℕ
-cell_here fits q pinned cell = one (fits cell.node_type && (cell.number == q && (pinned || not (has_key cell.key))))
+-- the key of a blob
+abbrev pub digest : {N : Type 0} → Values N → Blob → ℕ
+digest v b = key_of v.hash b
 
--- the same of a plain world: whose value is in memory follows from the pinning handles and the keys
-abbrev pub here : (ℕ → Bool) → ℕ → World → ℕ
-here fits q w = sum_by (cell_here fits q (nat_lt 0 (pins q w.rows))) w.cells
+-- what was answered, as it is seen
+abbrev pub seen_as : {X Y : Type 0} → (X → Y) → Result X Error → Result Y Error
+seen_as f (Ok x) = Ok (f x)
+seen_as f (Err e) = Err e
 
--- the values in memory stay, and no value comes
-pub record SameValues (old new : State) : Type 0 where
-  pub each : (fits : ℕ → Bool) (q : ℕ) → values_of fits q new ≡ values_of fits q old
+-- The laws of values that are asked of the caller's types: a value means something, refers to what it means to, and is of a type
+-- that is there; a reader has no cause of its own that tells of a reference, nor a writer one that tells of reading.
+pub record IsLawful {N : Type 0} (v : Values N) : Type 0 where
+  pub some : (x : N) → (own : Meaning ArcRef) × v.means x own
+  pub refers : (x : N) (own : Meaning ArcRef) → v.means x own → SameReferences (v.references x) (references_in own)
+  pub shaped : (x : N) → (shape : Shape) × (v.types.nodes (v.node_type x) ≡ Some shape)
+  pub own_reading : (t : ℕ) (e : Error) → v.read_causes t e → is_own_reading e ≡ true
+  pub own_writing : (t : ℕ) (e : Error) → v.write_causes t e → may_refuse_writing e ≡ true
 
--- the node's value is in memory, or not
-abbrev pub value_of_node : ℕ → State → ℕ
-value_of_node q s = values_of (λ _. true) q s
+-- a value of which the clauses on trees speak: it means one thing, whatever is written to it later
+abbrev pub IsSettled : {N : Type 0} → Values N → N → Type 0
+IsSettled v x = (a b : Meaning ArcRef) → v.means x a → v.means x b → b ≡ a
 
--- a value in memory stays, or isn't in memory any more; none comes
-pub record NoValueComes (old new : State) : Type 0 where
-  pub each : (fits : ℕ → Bool) (q : ℕ) → (values_of fits q new ≡ values_of fits q old) ⊎ (value_of_node q new ≡ 0)
-
--- No value comes into memory, and at most that of the handle's node goes.
-pub record OnlyItsValueGoes (h : HandleNumber) (old new : State) : Type 0 where
-  pub each : (fits : ℕ → Bool) (q : ℕ) → (values_of fits q new ≡ values_of fits q old) ⊎ (value_of_node q new ≡ 0)
-  pub others : (fits : ℕ → Bool) (q : ℕ) → ((i : ℕ) (row : HandleRow) → HasRow (plain old) h i row → row.node.0 ≢ q) → values_of fits q new ≡ values_of fits q old
-
--- The node's value comes into memory, of this type. The other values in memory stay, and no other comes.
-pub record ValueComes (node node_type : ℕ) (old new : State) : Type 0 where
-  pub before : value_of_node node old ≡ 0
-  pub now : (fits : ℕ → Bool) → values_of fits node new ≡ one (fits node_type)
-  pub others : (fits : ℕ → Bool) (q : ℕ) → q ≢ node → values_of fits q new ≡ values_of fits q old
-
--- the node's value comes into memory, or it is there already and each value stays
-abbrev pub ValueIsThere : ℕ → ℕ → State → State → Type 0
-ValueIsThere node node_type old new = ValueComes node node_type old new ⊎ ((value_of_node node old ≡ 1) × SameValues old new)
+-- these bytes, with these references in their order, are a form of the value
+pub record HasForm {N : Type 0} (v : Values N) (x : N) (written : Written) : Type 0 where
+  pub shape : Shape
+  pub own : Meaning ArcRef
+  pub is : v.types.nodes (v.node_type x) ≡ Some shape
+  pub means : v.means x own
+  pub form : Form ArcRef kind_of_arc v.types.parts deepest shape own written.bytes written.references

@@ -1,0 +1,105 @@
+-- Handles: which of them pin their nodes, and who gives them up.
+use Rattle.std.specs.Prelude.{ℕ, ◌==◌, ◌&&◌, ◌||◌, Bool, true, false, not, if◌then◌else◌, List, [], ◌∷◌, sum_by, Option, Some, None, nat_lt}
+use Rattle.pagable_model.specs.declared.data_key.OptionalDataKey.{OptionalDataKey}
+use Rattle.pagable_model.specs.declared.data_key.OptionalDataKey.TheVariants as optional
+use Rattle.pagable_world.specs.declared.rows.Mode.{Mode}
+use Rattle.pagable_world.specs.declared.rows.Mode.TheVariants as modes
+use Rattle.pagable_world.specs.declared.handles.Owner.{Owner}
+use Rattle.pagable_world.specs.declared.handles.Owner.TheVariants as owners
+use Rattle.pagable_world.specs.declared.handles.HandleRow.{HandleRow}
+use Rattle.pagable_world.specs.Lists.{one}
+
+-- whether a handle of this mode pins its node
+abbrev pub is_pinning : Mode → Bool
+is_pinning modes.LoosePinned = true
+is_pinning modes.LooseUnpinned = false
+is_pinning modes.Pinned = true
+is_pinning modes.Shared = true
+
+-- whether a handle of this mode can be pinned and unpinned; any other pins as long as it is live
+abbrev pub is_loose : Mode → Bool
+is_loose modes.LoosePinned = true
+is_loose modes.LooseUnpinned = true
+is_loose modes.Pinned = false
+is_loose modes.Shared = false
+
+-- whether it is loose and pins nothing; whether it is a Pinned one; and whether it is of a node that never has a key
+abbrev pub is_unpinned : Mode → Bool
+is_unpinned modes.LoosePinned = false
+is_unpinned modes.LooseUnpinned = true
+is_unpinned modes.Pinned = false
+is_unpinned modes.Shared = false
+
+abbrev pub is_pinned : Mode → Bool
+is_pinned modes.LoosePinned = false
+is_pinned modes.LooseUnpinned = false
+is_pinned modes.Pinned = true
+is_pinned modes.Shared = false
+
+abbrev pub is_shared : Mode → Bool
+is_shared modes.LoosePinned = false
+is_shared modes.LooseUnpinned = false
+is_shared modes.Pinned = false
+is_shared modes.Shared = true
+
+-- any mode will do
+abbrev pub any_mode : Mode → Bool
+any_mode mode = true
+
+-- whether it is the same owner
+abbrev pub is_owner : Owner → Owner → Bool
+is_owner owners.Caller owners.Caller = true
+is_owner (owners.Value n) (owners.Value m) = m.0 == n.0
+is_owner owners.List owners.List = true
+is_owner (owners.Load l) (owners.Load m) = m.0 == l.0
+is_owner (owners.Worker v) (owners.Worker u) = u.0 == v.0
+is_owner _ _ = false
+
+-- the value of the node and the worker of this number, as owners
+abbrev pub owner_value : ℕ → Owner
+owner_value n = owners.Value (record { 0 = n })
+
+abbrev pub owner_worker : ℕ → Owner
+owner_worker v = owners.Worker (record { 0 = v })
+
+-- whether the handle has this number
+abbrev pub is_handle : ℕ → HandleRow → Bool
+is_handle q h = h.number.0 == q
+
+-- whether it is of this node; and pins it; and is a Shared one of it
+abbrev pub is_at : ℕ → HandleRow → Bool
+is_at n h = h.node.0 == n
+
+abbrev pub is_pin : ℕ → HandleRow → Bool
+is_pin n h = h.node.0 == n && is_pinning h.mode
+
+abbrev pub is_share : ℕ → HandleRow → Bool
+is_share n h = h.node.0 == n && is_shared h.mode
+
+-- whether this one gives it up
+abbrev pub is_owned_by : Owner → HandleRow → Bool
+is_owned_by o h = is_owner o h.owner
+
+-- how many handles a node has, how many pin it, and how many of them are Shared: none but for a shared node
+abbrev pub held : ℕ → List HandleRow → ℕ
+held n rows = sum_by (λ h. one (is_at n h)) rows
+
+abbrev pub pins : ℕ → List HandleRow → ℕ
+pins n rows = sum_by (λ h. one (is_pin n h)) rows
+
+abbrev pub sharing : ℕ → List HandleRow → ℕ
+sharing n rows = sum_by (λ h. one (is_share n h)) rows
+
+-- the row of the handle with this number
+unfoldable pub find_row : ℕ → List HandleRow → Option HandleRow
+find_row q [] = None
+find_row q (h ∷ hs) = if is_handle q h then Some h else find_row q hs
+
+-- whether there is a key
+abbrev pub has_key : OptionalDataKey → Bool
+has_key optional.None = false
+has_key (optional.Some key) = true
+
+-- whether a node that is pinned so often and has this key has its value in memory: something pins it, or it has no key
+abbrev pub is_in_memory : ℕ → OptionalDataKey → Bool
+is_in_memory pinned key = nat_lt 0 pinned || not (has_key key)
