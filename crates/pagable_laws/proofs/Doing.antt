@@ -1,30 +1,26 @@
 -- The chain of a worker and a load meets the headline.
-use Rattle.std.proofs.Common.{◌≡◌, ℕ, zero, suc, ◌+◌, ◌≤◌, ◌==◌, Bool, true, false, List, [], ◌∷◌, refl, ap, sym, subst, ◌∙◌, inl, inr, arith, Ok, cond}
+use Rattle.std.proofs.Common.{◌≡◌, ℕ, zero, suc, ◌+◌, ◌≤◌, ◌==◌, ◌&&◌, Bool, true, false, List, [], ◌∷◌, refl, ap, sym, subst, ◌∙◌, inl, inr, arith, Ok}
 use Rattle.std.specs.Prelude.{Result, Err, Option, Some, None, is_some, ◌⊎◌}
 use Rattle.std.proofs.lemmas.Bool.Decides.{nat_tests}
-use Rattle.pagable_model.specs.declared.error.Error.{Error}
-use Rattle.pagable_model.specs.declared.numbers.Identity.{Identity}
-use Rattle.pagable_model.specs.Blob.{Blob}
-use Rattle.pagable_model.specs.Meaning.{Meaning, number, integer, text, pattern, none, pair, variant, reference, followed}
+use Rattle.pagable_model.specs.Meaning.{number, integer, text, pattern, none, pair, variant, reference, followed}
 use Rattle.pagable_model.specs.Blob.{key_of}
 use Rattle.pagable_model.specs.Merkle.{KeyOfItem, KeysOf, no-keys, blob_of}
+use Rattle.pagable_model.specs.Trees.{KeyRef, IsFollowed, none-followed, blob_context, rest_of}
+use Rattle.pagable_world.specs.Plain.{Error, Identity, Blob, Meaning, Tree, ReadsTree, Among, one}
 use Rattle.pagable_model.specs.Reading as grammar
-use Rattle.pagable_model.specs.Trees.{Tree, KeyRef, IsFollowed, none-followed, ReadsTree, blob_context, rest_of}
 use Rattle.pagable_world.specs.declared.events.Took.TheVariants as took
 use Rattle.pagable_world.specs.declared.events.LoadAnswer.TheVariants as ends
 use Rattle.pagable_world.specs.declared.events.Event.TheVariants as events
 use Rattle.pagable_world.specs.declared.events.EventReply.TheVariants as answers
 use Rattle.pagable_world.specs.declared.events.WorkerAnswer.TheVariants as finals
-use Rattle.pagable_world.specs.Lists.{Among}
-use Rattle.pagable_world.specs.Owners.{held}
+use Rattle.pagable_world.specs.Kinds.{held}
 use Rattle.pagable_world.specs.World.{Core, OpenLoad, of_key, Written, of_item, Reading, Walking, Work, Shelf, to_item}
 use Rattle.pagable_world.specs.Loads.{answers_from, need_of, to_end}
 use Rattle.pagable_world.specs.Workers.{is_workers_load}
 use Rattle.pagable_world.specs.Events.{no_shelf}
-use Rattle.pagable_world.specs.Pager.{world_of}
-use Rattle.pagable_world.specs.Trees.{ValueStands, MeaningStands, none-stands, ReadingFits, FramesFit, IsReadingOf, of_caller, of_worker, StandsFor}
+use Rattle.pagable_world.specs.Pager.{world_of, ValueStands, MeaningStands, none-stands, ReadingFits, FramesFit, IsReadingOf, of_caller, of_worker, StandsFor}
 use Rattle.pagable_world.specs.Runs.{state_after, events_of, replies_of, TakesWell, TodoTakesWell, TreesAlong}
-use Rattle.pagable_world.specs.Order.{steps_of, LaterKind, pins, writes, stores, sets_key, publishes, releases, is_later_of}
+use Rattle.pagable_world.specs.Order.{steps_of}
 use Rattle.pagable_world.specs.Headline.{Headline, IsRight, Meets, meets-of-item, meets-entry, meets-below, IsKeyOfTask, LeavesAll, ReadIsRight, claims_made, IsMetFailure, WorkerIsRight, WorkIsRight, StepIsWithin}
 use Rattle.pagable_laws.specs.SmallWorlds.{empty, new_machine, some_places}
 use Rattle.pagable_laws.specs.SmallMoments.{Sample, leaf, sample, sample_seen, sample_types}
@@ -35,7 +31,7 @@ use Rattle.pagable_laws.proofs.Working.{only-one, the-load, closed-loads, works}
 
 -- ---- what the worker did
 
-zero-either : (b : Bool) → cond b 0 0 + 0 ≤ 1
+zero-either : (b : Bool) → one (b && false) + 0 ≤ 1
 zero-either true = omega arith
 zero-either false = omega arith
 
@@ -44,20 +40,12 @@ no-slot zero i = refl
 no-slot (suc zero) i = refl
 no-slot (suc (suc t)) i = let a : (suc (suc t) == 1) ≡ false = grind (arith, nat_tests) in rw a refl
 
-late : (kind : LaterKind) (i : Identity) → is_later_of {W = Written} kind i (took.Store None (Ok item_key)) ≡ false
-late pins i = refl
-late writes i = refl
-late stores i = refl
-late sets_key i = refl
-late publishes i = refl
-late releases i = refl
-
 worker-right : {E : Type 0} (stored : ℕ → Option Blob) (env : E) → WorkerIsRight sample_seen.written_of (world_of (machine (read_back stored) (walking_work answered) env)) 1 answered (steps_of 1 (events_of (moments stored env)) (replies_of (moments stored env)))
 unfolding steps_of
 worker-right stored env =
     record {
       order = record { left = []; leads = ([], refl, refl) };
-      once = record { claim = λ i. omega arith; load = λ i. omega arith; later = λ kind i. rw (late kind i) (omega arith) };
+      once = record { claim = λ i. omega arith; later = λ stage i. omega arith };
       bounded = omega arith;
       met = λ answer is. let e : finals.Key item_key ≡ answer = cc in subst (λ a. IsMetFailure {W = Written} no_shelf 1 (took.Store None (Ok item_key) ∷ []) a) e tt;
       let_go = λ answer is. record { results = λ i slot there of_it open_still. absurd (cc); handles = refl; loads = λ l. ap (is_workers_load 1) (closed-loads l) };

@@ -3,27 +3,22 @@ use Rattle.std.proofs.Common.{◌≡◌, ℕ, zero, suc, ◌<◌, ◌≤◌, ◌
 use Rattle.std.specs.Prelude.{Option, Some, None, nat_lt, is_some, ◌&&◌, ◌⊎◌}
 use Rattle.std.proofs.lemmas.Bool.Decides.{nat_tests}
 use Rattle.std.specs.List.{AllPairs}
-use Rattle.pagable_model.specs.declared.numbers.ArcRef.{ArcRef}
-use Rattle.pagable_model.specs.Blob.{Blob}
 use Rattle.pagable_model.specs.Meaning.{none, reference, followed}
 use Rattle.pagable_model.specs.References.{references_in, SameReferences}
 use Rattle.pagable_model.specs.Canonical.{IsReadable, LiesIn, Throughout, throughout-in}
+use Rattle.pagable_world.specs.Plain.{ArcRef, Blob, Tree, tree, Among, times, is_in, one}
 use Rattle.pagable_model.specs.Shape as shapes
-use Rattle.pagable_model.specs.Trees.{Tree, tree}
 use Rattle.pagable_world.specs.declared.handles.Owner.TheVariants as owners
 use Rattle.pagable_world.specs.declared.rows.Mode.TheVariants as modes
 use Rattle.pagable_world.specs.declared.handles.HandleRow.{HandleRow}
 use Rattle.pagable_world.specs.declared.events.Event.{Event}
 use Rattle.pagable_world.specs.declared.events.EventReply.{EventReply}
-use Rattle.pagable_world.specs.Lists.{Among, times, is_in}
-use Rattle.pagable_world.specs.Owners.{find_row, held, pins, sharing, has_key, is_handle, is_owned_by, owner_value}
-use Rattle.pagable_world.specs.World.{Core, Alike, Reading, Written, type_at, key_at, is_here}
-use Rattle.pagable_world.specs.Values.{IsLawful, IsSettled}
+use Rattle.pagable_world.specs.Kinds.{find_row, held, pins, sharing, has_key, is_handle, is_owned_by, owner_value}
+use Rattle.pagable_world.specs.World.{Core, Alike, Reading, Written, type_at, key_at, is_here, IsLawful, IsSettled}
 use Rattle.pagable_world.specs.Refusals.{references_fault, IsReference}
-use Rattle.pagable_world.specs.HandleCalls.{row_of, is_named_by}
+use Rattle.pagable_world.specs.Calls.{row_of, is_named_by}
 use Rattle.pagable_world.specs.Events.{WorkStays}
-use Rattle.pagable_world.specs.Pager.{MachineState, IsHandleBefore, HandlesAreWhole, OwnersAreThere, WellFormed, IsMachineWhole}
-use Rattle.pagable_world.specs.Trees.{KeyFits, NodeStands, here, none-stands, reference-stands, IsReadingOf, of_caller, of_worker, StandsFor, SameTrees}
+use Rattle.pagable_world.specs.Pager.{MachineState, IsHandleBefore, HandlesAreWhole, OwnersAreThere, WellFormed, IsMachineWhole, KeyFits, NodeStands, here, none-stands, reference-stands, IsReadingOf, of_caller, of_worker, StandsFor, SameTrees}
 use Rattle.pagable_world.specs.Runs.{Does, AreMoments, state_after, events_of, replies_of, TreesAlong, ReadsItsTypes, KeepsOpen, IsWellAsked, read_out, IsPremised}
 use Rattle.pagable_world.specs.Headline.{Headline, IsRight, WorkIsRight, claims_made}
 use Rattle.pagable_laws.specs.SmallWorlds.{new_machine, no_work, some_places, first_node}

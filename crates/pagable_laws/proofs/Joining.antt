@@ -1,12 +1,9 @@
 -- Chains join, and a new machine is whole.
 use Rattle.std.proofs.Common.{◌≡◌, ℕ, [], ◌∷◌, ◌++◌, List, refl, inl, arith}
 use Rattle.std.specs.Prelude.{Option}
-use Rattle.pagable_model.specs.Blob.{Blob}
-use Rattle.pagable_model.specs.Trees.{Tree}
-use Rattle.pagable_world.specs.World.{Places}
-use Rattle.pagable_world.specs.Values.{Values, Seen}
-use Rattle.pagable_world.specs.Pager.{MachineState, IsMachineWhole, WellFormed}
-use Rattle.pagable_world.specs.Trees.{StandsFor, of_caller, of_worker}
+use Rattle.pagable_world.specs.Plain.{Blob, Tree}
+use Rattle.pagable_world.specs.World.{Places, Values, Seen}
+use Rattle.pagable_world.specs.Pager.{MachineState, IsMachineWhole, WellFormed, StandsFor, of_caller, of_worker}
 use Rattle.pagable_world.specs.Runs.{Moment, AreMoments, state_after}
 use Rattle.pagable_laws.specs.SmallWorlds.{new_pager, new_machine}
 use Rattle.pagable_laws.specs.RunLaws.{ChainsJoin, NewIsWhole}

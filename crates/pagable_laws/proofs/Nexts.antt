@@ -3,10 +3,9 @@ use Rattle.std.proofs.Common.{◌≡◌, ℕ, refl, ap, ◌∙◌, List, [], ◌
 use Rattle.std.specs.Prelude.{Some, None}
 use Rattle.pagable_world.specs.declared.events.Claim.TheVariants as claims
 use Rattle.pagable_world.specs.declared.events.PinStep.TheVariants as pinsteps
-use Rattle.pagable_world.specs.declared.events.Took.{Took}
 use Rattle.pagable_world.specs.declared.events.Took.TheVariants as took
-use Rattle.pagable_world.specs.World.{Todo, to_start, to_pin, to_load, to_write, to_finish, to_item, to_set, to_publish, to_release, to_fail, was_failed}
-use Rattle.pagable_world.specs.Values.{Seen}
+use Rattle.pagable_world.specs.declared.events.Took.{Took}
+use Rattle.pagable_world.specs.World.{Todo, to_start, to_pin, to_load, to_write, to_finish, to_item, to_set, to_publish, to_release, to_fail, was_failed, Seen}
 use Rattle.pagable_world.specs.Workers.{Site, Does, failing, failing_by}
 use Rattle.pagable_world.specs.Order.{Follows}
 use Rattle.pagable_laws.specs.RunLaws.{NextIsOneOf, StepsFollow}

@@ -1,9 +1,9 @@
 -- Keys tell stored trees apart.
 use Rattle.std.proofs.Common.{◌≡◌, ℕ, sym, ◌∙◌}
 use Rattle.std.specs.Prelude.{Option, Some}
-use Rattle.pagable_model.specs.Blob.{Blob}
 use Rattle.pagable_model.specs.Merkle.{SharesNoKey}
-use Rattle.pagable_world.specs.Values.{Values}
+use Rattle.pagable_world.specs.Plain.{Blob}
+use Rattle.pagable_world.specs.World.{Values}
 use Rattle.pagable_laws.specs.TreeLaws.{IsKeyOfOneTree}
 use Rattle.pagable_laws.specs.RunLaws.{KeysTellTheirTrees}
 

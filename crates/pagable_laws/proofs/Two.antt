@@ -3,15 +3,14 @@ use Rattle.std.proofs.Common.{◌≡◌, ℕ, ◌+◌, ◌<◌, ◌≤◌, ◌==
 use Rattle.std.specs.Prelude.{not, Option, Ok}
 use Rattle.std.proofs.lemmas.List.Sums.{sum_by-cons}
 use Rattle.std.proofs.lemmas.Bool.Decides.{nat_tests}
-use Rattle.pagable_model.specs.Blob.{Blob}
+use Rattle.pagable_world.specs.Plain.{Blob, one}
 use Rattle.pagable_world.specs.declared.handles.Owner.TheVariants as owners
 use Rattle.pagable_world.specs.declared.rows.Mode.TheVariants as modes
 use Rattle.pagable_world.specs.declared.handles.HandleRow.{HandleRow}
-use Rattle.pagable_world.specs.Lists.{one}
-use Rattle.pagable_world.specs.Owners.{pins, held, is_at, find_row}
+use Rattle.pagable_world.specs.Kinds.{pins, held, is_at, find_row}
 use Rattle.pagable_world.specs.World.{Last}
 use Rattle.pagable_world.specs.Cascade.{is_keyed, owned_outside, loses_value, IsClosed, IsWithin, IsLeast, MustList, Falls, fallen, nobody}
-use Rattle.pagable_world.specs.HandleCalls.{row_of, with_mode, UnpinCall}
+use Rattle.pagable_world.specs.Calls.{row_of, with_mode, UnpinCall}
 use Rattle.pagable_laws.specs.SmallWorlds.{two_rows, are_two, outer, both, first, first_node, lone, lone_listed, lone_unlisted}
 use Rattle.pagable_laws.specs.FallLaws.{OwnsNothing, TwoLevelsFall, LoneIsListed}
 use Rattle.pagable_laws.proofs.Existing.{given-least}

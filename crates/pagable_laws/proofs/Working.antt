@@ -2,8 +2,8 @@
 use Rattle.std.proofs.Common.{◌≡◌, ℕ, zero, suc, ◌<◌, ◌≤◌, ◌==◌, Bool, true, false, [], ◌∷◌, refl, ap, sym, subst, inl, arith, Ok}
 use Rattle.std.specs.Prelude.{Option, Some, None, is_some, ◌⊎◌}
 use Rattle.std.proofs.lemmas.Bool.Decides.{nat_tests}
-use Rattle.pagable_model.specs.Blob.{Blob}
 use Rattle.pagable_model.specs.Meaning.{none}
+use Rattle.pagable_world.specs.Plain.{Blob, updated, if_there}
 use Rattle.pagable_model.specs.Reading as grammar
 use Rattle.pagable_world.specs.declared.handles.Owner.TheVariants as owners
 use Rattle.pagable_world.specs.declared.answers.Beginning.TheVariants as beginnings
@@ -12,16 +12,14 @@ use Rattle.pagable_world.specs.declared.events.WorkerAnswer.TheVariants as final
 use Rattle.pagable_world.specs.declared.events.LoadAnswer.TheVariants as ends
 use Rattle.pagable_world.specs.declared.events.Event.TheVariants as events
 use Rattle.pagable_world.specs.declared.events.EventReply.TheVariants as answers
-use Rattle.pagable_world.specs.Lists.{updated}
-use Rattle.pagable_world.specs.Owners.{pins}
-use Rattle.pagable_world.specs.World.{Core, OpenLoad, of_key, Last, Reading, Walking, SameShelf, Shelf, greatest}
+use Rattle.pagable_world.specs.Kinds.{pins}
+use Rattle.pagable_world.specs.World.{Core, OpenLoad, of_key, Last, Reading, Walking, SameShelf, Shelf, greatest, digest}
 use Rattle.pagable_world.specs.Cascade.{IsLeast, is_keyed, FallsAnyhow, fallen, nobody}
 use Rattle.pagable_world.specs.Refusals.{named_fault}
-use Rattle.pagable_world.specs.CacheCalls.{StoreCall}
-use Rattle.pagable_world.specs.Values.{digest}
+use Rattle.pagable_world.specs.Calls.{StoreCall}
 use Rattle.pagable_world.specs.Loads.{answers_from, root_frame}
 use Rattle.pagable_world.specs.Workers.{without_worker, is_workers}
-use Rattle.pagable_world.specs.Events.{no_shelf, if_open, WorkStays}
+use Rattle.pagable_world.specs.Events.{no_shelf, WorkStays}
 use Rattle.pagable_world.specs.Pager.{WellFormed, MayOwnLoad, Moves, IsReadingWhole, IsWalkingWhole, IsMachineWhole}
 use Rattle.pagable_world.specs.Runs.{Does, AreMoments}
 use Rattle.pagable_laws.specs.SmallWorlds.{empty, new_machine, some_places}
@@ -273,7 +271,7 @@ store-step stored env free =
     walkings (suc zero) = refl
     walkings (suc (suc v)) = let a : (suc (suc v) == 1) ≡ false = grind (arith, nat_tests) in rw a refl
 
-if-loading : (stored : ℕ → Option Blob) (r : Reading) (readings : ℕ → Option Reading) → ((l : ℕ) → only r l ≡ updated 1 (Some r) readings l) → (l : ℕ) → only r l ≡ if_open ((loading stored).loads l) (updated 1 (Some r) readings l)
+if-loading : (stored : ℕ → Option Blob) (r : Reading) (readings : ℕ → Option Reading) → ((l : ℕ) → only r l ≡ updated 1 (Some r) readings l) → (l : ℕ) → only r l ≡ if_there (λ load. updated 1 (Some r) readings l) None ((loading stored).loads l)
 if-loading stored r readings same zero = refl
 if-loading stored r readings same (suc zero) = refl
 if-loading stored r readings same (suc (suc l)) = let a : (suc (suc l) == 1) ≡ false = grind (arith, nat_tests) in rw a refl
@@ -373,7 +371,7 @@ read-step stored env =
       whole = back-whole stored env;
     }
   where
-    gone : (l : ℕ) → None ≡ if_open ((read_back stored).loads l) (updated 1 None (only fetched) l)
+    gone : (l : ℕ) → None ≡ if_there (λ load. updated 1 None (only fetched) l) None ((read_back stored).loads l)
     gone zero = refl
     gone (suc zero) = refl
     gone (suc (suc l)) = let a : (suc (suc l) == 1) ≡ false = grind (arith, nat_tests) in rw a refl

@@ -1,16 +1,14 @@
 -- That the headline is met, with all that it asks.
 use Rattle.std.specs.Prelude.{ℕ, ◌≡◌, ◌⊎◌, Option, Some, None, List, [], ◌∷◌}
-use Rattle.pagable_model.specs.Blob.{Blob}
-use Rattle.pagable_model.specs.Trees.{Tree}
-use Rattle.pagable_world.specs.Values.{IsLawful}
-use Rattle.pagable_world.specs.World.{Written}
+use Rattle.pagable_world.specs.Plain.{Blob, Tree}
+use Rattle.pagable_laws.specs.SmallWork as work
+use Rattle.pagable_world.specs.World.{IsLawful, Written}
 use Rattle.pagable_world.specs.Pager.{MachineState}
 use Rattle.pagable_world.specs.Runs.{Moment, AreMoments, ReadsItsTypes, IsPremised}
 use Rattle.pagable_world.specs.Headline.{Headline}
 use Rattle.pagable_laws.specs.SmallWorlds.{new_machine, some_places}
 use Rattle.pagable_laws.specs.SmallMoments.{Sample, sample, sample_seen, sample_types, one_machine, two_machine, child_born, parent_born, counted, moments}
 use Rattle.pagable_laws.specs.SmallWork.{item_blob, item_key}
-use Rattle.pagable_laws.specs.SmallWork as work
 
 -- A child is born, a parent that refers to it too, and one pin of the parent is counted: a chain that meets the headline, whose premises are
 -- met at each moment. To count two is no such chain.

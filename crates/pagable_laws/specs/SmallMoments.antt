@@ -1,23 +1,18 @@
 -- A small environment, and a chain of moments over it: a child is born, and then a parent that refers to it, and its pins are counted.
 -- A value is a leaf, of the type 1, which has no byte; or a parent, of the type 0, which is a reference to one of the type 1.
 use Rattle.std.specs.Prelude.{ℕ, zero, suc, ◌≡◌, [], ◌∷◌, List, Option, Some, None, Ok}
+use Rattle.pagable_model.specs.Meaning.{none, reference, followed}
+use Rattle.pagable_world.specs.Plain.{ArcRef, HandleNumber, Blob, Meaning, Tree, Types, tree, updated}
 use Rattle.pagable_model.specs.declared.data_key.OptionalDataKey.TheVariants as optional
-use Rattle.pagable_model.specs.declared.numbers.ArcRef.{ArcRef}
-use Rattle.pagable_model.specs.declared.numbers.HandleNumber.{HandleNumber}
-use Rattle.pagable_model.specs.Blob.{Blob}
-use Rattle.pagable_model.specs.Meaning.{Meaning, none, reference, followed}
 use Rattle.pagable_model.specs.Shape as shapes
-use Rattle.pagable_model.specs.Trees.{Tree, Types, tree}
 use Rattle.pagable_world.specs.declared.rows.Mode.TheVariants as modes
 use Rattle.pagable_world.specs.declared.handles.Owner.TheVariants as owners
 use Rattle.pagable_world.specs.declared.calls.Call.TheVariants as calls
 use Rattle.pagable_world.specs.declared.calls.Reply.TheVariants as replies
 use Rattle.pagable_world.specs.declared.events.Event.TheVariants as events
 use Rattle.pagable_world.specs.declared.events.EventReply.TheVariants as answers
-use Rattle.pagable_world.specs.Lists.{updated}
-use Rattle.pagable_world.specs.World.{Core, Written}
-use Rattle.pagable_world.specs.Values.{Values, Seen}
-use Rattle.pagable_world.specs.HandleCalls.{with_handle, with_node, next_node}
+use Rattle.pagable_world.specs.World.{Core, Written, Values, Seen}
+use Rattle.pagable_world.specs.Calls.{with_handle, with_node, next_node}
 use Rattle.pagable_world.specs.Pager.{MachineState}
 use Rattle.pagable_world.specs.Runs.{Moment}
 use Rattle.pagable_laws.specs.SmallWorlds.{empty, no_work, some_places, first}

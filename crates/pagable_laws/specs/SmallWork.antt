@@ -1,23 +1,19 @@
 -- A chain of moments of a worker and a load: an item without bytes is paged out, and its key is read back as a leaf.
 use Rattle.std.specs.Prelude.{ℕ, ◌==◌, false, if◌then◌else◌, [], ◌∷◌, List, Option, Some, None, Ok}
-use Rattle.pagable_model.specs.declared.numbers.LoadNumber.{LoadNumber}
-use Rattle.pagable_model.specs.declared.numbers.WorkerNumber.{WorkerNumber}
-use Rattle.pagable_model.specs.Blob.{Blob}
+use Rattle.pagable_world.specs.Plain.{LoadNumber, WorkerNumber, Blob, updated}
 use Rattle.pagable_world.specs.declared.answers.Beginning.TheVariants as beginnings
-use Rattle.pagable_world.specs.declared.events.TableNumber.{TableNumber}
 use Rattle.pagable_world.specs.declared.events.Took.TheVariants as took
 use Rattle.pagable_world.specs.declared.events.WorkerAnswer.TheVariants as finals
 use Rattle.pagable_world.specs.declared.events.LoadAnswer.TheVariants as ends
 use Rattle.pagable_world.specs.declared.events.Event.TheVariants as events
 use Rattle.pagable_world.specs.declared.events.EventReply.TheVariants as answers
 use Rattle.pagable_world.specs.declared.handles.Owner.TheVariants as owners
-use Rattle.pagable_world.specs.Lists.{updated}
-use Rattle.pagable_world.specs.World.{Core, of_key, Written, Reading, of_item, Walking, Work}
-use Rattle.pagable_world.specs.Values.{digest}
+use Rattle.pagable_world.specs.declared.events.TableNumber.{TableNumber}
+use Rattle.pagable_world.specs.World.{Core, of_key, Written, Reading, of_item, Walking, Work, digest}
+use Rattle.pagable_world.specs.LoadCalls.{with_load, without_load}
 use Rattle.pagable_world.specs.Loads.{root_frame, gone_on}
 use Rattle.pagable_world.specs.Workers.{fresh}
 use Rattle.pagable_world.specs.Events.{no_shelf, with_worker, new_walking}
-use Rattle.pagable_world.specs.LoadCalls.{with_load, without_load}
 use Rattle.pagable_world.specs.Pager.{PagerState, MachineState}
 use Rattle.pagable_world.specs.Runs.{Moment}
 use Rattle.pagable_laws.specs.SmallWorlds.{empty, no_work, some_places}

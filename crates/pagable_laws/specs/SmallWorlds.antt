@@ -1,15 +1,12 @@
 -- Small worlds over any storage, to see that the definitions are met, and what they refuse.
 use Rattle.std.specs.Prelude.{ℕ, ◌==◌, ◌||◌, Bool, false, List, [], ◌∷◌, Option, Some, None}
+use Rattle.pagable_world.specs.Plain.{HandleNumber, NodeNumber, Blob, updated}
 use Rattle.pagable_model.specs.declared.data_key.OptionalDataKey.TheVariants as optional
-use Rattle.pagable_model.specs.declared.numbers.HandleNumber.{HandleNumber}
-use Rattle.pagable_model.specs.declared.numbers.NodeNumber.{NodeNumber}
-use Rattle.pagable_model.specs.Blob.{Blob}
 use Rattle.pagable_world.specs.declared.rows.Mode.TheVariants as modes
 use Rattle.pagable_world.specs.declared.handles.Owner.TheVariants as owners
 use Rattle.pagable_world.specs.declared.handles.HandleRow.{HandleRow}
-use Rattle.pagable_world.specs.Lists.{updated}
 use Rattle.pagable_world.specs.World.{Core, Places, Work}
-use Rattle.pagable_world.specs.HandleCalls.{row_of}
+use Rattle.pagable_world.specs.Calls.{row_of}
 use Rattle.pagable_world.specs.Events.{no_shelf}
 use Rattle.pagable_world.specs.Pager.{PagerState, MachineState}
 

@@ -1,9 +1,9 @@
 //! The laws of the definitions of the pager's world: each is the contract of a function that does nothing.
 
-ghost use Rattle.pagable_world.specs.Values.{Seen};
+ghost use Rattle.pagable_world.specs.World.{Seen};
 ghost use Rattle.pagable_laws.specs.FallLaws.{IsThere, IsOne, IsGivenAlone, PinsAreAFilter, TwoLevelsFall, LoneIsListed};
 ghost use Rattle.pagable_laws.specs.MetLaws.{HeadlineIsMet, WorkMeetsHeadline};
-ghost use Rattle.pagable_laws.specs.RunLaws.{ChainsJoin, NewIsWhole, NextIsOneOf, StepsFollow, KeysTellTheirTrees};
+ghost use Rattle.pagable_laws.specs.RunLaws.{ChainsJoin, NewIsWhole, NextIsOneOf, StepsFollow, IsOnceEach, KeysTellTheirTrees};
 
 use crate::values::is_key_of_one_tree;
 
@@ -69,6 +69,11 @@ pub fn next_is_one()
 #[tactic(auto, using(crate::proofs::Nexts::steps_follow))]
 pub fn steps_follow<N: SeenAs<B, W>, B, W>()
     ensures { StepsFollow N.seen }
+{}
+
+/// What that automaton accepts, with no identity claimed twice, has each stage at most once after its claim.
+pub fn is_once_each<N: SeenAs<B, W>, B, W>()
+    ensures { IsOnceEach N.seen }
 {}
 
 /// Of stored trees of canonical types the keys are equal exactly if the trees are: the law of values, in every store.

@@ -14,7 +14,7 @@ use Rattle.pagable_world.specs.today.Shown.{Shown, OnlyBook, Unchanged}
 use Rattle.pagable_world.specs.declared.rows.Mode.{Mode}
 use Rattle.pagable_world.specs.today.World.{World}
 use Rattle.pagable_world.specs.today.World.{plain as plain_world}
-use Rattle.pagable_world.specs.Trees.{SameTrees}
+use Rattle.pagable_world.specs.Pager.{SameTrees}
 use Rattle.pagable_world.specs.today.TodayTrees.{Sight, TodayWorld, RepresentsToday, EachWorld, ReadFits, BirthOf, AwayBirthOf, MeansTree, CellFits, KeyReads}
 use Rattle.pagable_world.specs.declared.machine.MachineCall.TheVariants as calls
 use Rattle.pagable_world.specs.declared.calls.Reply.TheVariants as replies

@@ -22,7 +22,7 @@ use Rattle.pagable_world.specs.declared.events.LoadAnswer.{LoadAnswer}
 use Rattle.pagable_world.specs.today.Refusals.{HasRow}
 use Rattle.pagable_world.specs.today.Calls.{Ended}
 use Rattle.pagable_world.specs.today.Shown.{Shown}
-use Rattle.pagable_world.specs.Trees.{SameTrees}
+use Rattle.pagable_world.specs.Pager.{SameTrees}
 use Rattle.pagable_world.specs.today.TodayTrees.{Sight, TodayWorld, RepresentsToday}
 use Rattle.pagable_world.specs.World.{one_more}
 use Rattle.pagable_world.specs.today.MachineSteps.{MachineWorld, world_of}

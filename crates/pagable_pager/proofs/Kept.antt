@@ -43,7 +43,7 @@ use Rattle.pagable_world.specs.today.LoadEnds.{InstallsValue, ClosedBy, StaysOpe
 use Rattle.pagable_pager.specs.declared.pagable_arc.values.ValueRow.{ValueRow}
 use Rattle.pagable_world.specs.today.Lending.{IsLent}
 use Rattle.pagable_world.specs.today.InStep.{InStep, kept}
-use Rattle.pagable_world.specs.Trees.{SameTrees}
+use Rattle.pagable_world.specs.Pager.{SameTrees}
 use Rattle.pagable_world.specs.today.TodayTrees.{Sight, MeansTree, CellFits, TodayWorld, RepresentsToday, EachWorld, Always, KeyReads, SetKeyFits, LendsTree, StandsEmpty, AwayBirthOf, BirthOf, ReadFits}
 
 -- what is true of each open load stays so

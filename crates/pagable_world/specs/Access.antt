@@ -1,40 +1,114 @@
--- Whole operations over an access to a pager and a table, which may tell its state: a pin, a reading, a page-out of an item and of the
--- list. Each is a run of the steps of one load or of one worker, up to its answer.
-use Rattle.std.specs.Prelude.{ℕ, ◌≡◌, ◌+◌, ◌⊎◌, false, List, [], ◌∷◌, Option, Some, None, length, Result, Ok, Err, IfOk, IfErr, slice_get}
-use Rattle.pagable_model.specs.declared.error.Error.{Error}
+-- What running threads share: results with a finite tree of results below each. Whole operations over an access to a pager and a table, which may
+-- tell its state: a pin, a reading, a page-out of an item and of the list. Each is a run of the steps of one load or of one worker, up to its answer.
+use Rattle.std.specs.Prelude.{◌≡◌, ℕ, List, [], ◌∷◌, ◌+◌, ◌==◌, ◌&&◌, Bool, true, false, if◌then◌else◌, length, Option, Some, None, Result, Ok, IfOk, IfErr, slice_get, ◌⊎◌, Err}
+use Rattle.pagable_model.specs.Merkle.{blob_of, KeyOf}
+use Rattle.pagable_world.specs.Plain.{ArcRef, Identity, Blob, type_of, Error, OptionalDataKey, HandleNumber, LoadNumber, Tree, ReadsTree, Owner, HandleRow, LoadAnswer, Took, WorkerAnswer}
 use Rattle.pagable_model.specs.declared.error.Error.TheVariants as errors
-use Rattle.pagable_model.specs.declared.data_key.OptionalDataKey.{OptionalDataKey}
 use Rattle.pagable_model.specs.declared.data_key.OptionalDataKey.TheVariants as optional
-use Rattle.pagable_model.specs.declared.numbers.HandleNumber.{HandleNumber}
-use Rattle.pagable_model.specs.declared.numbers.LoadNumber.{LoadNumber}
-use Rattle.pagable_model.specs.declared.numbers.Identity.{Identity}
-use Rattle.pagable_model.specs.Trees.{Tree, ReadsTree}
-use Rattle.pagable_model.specs.Merkle.{KeyOf}
 use Rattle.pagable_world.specs.declared.rows.Mode.TheVariants as modes
-use Rattle.pagable_world.specs.declared.handles.Owner.{Owner}
 use Rattle.pagable_world.specs.declared.handles.Owner.TheVariants as owners
-use Rattle.pagable_world.specs.declared.handles.HandleRow.{HandleRow}
 use Rattle.pagable_world.specs.declared.answers.Pinning.TheVariants as pinnings
 use Rattle.pagable_world.specs.declared.answers.Beginning.TheVariants as beginnings
-use Rattle.pagable_world.specs.declared.events.LoadAnswer.{LoadAnswer}
 use Rattle.pagable_world.specs.declared.events.LoadAnswer.TheVariants as ends
-use Rattle.pagable_world.specs.declared.events.Took.{Took}
-use Rattle.pagable_world.specs.declared.events.WorkerAnswer.{WorkerAnswer}
 use Rattle.pagable_world.specs.declared.events.WorkerAnswer.TheVariants as finals
-use Rattle.pagable_world.specs.Kinds.{HasKinds, HasNoKinds}
-use Rattle.pagable_world.specs.World.{Core, Shelf, Slot, Written, Frame, Reading, Todo, of_item, row_at, key_at, Alike, SameShelf}
-use Rattle.pagable_world.specs.Values.{Values, Seen, IsLawful, IsSettled}
-use Rattle.pagable_world.specs.HandleCalls.{PinCall, UnpinCall, ReleaseCall, TakeCall}
+use Rattle.pagable_world.specs.Kinds.{identity_of, HasKinds, HasNoKinds}
+use Rattle.pagable_world.specs.World.{Written, Frame, Outcome, is_identity, Values, digest, HasForm, Core, Shelf, Slot, Reading, Todo, of_item, row_at, key_at, Alike, SameShelf, Seen, IsLawful, IsSettled}
+use Rattle.pagable_world.specs.Calls.{PinCall, UnpinCall, ReleaseCall, TakeCall}
 use Rattle.pagable_world.specs.LoadCalls.{BeginCall, BeginKeyCall}
-use Rattle.pagable_world.specs.Loads.{ReadingDoes, gone_on}
-use Rattle.pagable_world.specs.Workers.{Site, WalkDoes, IsPublished, is_open_slot, first_todo, fresh, answer_after}
+use Rattle.pagable_world.specs.Loads.{IsDecoded, ReadingDoes, gone_on}
+use Rattle.pagable_world.specs.Workers.{is_open_outcome, Site, WalkDoes, IsPublished, is_open_slot, first_todo, fresh, answer_after}
 use Rattle.pagable_world.specs.Events.{Ends, IsEntry, entry_task, with_entry_taken, with_worker, reading_of_load, no_shelf}
-use Rattle.pagable_world.specs.Pager.{PagerState, WellFormed, Moves, ReadingBrings, TodoBrings, TookWrites}
-use Rattle.pagable_world.specs.Trees.{ValueStands, Represents, SameTrees}
+use Rattle.pagable_world.specs.Pager.{PagerState, WellFormed, Moves, ReadingBrings, TodoBrings, TookWrites, ValueStands, Represents, SameTrees}
 use Rattle.pagable_world.specs.Runs.{ReadsItsTypes, HoldsSettled, TakesWell, TodoTakesWell}
 use Rattle.pagable_world.specs.Headline.{ReadIsRight, IsKeyOfTask}
 
--- ---- what is told
+mutual
+  -- Below the identity, with this value and key, stands a finite tree of results: the value is of the identity's type and has a form, and the key is
+  -- that of the form over the keys of one result for each of its references.
+  pub data ResultStands {N : Type 0} (v : Values N) : Identity → N → ℕ → Type 0 where
+    stands-over : (i : Identity) (x : N) (written : Written) (keys : List ℕ) → v.node_type x ≡ type_of i.kind.0 → HasForm v x written → ResultsStand v written.references keys → ResultStands v i x (digest v (blob_of written.bytes keys))
+
+  -- one such tree for each of these references, of its identity
+  pub data ResultsStand {N : Type 0} (v : Values N) : List ArcRef → List ℕ → Type 0 where
+    no-results : ResultsStand v [] []
+    more-results : (r : ArcRef) (x : N) (key : ℕ) (references : List ArcRef) (keys : List ℕ) → ResultStands v (identity_of r) x key → ResultsStand v references keys → ResultsStand v (r ∷ references) (key ∷ keys)
+
+-- some value with such a tree below it; so that a table keeps no value in memory
+pub record HasResult {N : Type 0} (v : Values N) (i : Identity) (key : ℕ) : Type 0 where
+  pub x : N
+  pub stands : ResultStands v i x key
+
+-- The key of an item is the digest of its bytes over the keys of such results, one for each reference.
+-- To be carried by: `page_out_item` and `page_out_all`.
+pub record IsOverResults {N : Type 0} (v : Values N) (item : Written) (key : ℕ) : Type 0 where
+  pub keys : List ℕ
+  pub each : ResultsStand v item.references keys
+  pub is : key ≡ digest v (blob_of item.bytes keys)
+
+-- What a future of a pin installs is what the blob that it fetched at its key reads as.
+-- To be carried by: the step of `PinFuture` that ends its load.
+pub record IsReadAt {N : Type 0} (v : Values N) (key : ℕ) (blob : Blob) (x : N) : Type 0 where
+  pub frame : Frame
+  pub under : frame.key ≡ key
+  pub fetched : frame.blob ≡ blob
+  pub decoded : IsDecoded v frame x
+
+-- which identities are claimed on a table, and how many claims its book counts
+pub record Claimed : Type 0 where
+  pub is_claimed : Identity → Bool
+  pub counted : ℕ
+
+-- one more claim, of this identity
+pub record TakesClaim (old : Claimed) (share : ℕ) (i : Identity) (new : Claimed) (share' : ℕ) : Type 0 where
+  pub was_free : old.is_claimed i ≡ false
+  pub each : (j : Identity) → new.is_claimed j ≡ (if is_identity i j then true else old.is_claimed j)
+  pub counts : new.counted ≡ old.counted + 1
+  pub shares : share' ≡ share + 1
+
+-- nothing was claimed
+pub record TakesNone (old : Claimed) (share : ℕ) (new : Claimed) (share' : ℕ) : Type 0 where
+  pub each : (j : Identity) → new.is_claimed j ≡ old.is_claimed j
+  pub counts : new.counted ≡ old.counted
+  pub shares : share' ≡ share
+
+abbrev pub Tries : Claimed → ℕ → Identity → Bool → Claimed → ℕ → Type 0
+Tries old share i true new share' = TakesClaim old share i new share'
+Tries old share i false new share' = (old.is_claimed i ≡ true) × TakesNone old share new share'
+
+-- An identity goes from free to claimed by one call that answers true, which adds one to the caller's share and to the book, and nothing else does.
+-- To be carried by: `try_claim`.
+pub record TryClaim (old : Claimed) (share : ℕ) (i : Identity) (r : Result Bool Error) (new : Claimed) (share' : ℕ) : Type 0 where
+  pub tries : IfOk r (λ taken. Tries old share i taken new share')
+  pub refused : IfErr r (λ e. (e ≡ errors.OutOfMemory) × TakesNone old share new share')
+
+-- a share that is split or merged keeps its sum
+-- To be carried by: `split_off` and `merge`.
+abbrev pub KeepsSum : ℕ → ℕ → ℕ → Type 0
+KeepsSum whole part other = whole ≡ part + other
+
+-- A lent slot takes one result, which never changes.
+-- To be carried by: `set_success` and `set_failed`.
+abbrev pub TakesResult : Outcome → Outcome → Outcome → Type 0
+TakesResult old outcome new = new ≡ (if is_open_outcome old then outcome else old)
+
+-- What a page-out of all items reports: an answer for each in order, each key over results, and as many claims as the book counts.
+-- To be carried by: `page_out_all`.
+pub record IsReport {N F : Type 0} (v : Values N) (items : List Written) (keys : List (Result ℕ F)) (claims counted : ℕ) : Type 0 where
+  pub each : length keys ≡ length items
+  pub over : (place key : ℕ) (item : Written) → slice_get items place ≡ Some item → slice_get keys place ≡ Some (Ok key) → IsOverResults v item key
+  pub claims_are : claims ≡ counted
+
+-- a cell for a kind and key, with the reference that stands there or none yet
+abbrev pub Cells : Type 0
+Cells = ℕ → ℕ → Option (Option ArcRef)
+
+-- the map with this at one kind and key
+pub record CellIs (old : Cells) (kind key : ℕ) (cell : Option (Option ArcRef)) (new : Cells) : Type 0 where
+  pub each : (k q : ℕ) → new k q ≡ (if k == kind && q == key then cell else old k q)
+
+-- all cells are gone
+abbrev pub NoCells : Cells → Type 0
+NoCells new = (kind key : ℕ) → new kind key ≡ None
 
 -- the pager and the one table of an access
 pub record AccessState (N E : Type 0) : Type 0 where
@@ -49,8 +123,6 @@ tells (Some s) (Some t) R = R s t
 -- R holds between two states, where they are told: a state that is told once is told always
 pub record Told {S : Type 0} (s t : Option S) (R : S → S → Type 0) : Type 0 where
   pub holds : tells s t R
-
--- ---- single steps
 
 -- A call of the pager: what it does to the plain world, and that no value comes by it.
 pub record Called {N E : Type 0} (v : Values N) (does : Core → Type 0) (s s' : PagerState N E) : Type 0 where
@@ -75,8 +147,6 @@ pub record WalkStep {N E B W : Type 0} (m : Seen N B W) (n : ℕ) (todo : List T
   pub writes : TookWrites m.values m.written_of s.pager step
   pub whole : WellFormed m.values s'.pager
 
--- ---- runs
-
 -- a load's steps up to its end, which is this
 pub data LoadRun {N E : Type 0} (v : Values N) (me : Owner) : Reading → PagerState N E → LoadAnswer N → PagerState N E → Type 0 where
   load-ends : (reading : Reading) (answer : LoadAnswer N) (s s' : PagerState N E) → ReadingStep v me reading s (Some answer) [] s' → LoadRun v me reading s answer s'
@@ -96,8 +166,6 @@ LoadAsksWell {v = v} (load-goes-on reading frames answer s mid s' step more) = H
 unfoldable pub WorkerAsksWell : {N E B W : Type 0} {m : Seen N B W} {n : ℕ} {todo : List Todo} {s s' : AccessState N E} {steps : List (Took W)} {answer : WorkerAnswer} → WorkerRun m n todo s steps answer s' → Type 0
 WorkerAsksWell {m = m} (worker-ends todo next step answer s s' does is) = HoldsSettled m.values s'.pager × TodoTakesWell m.values s.pager todo
 WorkerAsksWell {m = m} (worker-goes-on todo next step steps answer s mid s' does is more) = HoldsSettled m.values mid.pager × TodoTakesWell m.values s.pager todo × WorkerAsksWell more
-
--- ---- a pin
 
 -- a load of the handle's cell begins, and this is its reading
 pub record LoadStarts {N E : Type 0} (v : Values N) (s : PagerState N E) (h : HandleNumber) (reading : Reading) (s' : PagerState N E) : Type 0 where
@@ -141,8 +209,6 @@ pub record PinsOver {N E : Type 0} (v : Values N) (s : PagerState N E) (h : Hand
   pub pins : IfOk r (λ a. PinRun v s h (Ok a.0) s' × IsValueOf s' a.0 a.1)
   pub refused : IfErr r (λ e. PinRun v s h (Err e) s' ⊎ ((e ≡ errors.OutOfMemory) × PinTakenBack v s h s'))
 
--- ---- a reading
-
 -- a load of a key begins
 abbrev pub KeyStarts : {N E : Type 0} → Values N → PagerState N E → ℕ → LoadNumber → PagerState N E → Type 0
 KeyStarts v s key l s' = Called v (λ w'. BeginKeyCall s.core owners.Caller key (Ok (beginnings.Load l key)) w') s s'
@@ -156,8 +222,6 @@ pub data ReadRun {N E : Type 0} (v : Values N) (s : PagerState N E) (key t : ℕ
 -- To be carried by: `read_over`.
 pub record ReadsOver {N E : Type 0} (v : Values N) (s : PagerState N E) (key t : ℕ) (r : Result N Error) (s' : PagerState N E) : Type 0 where
   pub run : ReadRun v s key t r s'
-
--- ---- a page-out of an item
 
 -- each claim of a table has a result, so that nobody waits on it
 abbrev pub AllHaveResults : Shelf → Type 0
@@ -179,8 +243,6 @@ pub record PagesOutItemOver {N E B W : Type 0} (m : Seen N B W) (s : AccessState
   pub run : ItemRun m s item answer s'
   pub all_have_results : AllHaveResults s'.shelf
 
--- ---- a page-out of the list
-
 -- the cell of the entry at this place has this key, or none
 pub record EntryHas (w : Core) (place : ℕ) (h : HandleNumber) (key : OptionalDataKey) : Type 0 where
   pub row : HandleRow
@@ -195,8 +257,7 @@ pub data EntryRun {N E B W : Type 0} (m : Seen N B W) (s : PagerState N E) (plac
   entry-is-walked : (h : HandleNumber) (row : HandleRow) (t n : ℕ) (steps : List (Took W)) (answer : WorkerAnswer) (mid : PagerState N E) (s' : AccessState N E) → IsEntry s.core place h row t → HasKinds t
       → WorkerStarts m.values (with_entry_taken s.core place h (record { 0 = n })) s n mid → WorkerRun m n (first_todo (entry_task h row t)) (record { pager = mid; shelf = no_shelf }) steps answer s' → EntryRun m s place answer s'.pager
 
--- A page-out of so many entries, from the last to the first: one whose cell has a key is taken and released, another is paged out, and the
--- first failure is the end.
+-- A page-out of so many entries, from the last to the first: one whose cell has a key is taken and released, another is paged out, and the first failure is the end.
 pub data ListRun {N E B W : Type 0} (m : Seen N B W) : ℕ → PagerState N E → Result (Unit {0}) WorkerAnswer → PagerState N E → Type 0 where
   no-more : (s : PagerState N E) → ListRun m 0 s (Ok tt) s
   skips : (i place key : ℕ) (h : HandleNumber) (told : Result (Unit {0}) Error) (answer : Result (Unit {0}) WorkerAnswer) (s mid low s' : PagerState N E) → i ≡ place + 1 → EntryHas s.core place h (optional.Some key)
@@ -209,8 +270,6 @@ pub data ListRun {N E B W : Type 0} (m : Seen N B W) : ℕ → PagerState N E �
 -- To be carried by: `page_out_pending_over`.
 pub record PagesOutListOver {N E B W : Type 0} (m : Seen N B W) (s : PagerState N E) (answer : Result (Unit {0}) WorkerAnswer) (s' : PagerState N E) : Type 0 where
   pub run : ListRun m (length s.core.list) s answer s'
-
--- ---- what these mean, by trees
 
 -- for each choice of trees that the pager stood for there is one, the same for the nodes that were there, that it stands for now, and P holds
 abbrev pub LeadsToTrees : {N E : Type 0} → Values N → PagerState N E → PagerState N E → ((ℕ → Tree) → (ℕ → Tree) → Type 0) → Type 0

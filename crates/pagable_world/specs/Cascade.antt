@@ -1,17 +1,11 @@
--- Handles are given up, with all that goes with them, and cells that lose their last pin are listed. There is one way for all
--- calls and steps: the least set that holds the given handles falls.
+-- Handles are given up, with all that goes with them, and cells that lose their last pin are listed. There is one way for all calls and steps: the least set that holds the given handles falls.
 use Rattle.std.specs.Prelude.{ℕ, ◌≡◌, ◌+◌, ◌<◌, ◌≤◌, ◌==◌, ◌&&◌, ◌⊎◌, ◌++◌, Bool, true, false, not, if◌then◌else◌, List, [], ◌∷◌, filter, map, length, Result, IfOk, IfErr, nat_lt, nat_eq, None}
-use Rattle.pagable_model.specs.declared.error.Error.{Error}
+use Rattle.pagable_world.specs.Plain.{Error, HandleNumber, HandleRow, times}
 use Rattle.pagable_model.specs.declared.error.Error.TheVariants as errors
-use Rattle.pagable_model.specs.declared.numbers.HandleNumber.{HandleNumber}
 use Rattle.pagable_world.specs.declared.rows.Mode.TheVariants as modes
 use Rattle.pagable_world.specs.declared.handles.Owner.TheVariants as owners
-use Rattle.pagable_world.specs.declared.handles.HandleRow.{HandleRow}
-use Rattle.pagable_world.specs.Lists.{times}
-use Rattle.pagable_world.specs.Owners.{is_owned_by, owner_value, is_at, is_pin, held, pins, sharing, has_key}
+use Rattle.pagable_world.specs.Kinds.{is_owned_by, owner_value, is_at, is_pin, held, pins, sharing, has_key}
 use Rattle.pagable_world.specs.World.{Core, greatest, key_at, Alike}
-
--- ---- the least set
 
 -- whether the handle isn't in the set
 abbrev pub is_outside : (ℕ → Bool) → HandleRow → Bool
@@ -27,8 +21,8 @@ pins_outside rows s n = times (λ h. is_pin n h && is_outside s h) rows
 abbrev pub owned_outside : List HandleRow → (ℕ → Bool) → ℕ → ℕ
 owned_outside rows s n = times (λ h. is_owned_by (owner_value n) h && is_outside s h) rows
 
--- The node's value goes where the handles of the set go and these entries come to the list: a node with a key loses it with its last
--- pin, a shared node or a cell without a key with its last handle, unless an entry of the list comes for it.
+-- The node's value goes where the handles of the set go and these entries come to the list: a node with a key loses it with its last pin, a shared
+-- node or a cell without a key with its last handle, unless an entry of the list comes for it.
 abbrev pub loses_value : List HandleRow → (ℕ → Bool) → List HandleRow → (ℕ → Bool) → ℕ → Bool
 loses_value rows keyed entries s n = if keyed n then nat_eq (pins_outside rows s n) 0 else nat_eq (held n entries) 0 && nat_eq (held_outside rows s n) 0
 
@@ -45,8 +39,6 @@ pub record IsLeast (rows : List HandleRow) (keyed : ℕ → Bool) (entries : Lis
   pub holds : IsWithin rows given s
   pub closed : IsClosed rows keyed entries s
   pub least : (t : ℕ → Bool) → IsWithin rows given t → IsClosed rows keyed entries t → IsWithin rows s t
-
--- ---- the list
 
 -- new entries of the list have the numbers above the last one given, in their order, and are unpinned handles
 abbrev pub AreNewEntries : ℕ → List HandleRow → Type 0
@@ -83,8 +75,6 @@ IsListRefusal w w' _ = ⊥
 pub record TellsListing (before w : Core) (entries : List HandleRow) (r : Result (Unit {0}) Error) (w' : Core) : Type 0 where
   pub all : IfOk r (λ u. (n : ℕ) → MustList before w w' n → held n entries ≡ 1)
   pub not_all : IfErr r (λ e. (n : ℕ) × MustList before w w' n × (held n entries ≡ 0) × IsListRefusal w w' e)
-
--- ---- what falls
 
 -- the rows that are left
 abbrev pub left_rows : (ℕ → Bool) → List HandleRow → List HandleRow

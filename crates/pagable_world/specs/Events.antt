@@ -1,44 +1,169 @@
--- One event: a call, a load's step, or a worker's.
-use Rattle.std.specs.Prelude.{ℕ, ◌≡◌, ◌+◌, ◌<◌, ◌≤◌, ◌⊎◌, if◌then◌else◌, Bool, true, List, length, Option, Some, None, is_some, Result, IfOk, IfErr, slice_get}
+-- One call of the pager: the step of its plain world that it is, by the call alone, with a reply of the call's type. One event: a call, a load's step, or a worker's.
+use Rattle.std.specs.Prelude.{◌≡◌, length, ℕ, Bool, Option, Result, ◌+◌, ◌<◌, ◌≤◌, ◌⊎◌, if◌then◌else◌, true, List, Some, None, is_some, IfOk, IfErr, slice_get, is_none}
 use Rattle.std.specs.List.{remove}
-use Rattle.pagable_model.specs.declared.error.Error.{Error}
+use Rattle.pagable_world.specs.Plain.{Blob, Error, OptionalDataKey, HandleNumber, NodeNumber, WorkerNumber, Owner, Call, Found, Reply, Pinning, Beginning, TableNumber, LoadReply, WorkerReply, EventReply, LoadNumber, HandleRow, LoadAnswer, WorkerAnswer, Event, SameAt, updated, if_there, or_else}
+use Rattle.pagable_world.specs.declared.rows.Mode.TheVariants as modes
+use Rattle.pagable_world.specs.declared.calls.Call.TheVariants as calls
+use Rattle.pagable_world.specs.declared.calls.Found.TheVariants as founds
+use Rattle.pagable_world.specs.declared.calls.Reply.TheVariants as replies
+use Rattle.pagable_world.specs.declared.events.EventReply.TheVariants as answers
 use Rattle.pagable_model.specs.declared.error.Error.TheVariants as errors
-use Rattle.pagable_model.specs.declared.numbers.HandleNumber.{HandleNumber}
-use Rattle.pagable_model.specs.declared.numbers.LoadNumber.{LoadNumber}
-use Rattle.pagable_model.specs.declared.numbers.WorkerNumber.{WorkerNumber}
 use Rattle.pagable_world.specs.declared.handles.Owner.TheVariants as owners
-use Rattle.pagable_world.specs.declared.handles.HandleRow.{HandleRow}
-use Rattle.pagable_world.specs.declared.answers.Beginning.{Beginning}
 use Rattle.pagable_world.specs.declared.answers.Beginning.TheVariants as beginnings
-use Rattle.pagable_world.specs.declared.events.TableNumber.{TableNumber}
-use Rattle.pagable_world.specs.declared.events.LoadAnswer.{LoadAnswer}
-use Rattle.pagable_world.specs.declared.events.LoadReply.{LoadReply}
-use Rattle.pagable_world.specs.declared.events.WorkerAnswer.{WorkerAnswer}
-use Rattle.pagable_world.specs.declared.events.WorkerReply.{WorkerReply}
-use Rattle.pagable_world.specs.declared.events.Event.{Event}
 use Rattle.pagable_world.specs.declared.events.Event.TheVariants as events
-use Rattle.pagable_world.specs.declared.events.EventReply.{EventReply}
-use Rattle.pagable_world.specs.Lists.{SameAt, updated}
 use Rattle.pagable_world.specs.Kinds.{loose_kind, HasKinds, HasNoKinds}
-use Rattle.pagable_world.specs.World.{Core, OpenLoad, of_cell, of_key, Root, Shelf, Frame, Reading, Task, of_item, of_entry, Walking, Work, World, row_at, type_at, one_more, Alike, SameShelf}
+use Rattle.pagable_world.specs.World.{Core, Alike, Seen, digest, seen_as, OpenLoad, of_cell, of_key, Root, Shelf, Frame, Reading, Task, of_item, of_entry, Walking, Work, World, row_at, type_at, one_more, SameShelf, Values}
 use Rattle.pagable_world.specs.Cascade.{only_handle}
-use Rattle.pagable_world.specs.Refusals.{earlier, load_fault}
-use Rattle.pagable_world.specs.Steps.{RepliesCall, RepliesStart, RepliesLoad, RepliesTable, RepliesMade, RepliesWorker, CallStep}
-use Rattle.pagable_world.specs.Values.{Values, Seen}
-use Rattle.pagable_world.specs.HandleCalls.{moved}
-use Rattle.pagable_world.specs.LoadCalls.{BeginCall, BeginKeyCall}
+use Rattle.pagable_world.specs.Refusals.{earlier, load_fault, refused_if}
+use Rattle.pagable_world.specs.Calls.{BirthCall, AwayBirthCall, CloneCall, PinCall, UnpinCall, ReleaseCall, LoosenCall, SetKeyCall, CountCall, KeyCall, AwayCall, NodeCall, TypeCall, ScheduleCall, TakeCall, room_of, ReserveCall, RecallCall, OfferCall, ClearCall, FetchCall, StoreCall, FlushCall, CloseCall, moved}
+use Rattle.pagable_world.specs.LoadCalls.{BeginCall, BeginKeyCall, Given, from_cache, from_store, AskCall, AdoptCall, LazyCall, EndCall, HandOverCall, DropCall}
 use Rattle.pagable_world.specs.Loads.{ReadingDoes, gone_on}
 use Rattle.pagable_world.specs.Workers.{Site, WalkDoes, WorkerEnds, first_todo, fresh, answer_after, is_counted}
 
--- ---- the rest of the machine
+-- of a call: P of its answer
+abbrev pub AnswersMade : {N B : Type 0} → Reply N B → (Result HandleNumber (Error × N) → Type 0) → Type 0
+AnswersMade (replies.Made r) P = P r
+AnswersMade _ P = ⊥
+
+abbrev pub AnswersHandle : {N B : Type 0} → Reply N B → (Result HandleNumber Error → Type 0) → Type 0
+AnswersHandle (replies.Handle r) P = P r
+AnswersHandle _ P = ⊥
+
+abbrev pub AnswersPin : {N B : Type 0} → Reply N B → (Result Pinning Error → Type 0) → Type 0
+AnswersPin (replies.Pin r) P = P r
+AnswersPin _ P = ⊥
+
+abbrev pub AnswersDone : {N B : Type 0} → Reply N B → (Result (Unit {0}) Error → Type 0) → Type 0
+AnswersDone (replies.Done r) P = P r
+AnswersDone _ P = ⊥
+
+abbrev pub AnswersCount : {N B : Type 0} → Reply N B → (Result ℕ Error → Type 0) → Type 0
+AnswersCount (replies.Count r) P = P r
+AnswersCount _ P = ⊥
+
+abbrev pub AnswersKey : {N B : Type 0} → Reply N B → (Result OptionalDataKey Error → Type 0) → Type 0
+AnswersKey (replies.KeyFound r) P = P r
+AnswersKey _ P = ⊥
+
+abbrev pub AnswersAway : {N B : Type 0} → Reply N B → (Result Bool Error → Type 0) → Type 0
+AnswersAway (replies.Away r) P = P r
+AnswersAway _ P = ⊥
+
+abbrev pub AnswersNode : {N B : Type 0} → Reply N B → (Result NodeNumber Error → Type 0) → Type 0
+AnswersNode (replies.Node r) P = P r
+AnswersNode _ P = ⊥
+
+abbrev pub AnswersType : {N B : Type 0} → Reply N B → (Option ℕ → Type 0) → Type 0
+AnswersType (replies.NodeType t) P = P t
+AnswersType _ P = ⊥
+
+abbrev pub AnswersLength : {N B : Type 0} → Reply N B → (ℕ → Type 0) → Type 0
+AnswersLength (replies.Length n) P = P n
+AnswersLength _ P = ⊥
+
+abbrev pub AnswersTaken : {N B : Type 0} → Reply N B → (Option HandleNumber → Type 0) → Type 0
+AnswersTaken (replies.Taken h) P = P h
+AnswersTaken _ P = ⊥
+
+abbrev pub AnswersCache : {N B : Type 0} → Reply N B → (Result (Option HandleNumber) Error → Type 0) → Type 0
+AnswersCache (replies.FromCache r) P = P r
+AnswersCache _ P = ⊥
+
+abbrev pub AnswersBlob : {N B : Type 0} → Reply N B → (Result B Error → Type 0) → Type 0
+AnswersBlob (replies.Fetched r) P = P r
+AnswersBlob _ P = ⊥
+
+abbrev pub AnswersStored : {N B : Type 0} → Reply N B → (Result ℕ Error → Type 0) → Type 0
+AnswersStored (replies.Stored r) P = P r
+AnswersStored _ P = ⊥
+
+abbrev pub AnswersBegun : {N B : Type 0} → Reply N B → (Result Beginning Error → Type 0) → Type 0
+AnswersBegun (replies.Begun r) P = P r
+AnswersBegun _ P = ⊥
+
+abbrev pub AnswersFound : {N B : Type 0} → Reply N B → (Result (Found B) Error → Type 0) → Type 0
+AnswersFound (replies.LoadFound r) P = P r
+AnswersFound _ P = ⊥
+
+abbrev pub AnswersEnded : {N B : Type 0} → Reply N B → (Result HandleNumber (Error × Option N) → Type 0) → Type 0
+AnswersEnded (replies.LoadEnded r) P = P r
+AnswersEnded _ P = ⊥
+
+-- of an event: P of its answer
+abbrev pub RepliesCall : {N B W : Type 0} → EventReply N B W → (Reply N B → Type 0) → Type 0
+RepliesCall (answers.CallReply r) P = P r
+RepliesCall _ P = ⊥
+
+abbrev pub RepliesStart : {N B W : Type 0} → EventReply N B W → (Result Beginning Error → Type 0) → Type 0
+RepliesStart (answers.Started r) P = P r
+RepliesStart _ P = ⊥
+
+abbrev pub RepliesLoad : {N B W : Type 0} → EventReply N B W → (Result (LoadReply N) Error → Type 0) → Type 0
+RepliesLoad (answers.LoadMoved r) P = P r
+RepliesLoad _ P = ⊥
+
+abbrev pub RepliesTable : {N B W : Type 0} → EventReply N B W → (Result TableNumber Error → Type 0) → Type 0
+RepliesTable (answers.TableMade r) P = P r
+RepliesTable _ P = ⊥
+
+abbrev pub RepliesMade : {N B W : Type 0} → EventReply N B W → (Result WorkerNumber Error → Type 0) → Type 0
+RepliesMade (answers.WorkerMade r) P = P r
+RepliesMade _ P = ⊥
+
+abbrev pub RepliesWorker : {N B W : Type 0} → EventReply N B W → (Result (WorkerReply W) Error → Type 0) → Type 0
+RepliesWorker (answers.WorkerMoved r) P = P r
+RepliesWorker _ P = ⊥
+
+-- what was found, with the blob as it is seen
+abbrev pub given_of : {B : Type 0} → (B → Blob) → Found B → Given
+given_of f (founds.Cached k) = from_cache k
+given_of f (founds.Blob b) = from_store (f b)
+
+-- what the call does, by the call
+abbrev pub Does : {N B W : Type 0} → Seen N B W → Core → Owner → Call N B → Reply N B → Core → Type 0
+Does m w me (calls.NewPinned x) reply w' = AnswersMade reply (λ r. BirthCall w me x (m.values.node_type x) (m.values.references x) modes.Pinned r w')
+Does m w me (calls.NewLoose x) reply w' = AnswersMade reply (λ r. BirthCall w me x (m.values.node_type x) (m.values.references x) modes.LoosePinned r w')
+Does m w me (calls.NewShared x) reply w' = AnswersMade reply (λ r. BirthCall w me x (m.values.node_type x) (m.values.references x) modes.Shared r w')
+Does m w me (calls.NewPagedOut t key) reply w' = AnswersHandle reply (λ r. AwayBirthCall w me t key r w')
+Does m w me (calls.Clone h) reply w' = AnswersHandle reply (λ r. CloneCall w me h r w')
+Does m w me (calls.Pin h) reply w' = AnswersPin reply (λ r. PinCall w me h r w')
+Does m w me (calls.Unpin h) reply w' = AnswersDone reply (λ r. UnpinCall w me h r w')
+Does m w me (calls.Release h) reply w' = AnswersDone reply (λ r. ReleaseCall w me h r w')
+Does m w me (calls.IntoPagable h) reply w' = AnswersHandle reply (λ r. LoosenCall w me h r w')
+Does m w me (calls.SetDataKey h key) reply w' = AnswersDone reply (λ r. SetKeyCall w me h key r w')
+Does m w me (calls.Count h) reply w' = AnswersCount reply (λ r. CountCall w h r × Alike w w')
+Does m w me (calls.Key h) reply w' = AnswersKey reply (λ r. KeyCall w h r × Alike w w')
+Does m w me (calls.IsPagedOut h) reply w' = AnswersAway reply (λ r. AwayCall w h r × Alike w w')
+Does m w me (calls.NodeOf h) reply w' = AnswersNode reply (λ r. NodeCall w h r × Alike w w')
+Does m w me (calls.NodeLive n) reply w' = AnswersType reply (λ t. TypeCall w n t × Alike w w')
+Does m w me (calls.ScheduleForPaging h) reply w' = AnswersDone reply (λ r. ScheduleCall w me h r w')
+Does m w me calls.Pending reply w' = AnswersLength reply (λ n. (n ≡ length w.list) × Alike w w')
+Does m w me (calls.TakePending i) reply w' = AnswersTaken reply (λ h. TakeCall w me i h w')
+Does m w me (calls.CacheGet kind key) reply w' = AnswersCache reply (λ r. RecallCall w me kind key r w')
+Does m w me (calls.OnArcDeserialized kind key h) reply w' = AnswersCache reply (λ r. OfferCall w me kind key h r w')
+Does m w me calls.CacheClear reply w' = AnswersDone reply (λ r. ClearCall w r w')
+Does m w me (calls.Fetch key) reply w' = AnswersBlob reply (λ r. FetchCall w key (seen_as m.blob_of r) w')
+Does m w me (calls.Store b) reply w' = AnswersStored reply (λ r. StoreCall (digest m.values) w (m.blob_of b) r w')
+Does m w me calls.Flush reply w' = AnswersDone reply (λ r. FlushCall w r w')
+Does m w me (calls.LoadBegin h) reply w' = AnswersBegun reply (λ r. BeginCall w me h r w')
+Does m w me (calls.LoadKey key) reply w' = AnswersBegun reply (λ r. BeginKeyCall w me key r w')
+Does m w me (calls.LoadFetch l want) reply w' = AnswersFound reply (λ r. AskCall w me l want (seen_as (given_of m.blob_of) r) w')
+Does m w me (calls.LoadAdopt l kind key x) reply w' = AnswersMade reply (λ r. AdoptCall w me l kind key x (m.values.node_type x) (m.values.references x) r w')
+Does m w me (calls.LoadLazy l kind key) reply w' = AnswersHandle reply (λ r. LazyCall w me l kind key r w')
+Does m w me (calls.LoadEnd l x) reply w' = AnswersEnded reply (λ r. EndCall w me l x (m.values.node_type x) (m.values.references x) r w')
+Does m w me (calls.LoadTake l hs) reply w' = AnswersDone reply (λ r. HandOverCall w me l hs.items r w')
+Does m w me (calls.LoadDrop l) reply w' = AnswersDone reply (λ r. DropCall w me l r w')
+Does m w me (calls.Reserve n) reply w' = AnswersDone reply (λ r. ReserveCall w n r w')
+Does m w me calls.Room reply w' = AnswersLength reply (λ n. (n ≡ room_of w) × Alike w w')
+Does m w me calls.Close reply w' = AnswersDone reply (λ r. CloseCall w r w')
+
+-- The world may give this reply to the call of this one who asks, and go on to the new world.
+pub record CallStep {N B W : Type 0} (m : Seen N B W) (w : Core) (me : Owner) (call : Call N B) (reply : Reply N B) (w' : Core) : Type 0 where
+  pub does : Does m w me call reply w'
 
 -- the readings of open loads are these, and a load that was closed has none
-abbrev pub if_open : {X : Type 0} → Option OpenLoad → Option X → Option X
-if_open None x = None
-if_open (Some load) x = x
-
 abbrev pub ReadingsAre : (ℕ → Option Reading) → World → Type 0
-ReadingsAre readings u' = (l : ℕ) → u'.work.readings l ≡ if_open (u'.core.loads l) (readings l)
+ReadingsAre readings u' = (l : ℕ) → u'.work.readings l ≡ if_there (λ load. readings l) None (u'.core.loads l)
 
 -- tables and workers stay
 pub record WorkStays (work work' : Work) : Type 0 where
@@ -58,30 +183,19 @@ pub record OnlyCore (u : World) (does : Core → Type 0) (u' : World) : Type 0 w
   pub readings : ReadingsAre u.work.readings u'
   pub work : WorkStays u.work u'.work
 
--- ---- loads
-
 abbrev pub reading_of_root : LoadNumber → Root → Option Reading
 reading_of_root l (of_cell node t h) = Some (fresh l t)
 reading_of_root l of_key = None
 
 abbrev pub reading_of_load : LoadNumber → Option OpenLoad → Option Reading
-reading_of_load l None = None
-reading_of_load l (Some load) = reading_of_root l load.root
-
-abbrev pub or_reading : Option Reading → Option Reading → Option Reading
-or_reading (Some reading) other = Some reading
-or_reading None other = other
+reading_of_load l load = if_there (λ (load : OpenLoad). reading_of_root l load.root) None load
 
 -- how far the load is: at its first step a load of a cell has just begun; a load of a key that a call began is read by nobody
 abbrev pub reading_at : World → LoadNumber → Option Reading
-reading_at u l = or_reading (u.work.readings l.0) (reading_of_load l (u.core.loads l.0))
-
-abbrev pub unread_fault : Option Reading → Option Error
-unread_fault None = Some errors.WrongMode
-unread_fault (Some reading) = None
+reading_at u l = or_else (u.work.readings l.0) (reading_of_load l (u.core.loads l.0))
 
 abbrev pub step_fault : World → LoadNumber → Option Error
-step_fault u l = earlier (load_fault u.core owners.Caller l) (unread_fault (reading_at u l))
+step_fault u l = earlier (load_fault u.core owners.Caller l) (refused_if (is_none (reading_at u l)) errors.WrongMode)
 
 -- the load's reading after a step: with its frames, or gone
 abbrev pub reading_after : {N : Type 0} → Option (LoadAnswer N) → Reading → List Frame → Option Reading
@@ -113,8 +227,6 @@ pub record KeyStarted (u : World) (key t : ℕ) (r : Result Beginning Error) (u'
   pub begun : IfOk r (λ b. ReadingsAre (begun_readings b t u.work.readings) u')
   pub refused : IfErr r (λ e. ReadingsAre u.work.readings u')
   pub work : WorkStays u.work u'.work
-
--- ---- tables and workers
 
 abbrev pub no_shelf : Shelf
 no_shelf = record { slots = λ i. None; waits = λ v. None }
@@ -200,16 +312,10 @@ pub record WorkerSteps {N B W : Type 0} (m : Seen N B W) (u : World) (v : Worker
   pub readings : ReadingsAre u.work.readings u'
   pub work : WorkIs (updated walking.table after.shelf u.work.shelves) u.work.last_table (updated v.0 (Some (record walking { todo = after.todo; steps = reply.steps; answer = reply.answer })) u.work.walkings) u'.work
 
-abbrev pub is_answered : Option Walking → Bool
-is_answered None = true
-is_answered (Some walking) = is_some walking.answer
-
 -- a worker's next step; or there is no such worker, or it has answered, and nothing changes
 pub record WorkerStepped {N B W : Type 0} (m : Seen N B W) (u : World) (v : WorkerNumber) (r : Result (WorkerReply W) Error) (u' : World) : Type 0 where
   pub moves : IfOk r (λ reply. WorkerSteps m u v reply u')
-  pub refused : IfErr r (λ e. (e ≡ errors.NoSuchHandle) × (is_answered (u.work.walkings v.0) ≡ true) × Stays u u')
-
--- ---- any event
+  pub refused : IfErr r (λ e. (e ≡ errors.NoSuchHandle) × (if_there (λ (walking : Walking). is_some walking.answer) true (u.work.walkings v.0) ≡ true) × Stays u u')
 
 abbrev pub Happens : {N B W : Type 0} → Seen N B W → World → Event N B W → EventReply N B W → World → Type 0
 Happens m u (events.Call call) reply u' = RepliesCall reply (λ r. OnlyCore u (λ w'. CallStep m u.core owners.Caller call r w') u')

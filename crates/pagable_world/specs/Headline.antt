@@ -1,44 +1,28 @@
 -- The main theorem, a law of chains: what loads and page-outs answer and leave, by trees; and what workers and claims come to.
-use Rattle.std.specs.Prelude.{ℕ, ◌≡◌, ◌≢◌, ◌+◌, ◌≤◌, ◌==◌, if◌then◌else◌, true, false, List, [], ◌∷◌, Option, Some, None, Ok, is_some}
-use Rattle.pagable_model.specs.declared.data_key.OptionalDataKey.TheVariants as optional
-use Rattle.pagable_model.specs.declared.numbers.ArcRef.{ArcRef}
-use Rattle.pagable_model.specs.declared.numbers.HandleNumber.{HandleNumber}
-use Rattle.pagable_model.specs.declared.numbers.Identity.{Identity}
-use Rattle.pagable_model.specs.Blob.{Blob}
-use Rattle.pagable_model.specs.Trees.{Tree, ReadsTree}
+use Rattle.std.specs.Prelude.{ℕ, ◌≡◌, ◌≢◌, ◌+◌, ◌≤◌, ◌==◌, true, false, List, [], ◌∷◌, Option, Some, Ok, is_some, Bool, ◌&&◌}
 use Rattle.pagable_model.specs.Merkle.{KeyOf, KeyOfItem, TreeForm, IsCanonicalItem}
 use Rattle.pagable_model.specs.Canonical.{IsCanonicalTree}
-use Rattle.pagable_model.specs.Shape.{Shape}
+use Rattle.pagable_world.specs.Plain.{ArcRef, HandleNumber, Identity, Blob, Tree, ReadsTree, Shape, HandleRow, Took, WorkerAnswer, Event, EventReply, Among, times, is_loose_kind, if_there, one}
+use Rattle.pagable_model.specs.declared.data_key.OptionalDataKey.TheVariants as optional
 use Rattle.pagable_world.specs.declared.handles.Owner.TheVariants as owners
-use Rattle.pagable_world.specs.declared.handles.HandleRow.{HandleRow}
 use Rattle.pagable_world.specs.declared.answers.Pinning.TheVariants as pinnings
 use Rattle.pagable_world.specs.declared.calls.Call.TheVariants as calls
 use Rattle.pagable_world.specs.declared.calls.Reply.TheVariants as replies
 use Rattle.pagable_world.specs.declared.events.Claim.TheVariants as claims
 use Rattle.pagable_world.specs.declared.events.PinStep.TheVariants as pinsteps
-use Rattle.pagable_world.specs.declared.events.Took.{Took}
 use Rattle.pagable_world.specs.declared.events.Took.TheVariants as took
-use Rattle.pagable_world.specs.declared.events.WorkerAnswer.{WorkerAnswer}
 use Rattle.pagable_world.specs.declared.events.WorkerAnswer.TheVariants as finals
 use Rattle.pagable_world.specs.declared.events.LoadAnswer.TheVariants as ends
-use Rattle.pagable_world.specs.declared.events.Event.{Event}
 use Rattle.pagable_world.specs.declared.events.Event.TheVariants as events
-use Rattle.pagable_world.specs.declared.events.EventReply.{EventReply}
 use Rattle.pagable_world.specs.declared.events.EventReply.TheVariants as answers
-use Rattle.pagable_world.specs.Lists.{Among, times}
-use Rattle.pagable_world.specs.Kinds.{is_loose_kind, identity_of}
-use Rattle.pagable_world.specs.Owners.{is_owned_by, owner_worker}
-use Rattle.pagable_world.specs.World.{OpenLoad, Shelf, Slot, Written, no_result, failed, Reading, Task, of_item, of_entry, Walking, World, row_at, key_at, is_identity}
-use Rattle.pagable_world.specs.Values.{Values, Seen, IsLawful}
+use Rattle.pagable_world.specs.Kinds.{identity_of, is_owned_by, owner_worker}
+use Rattle.pagable_world.specs.World.{OpenLoad, Shelf, Slot, Written, no_result, failed, Reading, Task, of_item, of_entry, Walking, World, row_at, key_at, Values, Seen, IsLawful}
 use Rattle.pagable_world.specs.Refusals.{IsReference}
 use Rattle.pagable_world.specs.Workers.{IsPublished, is_workers_load}
 use Rattle.pagable_world.specs.Events.{reading_at}
-use Rattle.pagable_world.specs.Pager.{PagerState, MachineState, world_of, IsMachineWhole, IsIdle}
-use Rattle.pagable_world.specs.Trees.{ValueStands, StandsFor, kids_of}
+use Rattle.pagable_world.specs.Pager.{PagerState, MachineState, world_of, IsMachineWhole, IsIdle, ValueStands, StandsFor, kids_of}
 use Rattle.pagable_world.specs.Runs.{ReadsItsTypes, HoldsSettled, Moment, AreMoments, state_after, events_of, replies_of, Fact, TreesAlong}
-use Rattle.pagable_world.specs.Order.{steps_of, InOrder, OnceEach, MetError, IsBounded, HasStepLeft, IsWithinBound}
-
--- ---- what is read and pinned
+use Rattle.pagable_world.specs.Order.{steps_of, InOrder, OnceEach, MetError, IsBounded, HasStepLeft, IsWithinBound, is_claim_of}
 
 -- the node of this handle has a value in memory, which stands for the tree that the node was made with
 pub record GivesTree {N E : Type 0} (v : Values N) (s : PagerState N E) (trees : ℕ → Tree) (k : HandleNumber) : Type 0 where
@@ -65,10 +49,7 @@ abbrev pub ReadGives : {N E B W : Type 0} → Values N → Fact N E B W
 ReadGives {N} v s trees (events.LoadStep l) (answers.LoadMoved (Ok reply)) s' trees' = (load : OpenLoad) (x : N) → s.pager.core.loads l.0 ≡ Some load → reply.ended ≡ Some (ends.Read x) → ReadIsRight v s'.pager load.key x
 ReadGives v s trees event reply s' trees' = Unit {0}
 
--- ---- what a page-out meets, and what it leaves
-
--- What a task meets: the references of its item, or its listed cell, and those that were written of what it met. The least such set, since
--- it is made by these cases alone.
+-- What a task meets: the references of its item, or its listed cell, and those that were written of what it met. The least such set, since it is made by these cases alone.
 pub data Meets (shelf : Shelf) (task : Task) : Identity → Type 0 where
   meets-of-item : (written : Written) (r : ArcRef) → task ≡ of_item written → Among written.references r → Meets shelf task (identity_of r)
   meets-entry : (h : HandleNumber) (i : Identity) → task ≡ of_entry h i → Meets shelf task i
@@ -149,20 +130,13 @@ pub record IsRight {N E B W : Type 0} (v : Values N) (s : MachineState N E) (tre
   pub publishes : PublishIsKey v s trees event reply s' trees'
   pub key : AnswerIsKey v s trees event reply s' trees'
 
--- ---- workers and claims, at the end of a chain
-
-abbrev pub is_on_table : ℕ → Option Walking → ℕ
-is_on_table t None = 0
-is_on_table t (Some walking) = if walking.table == t then 1 else 0
-
--- 1 if the step claims the identity
-abbrev pub claims_it : {W : Type 0} → Identity → Took W → ℕ
-claims_it i (took.Claim j (Ok claims.Claimed)) = if is_identity i j then 1 else 0
-claims_it i step = 0
+-- whether the worker is on the table
+abbrev pub is_on_table : ℕ → Option Walking → Bool
+is_on_table t walking = if_there (λ (w : Walking). w.table == t) false walking
 
 -- how often the identity was claimed in these replies by workers of the table
 unfoldable pub claims_made : {N B W : Type 0} → (ℕ → Option Walking) → ℕ → Identity → List (Event N B W) → List (EventReply N B W) → ℕ
-claims_made walkings t i (events.WorkerStep v ∷ more) (answers.WorkerMoved (Ok reply) ∷ rest) = (if is_on_table t (walkings v.0) == 1 then claims_it i reply.took else 0) + claims_made walkings t i more rest
+claims_made walkings t i (events.WorkerStep v ∷ more) (answers.WorkerMoved (Ok reply) ∷ rest) = one (is_on_table t (walkings v.0) && is_claim_of i reply.took) + claims_made walkings t i more rest
 claims_made walkings t i (event ∷ more) (reply ∷ rest) = claims_made walkings t i more rest
 claims_made walkings t i [] rest = 0
 claims_made walkings t i (event ∷ more) [] = 0
@@ -191,8 +165,7 @@ pub record HasLetGo (u : World) (n : ℕ) (shelf : Shelf) : Type 0 where
   pub handles : times (is_owned_by (owner_worker n)) u.core.rows ≡ 0
   pub loads : (l : ℕ) → is_workers_load n (u.core.loads l) ≡ false
 
--- Of one worker, with all its steps: they are in order, each kind once for an identity, and within their bound; and its answer is one that
--- they led to.
+-- Of one worker, with all its steps: they are in order, each kind once for an identity, and within their bound; and its answer is one that they led to.
 pub record WorkerIsRight {W : Type 0} (f : W → Written) (u : World) (n : ℕ) (walking : Walking) (steps : List (Took W)) : Type 0 where
   pub order : InOrder f walking.task steps
   pub once : OnceEach steps
@@ -220,13 +193,10 @@ abbrev pub StepsAreWithin : {N E B W : Type 0} → Values N → MachineState N E
 StepsAreWithin v s [] = Unit {0}
 StepsAreWithin v s (x ∷ xs) = StepIsWithin v s x.event x.reply × StepsAreWithin v x.after xs
 
--- ---- the theorem
-
--- What holds of a chain. Each event is a step of the plain world that leaves the machine whole: so each count is the number of pinning
--- handles, and a cell holds its value exactly while it is pinned or has no key. Workers' steps are in order, each identity is claimed at most
--- once on a table, and all is within its bounds. And where the types are read back from their forms and each event met what is asked of it,
--- each pin that succeeds gives the tree that its node was made with, and each page-out that answers a key leaves all that it met stored and
--- answers the key of its item or cell.
+-- What holds of a chain. Each event is a step of the plain world that leaves the machine whole: so each count is the number of pinning handles, and a
+-- cell holds its value exactly while it is pinned or has no key. Workers' steps are in order, each identity is claimed at most once on a table, and
+-- all is within its bounds. And where the types are read back from their forms and each event met what is asked of it, each pin that succeeds gives
+-- the tree that its node was made with, and each page-out that answers a key leaves all that it met stored and answers the key of its item or cell.
 pub record Headline {N E B W : Type 0} (m : Seen N B W) (start : MachineState N E) (moments : List (Moment N E B W)) : Type 0 where
   pub chain : AreMoments m start moments
   pub work : WorkIsRight m (state_after start moments) (events_of moments) (replies_of moments)

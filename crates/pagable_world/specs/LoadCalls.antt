@@ -1,34 +1,17 @@
 -- The calls on loads: one reading of a value from the store, from its begin to its end.
 use Rattle.std.specs.Prelude.{ℕ, ◌≡◌, ◌+◌, ◌<◌, ◌⊎◌, ◌==◌, ◌&&◌, Bool, true, false, not, List, [], map, Option, Some, None, Result, Ok, Err, IfOk, IfErr, if◌then◌else◌}
-use Rattle.pagable_model.specs.declared.error.Error.{Error}
+use Rattle.pagable_world.specs.Plain.{Error, OptionalDataKey, Kind, ArcRef, HandleNumber, LoadNumber, NodeNumber, Blob, type_of, Owner, HandleRow, Beginning, Want, is_in, updated, is_loose_kind, is_pinned_kind, if_there}
 use Rattle.pagable_model.specs.declared.error.Error.TheVariants as errors
-use Rattle.pagable_model.specs.declared.data_key.OptionalDataKey.{OptionalDataKey}
 use Rattle.pagable_model.specs.declared.data_key.OptionalDataKey.TheVariants as optional
-use Rattle.pagable_model.specs.declared.numbers.Kind.{Kind}
-use Rattle.pagable_model.specs.declared.numbers.ArcRef.{ArcRef}
-use Rattle.pagable_model.specs.declared.numbers.HandleNumber.{HandleNumber}
-use Rattle.pagable_model.specs.declared.numbers.LoadNumber.{LoadNumber}
-use Rattle.pagable_model.specs.declared.numbers.NodeNumber.{NodeNumber}
-use Rattle.pagable_model.specs.Blob.{Blob}
-use Rattle.pagable_model.specs.Trees.{type_of}
 use Rattle.pagable_world.specs.declared.rows.Mode.TheVariants as modes
-use Rattle.pagable_world.specs.declared.handles.Owner.{Owner}
 use Rattle.pagable_world.specs.declared.handles.Owner.TheVariants as owners
-use Rattle.pagable_world.specs.declared.handles.HandleRow.{HandleRow}
-use Rattle.pagable_world.specs.declared.answers.Beginning.{Beginning}
 use Rattle.pagable_world.specs.declared.answers.Beginning.TheVariants as beginnings
-use Rattle.pagable_world.specs.declared.calls.Want.{Want}
 use Rattle.pagable_world.specs.declared.calls.Want.TheVariants as wants
-use Rattle.pagable_world.specs.Lists.{is_in, updated}
-use Rattle.pagable_world.specs.Kinds.{is_loose_kind, is_pinned_kind, mode_of}
-use Rattle.pagable_world.specs.Owners.{is_owner, is_loose, any_mode, owner_value}
-use Rattle.pagable_world.specs.World.{Core, Root, of_cell, of_key, OpenLoad, greatest, row_at, type_at, key_at, is_here, usable, Alike}
+use Rattle.pagable_world.specs.Kinds.{mode_of, is_loose, any_mode, owner_value, find_row, is_owned_by}
+use Rattle.pagable_world.specs.World.{Core, Root, of_cell, of_key, OpenLoad, greatest, type_at, key_at, is_here, usable, Alike}
 use Rattle.pagable_world.specs.Cascade.{Falls, FallsAnyhow}
 use Rattle.pagable_world.specs.Refusals.{earlier, where_so, refused_if, spent, AreHandlesFull, Owns, handle_fault, references_fault, named_fault, OwnsLoad, load_fault, Refused}
-use Rattle.pagable_world.specs.HandleCalls.{with_handle, with_mode, with_node, next_node, moved, is_named_by, is_handle_here, birth_fault, IsNext, IsRefused}
-use Rattle.pagable_world.specs.CacheCalls.{is_usable, with_known, with_cached_if_open, FetchCall}
-
--- ---- a load begins
+use Rattle.pagable_world.specs.Calls.{with_handle, with_mode, with_node, next_node, moved, is_named_by, is_handle_here, birth_fault, IsNext, IsRefused, is_usable, with_known, with_cached_if_open, FetchCall}
 
 -- one more load, under the next number
 abbrev pub with_load : Core → ℕ → Root → Owner → Core
@@ -65,8 +48,6 @@ pub record BeginKeyCall (w : Core) (me : Owner) (key : ℕ) (r : Result Beginnin
   pub begins : IfOk r (λ b. BeginsKey w me key b w')
   pub refused : IfErr r (λ e. Refused (spent w.last.load) (spent w.last.load) (Unit {0}) w e w')
 
--- ---- what a load gets
-
 -- what a load's asking gives: a handle of a node that the cache knows, or a blob
 pub data Given : Type 0 where
   from_cache : HandleNumber → Given
@@ -102,8 +83,6 @@ ask_fault w me l want = earlier (load_fault w me l) (where_so (is_known w want) 
 pub record AskCall (w : Core) (me : Owner) (l : LoadNumber) (want : Want) (r : Result Given Error) (w' : Core) : Type 0 where
   pub gives : IfOk r (λ given. (load : OpenLoad) × OwnsLoad w me l load × Asks w l load want given w')
   pub refused : IfErr r (λ e. Refused (ask_fault w me l want) (ask_fault w me l want) ((is_known w want ≡ true) × AreHandlesFull w) w e w' ⊎ ((load : OpenLoad) × OwnsLoad w me l load × AsksInVain w load want e w'))
-
--- ---- nodes of what is read
 
 -- the key that a node has from the first: a cell's is the one that it was read under, a shared node has none
 abbrev pub first_key : ℕ → ℕ → OptionalDataKey
@@ -143,21 +122,14 @@ pub record AdoptCall {N : Type 0} (w : Core) (me : Owner) (l : LoadNumber) (kind
 abbrev pub lazy_fault : Core → Owner → LoadNumber → Kind → ℕ → Option Error
 lazy_fault w me l kind key = earlier (load_fault w me l) (earlier (refused_if (not (is_loose_kind kind.0)) errors.WrongKind) (node_fault w kind key))
 
--- A reference through a loose handle, of which nothing is read: a handle of the cell that the cache gives, or of a new one that has this
--- key and no value.
+-- A reference through a loose handle, of which nothing is read: a handle of the cell that the cache gives, or of a new one that has this key and no value.
 pub record LazyCall (w : Core) (me : Owner) (l : LoadNumber) (kind : Kind) (key : ℕ) (r : Result HandleNumber Error) (w' : Core) : Type 0 where
   pub makes : IfOk r (λ k. (load : OpenLoad) × OwnsLoad w me l load × (is_loose_kind kind.0 ≡ true) × (GetsKnown w l kind key k w' ⊎ ((usable w kind.0 key ≡ None) × (w.last.node < greatest) × IsNext k w × Alike (adopted w l kind key (optional.Some key) []) w')))
   pub refused : IfErr r (λ e. Refused (lazy_fault w me l kind key) (lazy_fault w me l kind key) ((usable w kind.0 key ≡ None) ⊎ AreHandlesFull w) w e w')
 
--- ---- a load ends
-
-abbrev pub owned_row : Owner → Option HandleRow → Bool
-owned_row owner None = false
-owned_row owner (Some row) = is_owner owner row.owner
-
 -- whether this owner has the handle
 abbrev pub is_owned_in : Core → Owner → ℕ → Bool
-is_owned_in w owner q = owned_row owner (row_at w (record { 0 = q }))
+is_owned_in w owner q = if_there (is_owned_by owner) false (find_row q w.rows)
 
 -- the world without the load
 abbrev pub without_load : Core → LoadNumber → Core
@@ -178,8 +150,8 @@ pub record MayEnd (w : Core) (me : Owner) (l : LoadNumber) (node : NodeNumber) (
 abbrev pub with_pin : Core → HandleNumber → NodeNumber → Owner → Core
 with_pin w h node me = with_handle (with_mode w h modes.LoosePinned) node modes.Pinned me
 
--- The loose handle is pinned, a Pinned one is made and the load is closed. Where the cell has no value, the value comes into it with
--- its references; else it is dropped. In both cases the load gives up what it still owns.
+-- The loose handle is pinned, a Pinned one is made and the load is closed. Where the cell has no value, the value comes into it with its references;
+-- else it is dropped. In both cases the load gives up what it still owns.
 pub record Installs (w : Core) (me : Owner) (l : LoadNumber) (node : NodeNumber) (h k : HandleNumber) (references : List ArcRef) (w' : Core) : Type 0 where
   pub row : HandleRow
   pub owned : Owns w me h is_loose row
@@ -192,15 +164,11 @@ pub record Installs (w : Core) (me : Owner) (l : LoadNumber) (node : NodeNumber)
 
 -- the load is of a key, or of a cell of another type; and no number is left for a pin, if the caller still has the handle
 abbrev pub root_fault : Core → Owner → ℕ → Root → Option Error
-root_fault w me node_type (of_cell node t h) = earlier (refused_if (not (node_type == t)) errors.WrongKind) (where_so (owned_row me (row_at w h)) (spent w.last.handle))
+root_fault w me node_type (of_cell node t h) = earlier (refused_if (not (node_type == t)) errors.WrongKind) (where_so (is_owned_in w me h.0) (spent w.last.handle))
 root_fault w me node_type of_key = Some errors.WrongMode
 
-abbrev pub end_load_fault : Core → Owner → ℕ → Option OpenLoad → Option Error
-end_load_fault w me node_type None = None
-end_load_fault w me node_type (Some load) = root_fault w me node_type load.root
-
 abbrev pub end_fault : Core → Owner → LoadNumber → ℕ → List ArcRef → Option Error
-end_fault w me l node_type references = earlier (load_fault w me l) (earlier (end_load_fault w me node_type (w.loads l.0)) (references_fault w (owners.Load l) [] references))
+end_fault w me l node_type references = earlier (load_fault w me l) (earlier (if_there (λ (load : OpenLoad). root_fault w me node_type load.root) None (w.loads l.0)) (references_fault w (owners.Load l) [] references))
 
 -- the caller's handle is gone or another's: the load is closed by that, and what was read is dropped
 pub record EndsInVain (w : Core) (me : Owner) (l : LoadNumber) (node_type : ℕ) (references : List ArcRef) (e : Error) (w' : Core) : Type 0 where
@@ -227,12 +195,8 @@ abbrev pub cell_fault : Root → Option Error
 cell_fault (of_cell node t h) = Some errors.WrongMode
 cell_fault of_key = None
 
-abbrev pub cell_root_fault : Option OpenLoad → Option Error
-cell_root_fault None = None
-cell_root_fault (Some load) = cell_fault load.root
-
 abbrev pub hand_over_fault : Core → Owner → LoadNumber → List HandleNumber → Option Error
-hand_over_fault w me l hs = earlier (load_fault w me l) (earlier (cell_root_fault (w.loads l.0)) (named_fault w (owners.Load l) [] hs))
+hand_over_fault w me l hs = earlier (load_fault w me l) (earlier (if_there (λ (load : OpenLoad). cell_fault load.root) None (w.loads l.0)) (named_fault w (owners.Load l) [] hs))
 
 -- a load of a key hands over the handles that are named, gives up the rest and is closed
 pub record HandOverCall (w : Core) (me : Owner) (l : LoadNumber) (hs : List HandleNumber) (r : Result (Unit {0}) Error) (w' : Core) : Type 0 where

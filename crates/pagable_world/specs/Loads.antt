@@ -1,28 +1,15 @@
--- A load's steps: a fetch, a lazily read cell or an adoption each, and in the end a pin, an answer or a refusal. What it does next
--- is told by the innermost of its blobs.
+-- A load's steps: a fetch, a lazily read cell or an adoption each, and in the end a pin, an answer or a refusal. What it does next is told by the innermost of its blobs.
 use Rattle.std.specs.Prelude.{ℕ, ◌≡◌, ◌≤◌, ◌<◌, ◌⊎◌, if◌then◌else◌, List, [], ◌∷◌, ◌++◌, length, map, Option, Some, None, Result, Ok, Err, ◌==◌, ◌+◌, slice_get}
-use Rattle.pagable_model.specs.declared.error.Error.{Error}
-use Rattle.pagable_model.specs.declared.error.Error.TheVariants as errors
-use Rattle.pagable_model.specs.declared.numbers.ArcRef.{ArcRef}
-use Rattle.pagable_model.specs.declared.numbers.Kind.{Kind}
-use Rattle.pagable_model.specs.declared.numbers.HandleNumber.{HandleNumber}
-use Rattle.pagable_model.specs.Blob.{Blob}
-use Rattle.pagable_model.specs.Trees.{Types, type_of}
-use Rattle.pagable_model.specs.Meaning.{Meaning}
 use Rattle.pagable_model.specs.Reading.{Rest, read_typed}
 use Rattle.pagable_model.specs.Standing.{Answer, handles_at}
-use Rattle.pagable_world.specs.declared.handles.Owner.{Owner}
-use Rattle.pagable_world.specs.declared.handles.HandleRow.{HandleRow}
+use Rattle.pagable_world.specs.Plain.{Error, ArcRef, Kind, HandleNumber, Blob, Types, type_of, Meaning, Owner, HandleRow, LoadAnswer, is_eager, longest_path}
+use Rattle.pagable_model.specs.declared.error.Error.TheVariants as errors
 use Rattle.pagable_world.specs.declared.calls.Want.TheVariants as wants
-use Rattle.pagable_world.specs.declared.events.LoadAnswer.{LoadAnswer}
 use Rattle.pagable_world.specs.declared.events.LoadAnswer.TheVariants as ends
-use Rattle.pagable_world.specs.Kinds.{is_eager, longest_path}
-use Rattle.pagable_world.specs.World.{Core, Root, of_cell, of_key, OpenLoad, Frame, Reading, row_at, one_more, Alike}
-use Rattle.pagable_world.specs.Values.{Values}
+use Rattle.pagable_world.specs.World.{Core, Root, of_cell, of_key, OpenLoad, Frame, Reading, row_at, one_more, Alike, Values}
 use Rattle.pagable_world.specs.LoadCalls.{from_cache, from_store, AskCall, AdoptCall, LazyCall, EndCall, HandOverCall, LoadCloses}
 
--- A reference that was got is answered as its own kind. One that wasn't is refused by a name that tells its kind, and that no reader
--- has as a cause of its own.
+-- A reference that was got is answered as its own kind. One that wasn't is refused by a name that tells its kind, and that no reader has as a cause of its own.
 abbrev pub answer_of : Option ArcRef → ℕ → Result ArcRef Error
 answer_of None kind = Err (errors.Storage kind)
 answer_of (Some r) kind = if r.kind.0 == kind then Ok r else Err errors.WrongKind
@@ -68,8 +55,6 @@ pub record IsDecoded {N : Type 0} (v : Values N) (frame : Frame) (x : N) : Type 
   pub typed : v.node_type x ≡ frame.node_type
   pub means : v.means x own
 
--- ---- what a load needs next
-
 pub data Need : Type 0 where
   -- the blob of its own key
   needs_root : Need
@@ -92,8 +77,6 @@ need_at below (is_faulty e) = is_broken e
 abbrev pub need_of : Types → List Frame → Need
 need_of types [] = needs_root
 need_of types (top ∷ below) = need_at below (next_in types top)
-
--- ---- it goes on
 
 -- the root's blob; no node is made of it, so its kind says nothing
 abbrev pub root_frame : ℕ → ℕ → Blob → Frame
@@ -170,8 +153,6 @@ abbrev pub GoesOn : {N : Type 0} → Values N → Core → Owner → Reading →
 GoesOn v w me reading frames w' =
     GetsRoot w me reading frames w' ⊎ GetsCached v.types w me reading frames w' ⊎ GetsBlob v.types w me reading frames w' ⊎ GetsLazy v.types w me reading frames w' ⊎ MakesNode v w me reading frames w'
 
--- ---- it ends
-
 -- the root's blob was read as this value
 pub record ReadsRoot {N : Type 0} (v : Values N) (reading : Reading) (x : N) : Type 0 where
   pub root : Frame
@@ -208,8 +189,6 @@ pub record EndsRead {N : Type 0} (v : Values N) (w : Core) (me : Owner) (reading
   pub reads_root : ReadsRoot v reading x
   pub of_key_load : LoadIs w reading IsOfKey
   pub handed : HandOverCall w me reading.load (handles_of (v.references x)) (Ok tt) w'
-
--- ---- it is refused
 
 -- by its blob, or by a cause that the type's own reader has; or since memory is wanting for what is read
 abbrev pub RefusesBlob : {N : Type 0} → Values N → Reading → Error → Type 0
@@ -262,8 +241,6 @@ pub record EndsClosed {N : Type 0} (v : Values N) (w : Core) (me : Owner) (readi
 
 abbrev pub Fails : {N : Type 0} → Values N → Core → Owner → Reading → Error → Core → Type 0
 Fails v w me reading e w' = GivesUp v w me reading e w' ⊎ EndsClosed v w me reading e w'
-
--- ---- one step
 
 abbrev pub Does : {N : Type 0} → Values N → Core → Owner → Reading → Option (LoadAnswer N) → List Frame → Core → Type 0
 Does v w me reading None frames w' = GoesOn v w me reading frames w'

@@ -1,47 +1,29 @@
 -- What holds besides where each load's and each worker's steps stand together, and of one cache and one store.
 use Rattle.std.specs.Prelude.{ℕ, ◌≡◌, ◌≢◌, ◌<◌, ◌⊎◌, ◌↔◌, max, true, false, List, [], ◌∷◌, Option, Some, Ok, slice_get}
-use Rattle.pagable_model.specs.declared.error.Error.{Error}
-use Rattle.pagable_model.specs.declared.error.Error.TheVariants as errors
-use Rattle.pagable_model.specs.declared.numbers.ArcRef.{ArcRef}
-use Rattle.pagable_model.specs.declared.numbers.HandleNumber.{HandleNumber}
-use Rattle.pagable_model.specs.declared.numbers.Identity.{Identity}
-use Rattle.pagable_model.specs.declared.numbers.Kind.{Kind}
-use Rattle.pagable_model.specs.declared.numbers.LoadNumber.{LoadNumber}
-use Rattle.pagable_model.specs.declared.numbers.NodeNumber.{NodeNumber}
-use Rattle.pagable_model.specs.declared.data_key.OptionalDataKey.TheVariants as optional
-use Rattle.pagable_model.specs.Blob.{Blob}
 use Rattle.pagable_model.specs.Deep.{Kid, kind_of_kid}
 use Rattle.pagable_model.specs.Form.{Form}
-use Rattle.pagable_model.specs.Meaning.{Meaning, pair, variant, followed}
+use Rattle.pagable_model.specs.Meaning.{pair, variant, followed}
 use Rattle.pagable_model.specs.Merkle.{StoredTree, HasOwnKeys, TreeForm, unfolded}
 use Rattle.pagable_model.specs.Canonical.{IsCanonicalTree, IsReadableTree}
-use Rattle.pagable_model.specs.Shape.{Shape}
-use Rattle.pagable_model.specs.Trees.{Tree, Types, tree, type_of}
-use Rattle.pagable_world.specs.declared.handles.Owner.{Owner}
-use Rattle.pagable_world.specs.declared.handles.HandleRow.{HandleRow}
+use Rattle.pagable_world.specs.Plain.{Error, ArcRef, HandleNumber, Identity, Kind, LoadNumber, NodeNumber, Blob, Meaning, Shape, Tree, Types, tree, type_of, Owner, HandleRow, Event, EventReply, Among, longest_path, above, height, deepest_path}
+use Rattle.pagable_model.specs.declared.error.Error.TheVariants as errors
+use Rattle.pagable_model.specs.declared.data_key.OptionalDataKey.TheVariants as optional
 use Rattle.pagable_world.specs.declared.answers.Beginning.TheVariants as beginnings
 use Rattle.pagable_world.specs.declared.calls.Want.TheVariants as wants
 use Rattle.pagable_world.specs.declared.calls.Call.TheVariants as calls
 use Rattle.pagable_world.specs.declared.calls.Reply.TheVariants as replies
 use Rattle.pagable_world.specs.declared.events.WorkerAnswer.TheVariants as finals
 use Rattle.pagable_world.specs.declared.events.LoadAnswer.TheVariants as ends
-use Rattle.pagable_world.specs.declared.events.Event.{Event}
 use Rattle.pagable_world.specs.declared.events.Event.TheVariants as events
-use Rattle.pagable_world.specs.declared.events.EventReply.{EventReply}
 use Rattle.pagable_world.specs.declared.events.EventReply.TheVariants as answers
-use Rattle.pagable_world.specs.Lists.{Among}
-use Rattle.pagable_world.specs.Kinds.{fits_mode, longest_path, above, height, deepest_path}
-use Rattle.pagable_world.specs.World.{Core, OpenLoad, of_cell, Task, of_item, of_entry, Walking, row_at, key_at, is_here}
-use Rattle.pagable_world.specs.Values.{Values, Seen, IsLawful}
+use Rattle.pagable_world.specs.Kinds.{fits_mode}
+use Rattle.pagable_world.specs.World.{Core, OpenLoad, of_cell, Task, of_item, of_entry, Walking, row_at, key_at, is_here, Values, Seen, IsLawful}
 use Rattle.pagable_world.specs.LoadCalls.{from_cache, AskCall, Adopts, LazyCall}
 use Rattle.pagable_world.specs.Workers.{IsPublished}
-use Rattle.pagable_world.specs.Pager.{MachineState, IsWhole, IsMachineWhole}
-use Rattle.pagable_world.specs.Trees.{StandsFor}
+use Rattle.pagable_world.specs.Pager.{MachineState, IsWhole, IsMachineWhole, StandsFor}
 use Rattle.pagable_world.specs.Runs.{ReadsItsTypes, HoldsSettled, Moment, AreMoments, state_after, Fact, TreesAlong}
 use Rattle.pagable_world.specs.Order.{ReadsTooDeep}
 use Rattle.pagable_world.specs.Headline.{Meets}
-
--- ---- turns
 
 -- whose turn a moment is; the begin of a load or worker is its first
 pub data Turn : Type 0 where
@@ -64,8 +46,6 @@ abbrev pub StandTogether : {N E B W : Type 0} → List (Moment N E B W) → Type
 StandTogether {N} {E} {B} {W} moments =
     (i j k : ℕ) (a b c : Moment N E B W) → i < j → j < k → slice_get moments i ≡ Some a → slice_get moments j ≡ Some b → slice_get moments k ≡ Some c
     → turn_of a.event a.reply ≢ of_nobody → turn_of c.event c.reply ≡ turn_of a.event a.reply → turn_of b.event b.reply ≡ turn_of a.event a.reply
-
--- ---- what is refused as too deep
 
 -- a reference in the meaning leads to the tree, at once or further down
 pub data Reaches : Meaning ⊥ → Tree → Type 0 where
@@ -103,8 +83,8 @@ abbrev pub IsTooNestedTask : Types → (ℕ → Tree) → Task → Type 0
 IsTooNestedTask types trees (of_item written) = (r : ArcRef) × Among written.references r × HasTooNested types (trees r.node.0)
 IsTooNestedTask types trees (of_entry h i) = HasTooNested types (trees i.node.0)
 
--- A cell that the worker meets is away, and the reading of its key is too deep: that takes references too which a repeated key of a map
--- drops, so that its path may be longer than any of the cell's tree.
+-- A cell that the worker meets is away, and the reading of its key is too deep: that takes references too which a repeated key of a map drops, so
+-- that its path may be longer than any of the cell's tree.
 pub record IsTooDeepReading {N E : Type 0} (v : Values N) (s : MachineState N E) (walking : Walking) : Type 0 where
   pub i : Identity
   pub key : ℕ
@@ -113,8 +93,7 @@ pub record IsTooDeepReading {N E : Type 0} (v : Values N) (s : MachineState N E)
   pub has : key_at s.pager.core i.node.0 ≡ optional.Some key
   pub deep : ReadsTooDeep v.types s.pager.core.stored (type_of i.kind.0) key
 
--- Too deep is answered only where one of these is so. Where one of the first two is so no key is answered; a reading may be cut short by the
--- cache.
+-- Too deep is answered only where one of these is so. Where one of the first two is so no key is answered; a reading may be cut short by the cache.
 abbrev pub DeepIsRefused : {N E B W : Type 0} → Values N → Fact N E B W
 DeepIsRefused v s trees (events.WorkerStep n) (answers.WorkerMoved (Ok reply)) s' trees' =
     (walking : Walking)
@@ -122,8 +101,6 @@ DeepIsRefused v s trees (events.WorkerStep n) (answers.WorkerMoved (Ok reply)) s
     → (reply.answer ≡ Some (finals.Failed errors.TooDeep) → IsTooDeepTask trees walking.task ⊎ IsTooNestedTask v.types trees walking.task ⊎ IsTooDeepReading v s walking)
     × ((key : ℕ) → reply.answer ≡ Some (finals.Key key) → (¬ IsTooDeepTask trees walking.task) × (¬ IsTooNestedTask v.types trees walking.task))
 DeepIsRefused v s trees event reply s' trees' = Unit {0}
-
--- ---- what a pin is refused for
 
 -- what a pin may still be refused for, once a page-out has set the cell's key
 abbrev pub IsOfChance : Error → Type 0
@@ -151,8 +128,6 @@ abbrev pub LoadIsSound : {N E B W : Type 0} → Fact N E B W
 LoadIsSound s trees (events.LoadStep l) (answers.LoadMoved (Ok reply)) s' trees' =
     (load : OpenLoad) (e : Error) → s.pager.core.loads l.0 ≡ Some load → IsLoadOfPagedOut s load → reply.ended ≡ Some (ends.Refused e) → IsOfChance e
 LoadIsSound s trees event reply s' trees' = Unit {0}
-
--- ---- one identity for kind and key
 
 -- a load gets a reference of this kind and key, and it is of this node
 pub record GetsReference (w : Core) (kind : Kind) (key n : ℕ) (w' : Core) : Type 0 where
@@ -190,9 +165,8 @@ abbrev pub StaysAlive : {N E B W : Type 0} → Kind → ℕ → List (Moment N E
 StaysAlive kind n [] = Unit {0}
 StaysAlive kind n (x ∷ xs) = IsAlive x.after.pager.core kind n × StaysAlive kind n xs
 
--- Two references that are got through one cache, which reading alone has filled and whose storage is open. If their identities are the
--- same, so are kind and key; and if kind and key are, so are their identities, provided that a handle of the first one's node in that kind's
--- mode was alive between.
+-- Two references that are got through one cache, which reading alone has filled and whose storage is open. If their identities are the same, so are kind and key; and if kind and key are, so are
+-- their identities, provided that a handle of the first one's node in that kind's mode was alive between.
 pub record HaveOneIdentity {N E B W : Type 0} (kind other_kind : Kind) (key other_key n other_n : ℕ) (between : List (Moment N E B W)) : Type 0 where
   pub differ : other_kind ≡ kind → other_n ≡ n → other_key ≡ key
   pub same : other_kind ≡ kind → other_key ≡ key → StaysAlive kind n between → other_n ≡ n
@@ -211,20 +185,16 @@ OneIdentityLaw {N} {B} {W} E m =
     → GetsReference (state_after first between).pager.core other_kind other_key other_n last
     → HaveOneIdentity kind other_kind key other_key n other_n between
 
--- ---- keys tell trees
-
 -- each blob of the one store stands in the other
 abbrev pub IsPartOf : (ℕ → Option Blob) → (ℕ → Option Blob) → Type 0
 IsPartOf part store = (key : ℕ) (b : Blob) → part key ≡ Some b → store key ≡ Some b
 
--- Of two trees of one type that are stored with all that they reach, each blob under its own key, and of which the first is of canonical
--- types that are read, the keys are equal exactly if the trees are. What else stands in the store may stand under any keys.
+-- Of two trees of one type that are stored with all that they reach, each blob under its own key, and of which the first is of canonical types that
+-- are read, the keys are equal exactly if the trees are. What else stands in the store may stand under any keys.
 abbrev pub KeysTellTrees : {N : Type 0} → Values N → (ℕ → Option Blob) → Type 0
 KeysTellTrees v store =
     (part : ℕ → Option Blob) (a b : Tree) (key other : ℕ) → IsPartOf part store → HasOwnKeys v.hash part → IsCanonicalTree v.types a → IsReadableTree v.types a → b.type ≡ a.type
     → StoredTree part v.types key a → StoredTree part v.types other b → (other ≡ key) ↔ (b ≡ a)
-
--- ---- the theorem
 
 -- all that holds of one event besides where turns stand together
 pub record IsRightAlone {N E B W : Type 0} (v : Values N) (s : MachineState N E) (trees : ℕ → Tree) (event : Event N B W) (reply : EventReply N B W) (s' : MachineState N E) (trees' : ℕ → Tree) : Type 0 where

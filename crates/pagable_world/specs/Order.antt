@@ -1,31 +1,16 @@
--- The order of a worker's steps: an automaton over what it has to do, which says nothing of pager and table. And how many steps workers
--- and loads make at most.
-use Rattle.std.specs.Prelude.{ℕ, ◌≡◌, ◌≤◌, ◌==◌, if◌then◌else◌, Bool, false, List, [], ◌∷◌, ◌++◌, Some, None, Ok, Err, ◌+◌, ◌*◌, ◌<◌, ◌⊎◌, max, true, map, length, sum_by, Option, IsSome}
-use Rattle.pagable_model.specs.declared.error.Error.{Error}
-use Rattle.pagable_model.specs.declared.numbers.HandleNumber.{HandleNumber}
-use Rattle.pagable_model.specs.declared.numbers.Identity.{Identity}
-use Rattle.pagable_model.specs.Trees.{type_of, Types}
+-- The order of a worker's steps: an automaton over what it has to do, which says nothing of pager and table. And how many steps workers and loads make at most.
+use Rattle.std.specs.Prelude.{ℕ, ◌≡◌, ◌≤◌, ◌==◌, ◌&&◌, if◌then◌else◌, Bool, false, List, [], ◌∷◌, ◌++◌, Some, None, Ok, Err, ◌+◌, ◌*◌, ◌<◌, ◌⊎◌, max, true, map, length, sum_by, Option, IsSome}
+use Rattle.pagable_world.specs.Plain.{Error, HandleNumber, Identity, type_of, Types, ArcRef, Kind, Meaning, Blob, Took, Event, EventReply, LoadReply, times, is_eager, longest_path}
 use Rattle.pagable_model.specs.declared.error.Error.TheVariants as errors
-use Rattle.pagable_model.specs.declared.numbers.ArcRef.{ArcRef}
-use Rattle.pagable_model.specs.declared.numbers.Kind.{Kind}
-use Rattle.pagable_model.specs.Meaning.{Meaning}
-use Rattle.pagable_model.specs.Blob.{Blob}
 use Rattle.pagable_world.specs.declared.events.Claim.TheVariants as claims
 use Rattle.pagable_world.specs.declared.events.PinStep.TheVariants as pinsteps
-use Rattle.pagable_world.specs.declared.events.Took.{Took}
 use Rattle.pagable_world.specs.declared.events.Took.TheVariants as took
-use Rattle.pagable_world.specs.declared.events.Event.{Event}
 use Rattle.pagable_world.specs.declared.events.Event.TheVariants as events
-use Rattle.pagable_world.specs.declared.events.EventReply.{EventReply}
 use Rattle.pagable_world.specs.declared.events.EventReply.TheVariants as answers
-use Rattle.pagable_world.specs.declared.events.LoadReply.{LoadReply}
-use Rattle.pagable_world.specs.Lists.{times}
-use Rattle.pagable_world.specs.Kinds.{identity_of, is_eager, longest_path}
+use Rattle.pagable_world.specs.Kinds.{identity_of}
 use Rattle.pagable_world.specs.World.{Written, Frame, was_failed, Todo, to_start, to_pin, to_load, to_write, to_finish, to_item, to_set, to_publish, to_release, to_fail, Task, is_identity, Reading, of_item, of_entry, Walking}
 use Rattle.pagable_world.specs.Loads.{gone_on, Next, reads, asks, is_faulty, next_of}
 use Rattle.pagable_world.specs.Workers.{give, give_known, open_node, first_todo, failing, failing_by, fresh}
-
--- ---- a worker's steps
 
 -- the step that this reply tells of the worker
 abbrev pub step_of : {N B W : Type 0} → ℕ → Event N B W → EventReply N B W → List (Took W)
@@ -37,8 +22,6 @@ unfoldable pub steps_of : {N B W : Type 0} → ℕ → List (Event N B W) → Li
 steps_of v (event ∷ more) (reply ∷ rest) = step_of v event reply ++ steps_of v more rest
 steps_of v [] rest = []
 steps_of v (event ∷ more) [] = []
-
--- ---- the automaton
 
 -- the step may follow where this is to be done, and this is to be done then
 abbrev pub Follows : {W : Type 0} → (W → Written) → List Todo → Took W → List Todo → Type 0
@@ -76,37 +59,27 @@ pub record InOrder {W : Type 0} (f : W → Written) (task : Task) (steps : List 
   pub left : List Todo
   pub leads : Leads f (first_todo task) steps left
 
--- ---- each kind once
-
 -- whether the step claims the identity
 abbrev pub is_claim_of : {W : Type 0} → Identity → Took W → Bool
 is_claim_of i (took.Claim j (Ok claims.Claimed)) = is_identity i j
 is_claim_of i step = false
 
--- whether it begins a load for it
-abbrev pub is_load_begin : {W : Type 0} → Identity → Took W → Bool
-is_load_begin i (took.Pin j (Ok (pinsteps.LoadBegun l))) = is_identity i j
-is_load_begin i step = false
+-- Whether the step is of this stage after a claim of the identity: 0 that a load begins, 1 that the node is pinned, 2 that it is written, 3 that it is stored, 4 that its key is set, 5 that it is
+-- published, 6 that it is released.
+abbrev pub is_later_of : {W : Type 0} → ℕ → Identity → Took W → Bool
+is_later_of stage i (took.Pin j (Ok (pinsteps.LoadBegun l))) = stage == 0 && is_identity i j
+is_later_of stage i (took.Pin j (Ok (pinsteps.Held k))) = stage == 1 && is_identity i j
+is_later_of stage i (took.Write j r) = stage == 2 && is_identity i j
+is_later_of stage i (took.Store (Some j) r) = stage == 3 && is_identity i j
+is_later_of stage i (took.SetKey j r) = stage == 4 && is_identity i j
+is_later_of stage i (took.Publish j key height) = stage == 5 && is_identity i j
+is_later_of stage i (took.Release j) = stage == 6 && is_identity i j
+is_later_of stage i step = false
 
--- the kinds of step that follow a claim, load steps apart
-pub data LaterKind : Type 0 where
-  pins writes stores sets_key publishes releases : LaterKind
-
--- whether it is a step of this kind, about the identity
-abbrev pub is_later_of : {W : Type 0} → LaterKind → Identity → Took W → Bool
-is_later_of pins i (took.Pin j (Ok (pinsteps.Held k))) = is_identity i j
-is_later_of writes i (took.Write j r) = is_identity i j
-is_later_of stores i (took.Store (Some j) r) = is_identity i j
-is_later_of sets_key i (took.SetKey j r) = is_identity i j
-is_later_of publishes i (took.Publish j key height) = is_identity i j
-is_later_of releases i (took.Release j) = is_identity i j
-is_later_of kind i step = false
-
--- for each identity that the worker claims each kind comes at most once, and at most one load is begun
+-- an identity is claimed at most once, and after that each stage comes at most once
 pub record OnceEach {W : Type 0} (steps : List (Took W)) : Type 0 where
   pub claim : (i : Identity) → times (is_claim_of i) steps ≤ 1
-  pub load : (i : Identity) → times (is_load_begin i) steps ≤ 1
-  pub later : (kind : LaterKind) (i : Identity) → times (is_later_of kind i) steps ≤ 1
+  pub later : (stage : ℕ) (i : Identity) → times (is_later_of stage i) steps ≤ 1
 
 -- the step was refused with this
 abbrev pub MetError : {W : Type 0} → Took W → Error → Type 0
@@ -117,12 +90,10 @@ MetError (took.Store i (Err e)) f = e ≡ f
 MetError (took.SetKey i (Err e)) f = e ≡ f
 MetError step f = ⊥
 
--- ---- workers
-
--- 1 for a step that claims
-abbrev pub claim_of : {W : Type 0} → Took W → ℕ
-claim_of (took.Claim i (Ok claims.Claimed)) = 1
-claim_of step = 0
+-- whether the step claims something
+abbrev pub is_claim : {W : Type 0} → Took W → Bool
+is_claim (took.Claim i (Ok claims.Claimed)) = true
+is_claim step = false
 
 -- how many references the step wrote
 abbrev pub references_written : {W : Type 0} → (W → Written) → Took W → ℕ
@@ -136,9 +107,7 @@ own_references (of_entry h i) = 0
 
 -- with all its steps so far: no worker has made more than its claims and references allow
 abbrev pub IsBounded : {W : Type 0} → (W → Written) → Walking → List (Took W) → Type 0
-IsBounded f walking steps = walking.steps ≤ 8 * sum_by claim_of steps + (own_references walking.task + sum_by (references_written f) steps) + 4
-
--- ---- loads
+IsBounded f walking steps = walking.steps ≤ 8 * times is_claim steps + (own_references walking.task + sum_by (references_written f) steps) + 4
 
 -- Some references of these kinds. What a blob asks for next depends on no more of those that were got.
 abbrev pub some_of : List ℕ → List ArcRef
@@ -149,13 +118,12 @@ abbrev pub after_kinds : Types → ℕ → Blob → List ℕ → Next
 after_kinds types t blob kinds = next_of types t blob (some_of kinds)
 
 mutual
-  -- The reading of a key, as a value of a type, takes so many references, all unfolded, and its longest path has so many. It counts what
-  -- the reading takes: a repeated key of a map drops a reference that was read, which the tree doesn't have.
+  -- The reading of a key, as a value of a type, takes so many references, all unfolded, and its longest path has so many. It counts what the reading
+  -- takes: a repeated key of a map drops a reference that was read, which the tree doesn't have.
   pub data Unfolds (types : Types) (store : ℕ → Option Blob) : ℕ → ℕ → ℕ → ℕ → Type 0 where
     unfolds : (t key many longest : ℕ) (blob : Blob) → store key ≡ Some blob → UnfoldsFrom types store t blob [] many longest → Unfolds types store t key many longest
 
-  -- the same where references of these kinds were got: the blob is read; or it takes one more, with all that it leads to; or one of which
-  -- nothing is read
+  -- the same where references of these kinds were got: the blob is read; or it takes one more, with all that it leads to; or one of which nothing is read
   pub data UnfoldsFrom (types : Types) (store : ℕ → Option Blob) : ℕ → Blob → List ℕ → ℕ → ℕ → Type 0 where
     ends-here : (t : ℕ) (blob : Blob) (kinds : List ℕ) (own : Meaning ArcRef) → after_kinds types t blob kinds ≡ reads own → UnfoldsFrom types store t blob kinds 0 0
     takes-next : (t child below rest deep longest : ℕ) (blob : Blob) (kinds : List ℕ) (kind : Kind) → after_kinds types t blob kinds ≡ asks kind child → is_eager kind.0 ≡ true → Unfolds types store (type_of kind.0) child below deep
@@ -163,8 +131,8 @@ mutual
     leaves-next : (t child rest longest : ℕ) (blob : Blob) (kinds : List ℕ) (kind : Kind) → after_kinds types t blob kinds ≡ asks kind child → is_eager kind.0 ≡ false
         → UnfoldsFrom types store t blob (kinds ++ kind.0 ∷ []) rest longest → UnfoldsFrom types store t blob kinds (1 + rest) longest
 
--- A path of so many references leads from the reading of a key, as a value of a type, to that of another: the first takes a reference,
--- where all before it were got, the second reads what stands under its key, and so on.
+-- A path of so many references leads from the reading of a key, as a value of a type, to that of another: the first takes a reference, where all
+-- before it were got, the second reads what stands under its key, and so on.
 pub data LeadsDown (types : Types) (store : ℕ → Option Blob) : ℕ → ℕ → ℕ → ℕ → ℕ → Type 0 where
   is-there : (t key : ℕ) → LeadsDown types store t key 0 t key
   goes-down : (t key child n longer last_type last : ℕ) (blob : Blob) (kinds : List ℕ) (kind : Kind) → longer ≡ n + 1 → store key ≡ Some blob → after_kinds types t blob kinds ≡ asks kind child → is_eager kind.0 ≡ true

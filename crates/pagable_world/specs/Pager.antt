@@ -1,40 +1,25 @@
--- The pager and the machine as contracts see them: the plain world, a count for each node, the values in memory and the environment;
--- when they are whole; and what a step does to values.
-use Rattle.std.specs.Prelude.{ℕ, ◌≡◌, ◌<◌, ◌≤◌, ◌==◌, ◌&&◌, ◌⊎◌, true, false, List, [], ◌∷◌, length, Option, Some, None, is_some, is_none, Result, Ok, Err, IfOk, nat_lt}
+-- The pager and the machine as contracts see them: the plain world, a count for each node, the values in memory and the environment; when they are
+-- whole; and what a step does to values. What nodes stand for, by recursion on trees that never leave memory; and when a pager stands for them.
+use Rattle.std.specs.Prelude.{ℕ, ◌≡◌, ◌<◌, ◌≤◌, ◌==◌, ◌&&◌, ◌⊎◌, true, false, List, [], ◌∷◌, length, Option, Some, None, is_some, is_none, Result, Ok, Err, IfOk, nat_lt, ℤ, map, slice_get}
 use Rattle.std.specs.List.{AllPairs}
-use Rattle.pagable_model.specs.declared.error.Error.{Error}
-use Rattle.pagable_model.specs.declared.numbers.ArcRef.{ArcRef}
-use Rattle.pagable_model.specs.declared.numbers.Identity.{Identity}
-use Rattle.pagable_model.specs.declared.numbers.HandleNumber.{HandleNumber}
-use Rattle.pagable_model.specs.declared.numbers.LoadNumber.{LoadNumber}
-use Rattle.pagable_model.specs.declared.numbers.NodeNumber.{NodeNumber}
-use Rattle.pagable_model.specs.Shape.{Shape}
 use Rattle.pagable_model.specs.Refusals.{is_writing_fault}
 use Rattle.pagable_model.specs.Writing.{nesting, NoFormOfSome}
-use Rattle.pagable_model.specs.Trees.{type_of}
+use Rattle.pagable_model.specs.Meaning.{number, integer, text, pattern, none, pair, variant, reference, followed}
+use Rattle.pagable_model.specs.Deep.{Kid, kid}
+use Rattle.pagable_world.specs.Plain.{Error, ArcRef, Identity, HandleNumber, LoadNumber, NodeNumber, Shape, type_of, Owner, HandleRow, Call, Event, EventReply, Took, Among, times, Meaning, Blob, Tree, Types, tree, ReadsTree, is_shared_kind}
 use Rattle.pagable_world.specs.declared.rows.Mode.TheVariants as modes
-use Rattle.pagable_world.specs.declared.handles.Owner.{Owner}
 use Rattle.pagable_world.specs.declared.handles.Owner.TheVariants as owners
-use Rattle.pagable_world.specs.declared.handles.HandleRow.{HandleRow}
-use Rattle.pagable_world.specs.declared.calls.Call.{Call}
 use Rattle.pagable_world.specs.declared.calls.Call.TheVariants as calls
-use Rattle.pagable_world.specs.declared.events.Event.{Event}
 use Rattle.pagable_world.specs.declared.events.Event.TheVariants as events
-use Rattle.pagable_world.specs.declared.events.EventReply.{EventReply}
 use Rattle.pagable_world.specs.declared.events.EventReply.TheVariants as answers
-use Rattle.pagable_world.specs.declared.events.Took.{Took}
 use Rattle.pagable_world.specs.declared.events.Took.TheVariants as took
-use Rattle.pagable_world.specs.Lists.{Among, times}
-use Rattle.pagable_world.specs.Kinds.{is_shared_kind}
-use Rattle.pagable_world.specs.Owners.{is_pinning, is_loose, is_shared, is_owned_by, owner_value, is_handle, held, pins, sharing, has_key}
-use Rattle.pagable_world.specs.World.{Core, OpenLoad, Root, of_cell, of_key, Reading, Todo, to_load, Walking, Work, World, Written, greatest, row_at, type_at, key_at, is_here}
+use Rattle.pagable_model.specs.declared.data_key.OptionalDataKey.TheVariants as optional
+use Rattle.pagable_world.specs.Kinds.{is_pinning, is_loose, is_shared, is_owned_by, owner_value, is_handle, held, pins, sharing, has_key}
+use Rattle.pagable_world.specs.World.{Core, OpenLoad, Root, of_cell, of_key, Reading, Todo, to_load, Walking, Work, World, Written, greatest, row_at, type_at, key_at, is_here, Values, Seen, HasForm, Frame}
 use Rattle.pagable_world.specs.Refusals.{IsReference}
-use Rattle.pagable_world.specs.Values.{Values, Seen, HasForm}
-use Rattle.pagable_world.specs.HandleCalls.{Looks}
-use Rattle.pagable_world.specs.Loads.{ReadsNode, ReadsRoot}
+use Rattle.pagable_world.specs.Calls.{Looks}
+use Rattle.pagable_world.specs.Loads.{ReadsNode, ReadsRoot, asks, next_in}
 use Rattle.pagable_world.specs.Events.{reading_at}
-
--- ---- what is seen
 
 -- the pager: the kept counts and the values by their nodes' numbers
 pub record PagerState (N E : Type 0) : Type 0 where
@@ -50,8 +35,6 @@ pub record MachineState (N E : Type 0) : Type 0 where
 
 abbrev pub world_of : {N E : Type 0} → MachineState N E → World
 world_of s = record { core = s.pager.core; work = s.work }
-
--- ---- the plain world is whole
 
 -- the one handle has the smaller number
 abbrev pub IsHandleBefore : HandleRow → HandleRow → Type 0
@@ -89,8 +72,7 @@ MayOwnLoad w (owners.Value n) = ⊥
 MayOwnLoad w owners.List = ⊥
 MayOwnLoad w (owners.Load l) = ⊥
 
--- A load of a cell is of its cell's type, as long as that is there. The handle that began it is a loose one of the cell, or gone. Both
--- numbers were given.
+-- A load of a cell is of its cell's type, as long as that is there. The handle that began it is a loose one of the cell, or gone. Both numbers were given.
 pub record IsRootWhole (w : Core) (node : NodeNumber) (t : ℕ) (h : HandleNumber) : Type 0 where
   pub typed : (type : ℕ) → type_at w node.0 ≡ Some type → type ≡ t
   pub begun : (row : HandleRow) → row_at w h ≡ Some row → (row.node ≡ node) × (is_loose row.mode ≡ true)
@@ -102,8 +84,7 @@ pub record LoadsAreWhole (w : Core) : Type 0 where
   pub owned : (l : ℕ) (load : OpenLoad) → w.loads l ≡ Some load → MayOwnLoad w load.owner
   pub roots : (l : ℕ) (load : OpenLoad) (node : NodeNumber) (t : ℕ) (h : HandleNumber) → w.loads l ≡ Some load → load.root ≡ of_cell node t h → IsRootWhole w node t h
 
--- An entry of the cache names a node whose number was given. While the node lives it has the kind's type, and is shared exactly if the
--- kind is that of shared nodes.
+-- An entry of the cache names a node whose number was given. While the node lives it has the kind's type, and is shared exactly if the kind is that of shared nodes.
 pub record IsEntryWhole (w : Core) (kind n : ℕ) : Type 0 where
   pub given : n ≤ w.last.node
   pub typed : (t : ℕ) → type_at w n ≡ Some t → t ≡ type_of kind
@@ -118,8 +99,6 @@ pub record IsWhole (w : Core) : Type 0 where
   pub workers_numbered : (v : ℕ) → w.workers v ≡ true → v ≤ w.last.worker
   -- nothing is listed or known once the storage is closed
   pub shut : w.closed ≡ true → (w.list ≡ []) × ((kind key : ℕ) → w.cache kind key ≡ None)
-
--- ---- counts and values fit
 
 -- what is true of a pager after each call
 pub record WellFormed {N E : Type 0} (v : Values N) (s : PagerState N E) : Type 0 where
@@ -158,8 +137,6 @@ pub record IsMachineWhole {N E : Type 0} (v : Values N) (s : MachineState N E) :
   pub walkings : (n : ℕ) (walking : Walking) → s.work.walkings n ≡ Some walking → IsWalkingWhole s.pager.core s.work n walking
   pub all_there : (n : ℕ) → s.pager.core.workers n ≡ true → is_some (s.work.walkings n) ≡ true
 
--- ---- new
-
 -- a new pager over a storage: no row, nothing given yet, and whatever stands in the storage
 pub record IsNew {N E : Type 0} (s : PagerState N E) : Type 0 where
   pub rows : s.core.rows ≡ []
@@ -180,8 +157,6 @@ pub record IsIdle {N E : Type 0} (s : MachineState N E) : Type 0 where
   pub readings : (l : ℕ) → s.work.readings l ≡ None
   pub walkings : (v : ℕ) → s.work.walkings v ≡ None
   pub nobody : (v : ℕ) → s.pager.core.workers v ≡ false
-
--- ---- what a step does to values
 
 -- The value that is there afterwards was there before at its node, or the node had none and this one came. The environment stays.
 pub record Moves {N E : Type 0} (comes : ℕ → N → Type 0) (s s' : PagerState N E) : Type 0 where
@@ -252,8 +227,6 @@ abbrev pub ReplyWrites : {N B E W : Type 0} → Seen N B W → PagerState N E �
 ReplyWrites m s (answers.WorkerMoved r) = IfOk r (λ reply. TookWrites m.values m.written_of s reply.took)
 ReplyWrites m s reply = Unit {0}
 
--- ---- the value of a handle
-
 -- a handle that pins lends its node's value, another none
 abbrev pub Lends : {N E : Type 0} → PagerState N E → HandleRow → Option N → Type 0
 Lends s row None = is_pinning row.mode ≡ false
@@ -261,3 +234,83 @@ Lends s row (Some x) = (is_pinning row.mode ≡ true) × (s.values row.node.0 �
 
 abbrev pub ValueCall : {N E : Type 0} → PagerState N E → HandleNumber → Result (Option N) Error → Type 0
 ValueCall s h r = Looks s.core h (λ x row. Lends s row x) r
+
+-- whatever key the node has reads as the tree
+abbrev pub KeyFits : {N E : Type 0} → Values N → PagerState N E → ℕ → Tree → Type 0
+KeyFits v s n t = (key : ℕ) → key_at s.core n ≡ optional.Some key → ReadsTree s.core.stored v.types key t
+
+mutual
+  -- the node stands for the tree: its value's meaning leads to it through the nodes that it refers to; or the value is away, and the node's key reads as the tree
+  pub data NodeStands {N E : Type 0} (v : Values N) (s : PagerState N E) : ℕ → Tree → Type 0 where
+    here : (n : ℕ) (x : N) (own : Meaning ArcRef) (t : Tree) → s.values n ≡ Some x → v.node_type x ≡ t.type → v.means x own → MeaningStands v s own t.meaning → KeyFits v s n t → NodeStands v s n t
+    away : (n key : ℕ) (t : Tree) → s.values n ≡ None → key_at s.core n ≡ optional.Some key → KeyFits v s n t → NodeStands v s n t
+
+  -- A meaning whose references are handles stands for one in which each is followed to what its node stands for. What is followed already stands for itself.
+  pub data MeaningStands {N E : Type 0} (v : Values N) (s : PagerState N E) : Meaning ArcRef → Meaning ⊥ → Type 0 where
+    number-stands : (i : ℕ) → MeaningStands v s (number i) (number i)
+    integer-stands : (z : ℤ) → MeaningStands v s (integer z) (integer z)
+    text-stands : (t : List ℕ) → MeaningStands v s (text t) (text t)
+    pattern-stands : (t : List ℕ) → MeaningStands v s (pattern t) (pattern t)
+    none-stands : MeaningStands v s none none
+    pair-stands : (x y : Meaning ArcRef) (a b : Meaning ⊥) → MeaningStands v s x a → MeaningStands v s y b → MeaningStands v s (pair x y) (pair a b)
+    variant-stands : (i : ℕ) (x : Meaning ArcRef) (a : Meaning ⊥) → MeaningStands v s x a → MeaningStands v s (variant i x) (variant i a)
+    followed-stands : (kind : ℕ) (x : Meaning ArcRef) (a : Meaning ⊥) → MeaningStands v s x a → MeaningStands v s (followed kind x) (followed kind a)
+    reference-stands : (r : ArcRef) (a : Meaning ⊥) → NodeStands v s r.node.0 (tree (type_of r.kind.0) a) → MeaningStands v s (reference r) (followed r.kind.0 a)
+
+-- a value, in memory or handed in or out, stands for the tree
+pub record ValueStands {N E : Type 0} (v : Values N) (s : PagerState N E) (x : N) (t : Tree) : Type 0 where
+  pub own : Meaning ArcRef
+  pub typed : v.node_type x ≡ t.type
+  pub means : v.means x own
+  pub stands : MeaningStands v s own t.meaning
+
+-- the key reads as the tree of this node, which is of this type
+pub record ReadsNodeTree (types : Types) (stored : ℕ → Option Blob) (trees : ℕ → Tree) (key t n : ℕ) : Type 0 where
+  pub typed : (trees n).type ≡ t
+  pub reads : ReadsTree stored types key (trees n)
+
+-- A blob that a load reads is what stands under its key, and what was got for each of its keys is a node whose tree that key reads as, live or gone.
+pub record FrameFits (types : Types) (stored : ℕ → Option Blob) (trees : ℕ → Tree) (frame : Frame) : Type 0 where
+  pub is : stored frame.key ≡ Some frame.blob
+  pub few : length frame.got ≤ length frame.blob.keys
+  pub got : (place key : ℕ) (r : ArcRef) → slice_get frame.got place ≡ Some r → slice_get frame.blob.keys place ≡ Some key → ReadsNodeTree types stored trees key (type_of r.kind.0) r.node.0
+
+-- each blob is what the one below it asks for, and the last is the root's
+unfoldable pub FramesFit : Types → (ℕ → Option Blob) → (ℕ → Tree) → (root_key root_type : ℕ) → List Frame → Type 0
+FramesFit types stored trees root_key root_type [] = Unit {0}
+FramesFit types stored trees root_key root_type (frame ∷ []) = FrameFits types stored trees frame × (frame.key ≡ root_key) × (frame.node_type ≡ root_type)
+FramesFit types stored trees root_key root_type (frame ∷ below ∷ rest) =
+    FrameFits types stored trees frame
+    × (frame.node_type ≡ type_of frame.kind.0)
+    × (next_in types below ≡ asks frame.kind frame.key)
+    × FramesFit types stored trees root_key root_type (below ∷ rest)
+
+-- the load reads what stands under its own key
+abbrev pub ReadingFits : {N E : Type 0} → Values N → PagerState N E → (ℕ → Tree) → Reading → Type 0
+ReadingFits v s trees reading = (load : OpenLoad) → s.core.loads reading.load.0 ≡ Some load → FramesFit v.types s.core.stored trees load.key reading.node_type reading.frames
+
+-- The pager stands for the trees of its nodes, which each node keeps for ever: each live node stands for its tree, which is of its type; what a load
+-- of a cell reads is the cell's tree; and so is what the cache's entries stand under.
+pub record Represents {N E : Type 0} (v : Values N) (s : PagerState N E) (trees : ℕ → Tree) : Type 0 where
+  pub stands : (n : ℕ) → 0 < held n s.core.rows → NodeStands v s n (trees n)
+  pub typed : (n : ℕ) → 0 < held n s.core.rows → type_at s.core n ≡ Some (trees n).type
+  pub loads : (l : ℕ) (load : OpenLoad) (node : NodeNumber) (t : ℕ) (h : HandleNumber) → s.core.loads l ≡ Some load → load.root ≡ of_cell node t h → ReadsNodeTree v.types s.core.stored trees load.key t node.0
+  pub cache : (kind key n : ℕ) → s.core.cache kind key ≡ Some n → ReadsNodeTree v.types s.core.stored trees key (type_of kind) n
+
+-- a load of the caller's, or of a worker's, is so far
+pub data IsReadingOf (work : Work) (reading : Reading) : Type 0 where
+  of_caller : (l : ℕ) → work.readings l ≡ Some reading → IsReadingOf work reading
+  of_worker : (n place : ℕ) (walking : Walking) (r : ArcRef) (through : HandleNumber) (below : List Todo) → work.walkings n ≡ Some walking → walking.todo ≡ to_load r place through reading ∷ below → IsReadingOf work reading
+
+-- the machine's pager stands for the trees, and all that is read fits them
+pub record StandsFor {N E : Type 0} (v : Values N) (s : MachineState N E) (trees : ℕ → Tree) : Type 0 where
+  pub pager : Represents v s.pager trees
+  pub readings : (reading : Reading) → IsReadingOf s.work reading → ReadingFits v s.pager trees reading
+
+-- each node up to the one with this number keeps its tree
+abbrev pub SameTrees : ℕ → (ℕ → Tree) → (ℕ → Tree) → Type 0
+SameTrees last old new = (n : ℕ) → n ≤ last → new n ≡ old n
+
+-- what the references lead to
+abbrev pub kids_of : (ℕ → Tree) → List ArcRef → List Kid
+kids_of trees rs = map (λ (r : ArcRef). kid r.kind.0 (trees r.node.0).meaning) rs

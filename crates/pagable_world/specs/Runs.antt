@@ -1,35 +1,22 @@
--- Chains of moments: what events do to a machine, one after another; trees along them; and what these ask of values and callers, by name.
--- That the storage gives back what was stored, loses nothing and keeps no two blobs under one key is asked nowhere here: these are laws
--- of every storage, so they stand in the steps.
+-- Chains of moments: what events do to a machine, one after another; trees along them; and what these ask of values and callers, by name. That the storage gives back what was stored, loses
+-- nothing and keeps no two blobs under one key is asked nowhere here: these are laws of every storage, so they stand in the steps.
 use Rattle.std.specs.Prelude.{ℕ, ◌≡◌, List, [], ◌∷◌, map, Option, Some, None, Ok}
-use Rattle.pagable_model.specs.Trees.{Tree, Types, ReadsTree, type_of}
-use Rattle.pagable_model.specs.declared.numbers.Kind.{Kind}
 use Rattle.pagable_model.specs.Canonical.{IsReadableType}
-use Rattle.pagable_world.specs.declared.events.Event.{Event}
-use Rattle.pagable_world.specs.declared.events.EventReply.{EventReply}
+use Rattle.pagable_world.specs.Plain.{Tree, Types, ReadsTree, type_of, Kind, Event, EventReply, HandleRow, Call, Reply, LoadAnswer}
 use Rattle.pagable_world.specs.declared.handles.Owner.TheVariants as owners
-use Rattle.pagable_world.specs.declared.handles.HandleRow.{HandleRow}
-use Rattle.pagable_world.specs.declared.calls.Call.{Call}
 use Rattle.pagable_world.specs.declared.calls.Call.TheVariants as calls
-use Rattle.pagable_world.specs.declared.calls.Reply.{Reply}
 use Rattle.pagable_world.specs.declared.calls.Reply.TheVariants as replies
-use Rattle.pagable_world.specs.declared.events.LoadAnswer.{LoadAnswer}
 use Rattle.pagable_world.specs.declared.events.LoadAnswer.TheVariants as ends
 use Rattle.pagable_world.specs.declared.events.Event.TheVariants as events
 use Rattle.pagable_world.specs.declared.events.EventReply.TheVariants as answers
-use Rattle.pagable_world.specs.Values.{Seen, Values, IsSettled}
-use Rattle.pagable_world.specs.Events.{Step, reading_at}
-use Rattle.pagable_world.specs.Pager.{MachineState, world_of, Moves, EventBrings, ReplyWrites, IsMachineWhole, PagerState, IsCellOf}
-use Rattle.pagable_world.specs.Trees.{StandsFor, SameTrees, ValueStands}
-use Rattle.pagable_world.specs.Owners.{is_loose, any_mode}
-use Rattle.pagable_world.specs.World.{Reading, Todo, to_load, Walking}
+use Rattle.pagable_world.specs.Kinds.{is_loose, any_mode}
+use Rattle.pagable_world.specs.World.{Seen, Values, IsSettled, Reading, Todo, to_load, Walking}
 use Rattle.pagable_world.specs.Refusals.{Owns}
 use Rattle.pagable_world.specs.Loads.{needs_lazy, need_of}
+use Rattle.pagable_world.specs.Events.{Step, reading_at}
+use Rattle.pagable_world.specs.Pager.{MachineState, world_of, Moves, EventBrings, ReplyWrites, IsMachineWhole, PagerState, IsCellOf, StandsFor, SameTrees, ValueStands}
 
--- ---- of types and values
-
--- Each type of the environment is read back from its forms. Where types have tags, this is the registry of distinct tags: each tag that
--- a value writes has a reader of that tag's body.
+-- Each type of the environment is read back from its forms. Where types have tags, this is the registry of distinct tags: each tag that a value writes has a reader of that tag's body.
 abbrev pub ReadsItsTypes : Types → Type 0
 ReadsItsTypes types = (n : ℕ) → IsReadableType types n
 
@@ -55,8 +42,6 @@ abbrev pub KeepsOpen : {N B W : Type 0} → Event N B W → Type 0
 KeepsOpen (events.Call calls.Close) = ⊥
 KeepsOpen event = Unit {0}
 
--- ---- of keys and values that callers hand in
-
 -- the key reads as some value of the type
 pub record ReadsAsType {N E : Type 0} (v : Values N) (s : PagerState N E) (t key : ℕ) : Type 0 where
   pub read : Tree
@@ -69,8 +54,8 @@ pub record ReadsAsValue {N E : Type 0} (v : Values N) (s : PagerState N E) (x : 
   pub stands : ValueStands v s x read
   pub reads : ReadsTree s.core.stored v.types key read
 
--- Keys that a caller sets or gives, references that it puts into the cache and values that it gives to a load by itself read as the value
--- in the store. It is asked of calls that do something, and of a key only through a loose handle.
+-- Keys that a caller sets or gives, references that it puts into the cache and values that it gives to a load by itself read as the value in the
+-- store. It is asked of calls that do something, and of a key only through a loose handle.
 abbrev pub AsksWell : {N E B : Type 0} → Values N → PagerState N E → (ℕ → Tree) → Call N B → Reply N B → Type 0
 AsksWell v s trees (calls.NewPagedOut t key) (replies.Handle (Ok k)) = ReadsAsType v s t key
 AsksWell v s trees (calls.SetDataKey h key) reply = (row : HandleRow) → Owns s.core owners.Caller h is_loose row → ReadsTree s.core.stored v.types key (trees row.node.0)
@@ -107,8 +92,7 @@ pub record Moment (N E B W : Type 0) : Type 0 where
   pub reply : EventReply N B W
   pub after : MachineState N E
 
--- One event: the step of the plain world that it is, what it does to values, and that the machine is whole afterwards. Trees are no part
--- of it: that nodes keep them is a law of chains.
+-- One event: the step of the plain world that it is, what it does to values, and that the machine is whole afterwards. Trees are no part of it: that nodes keep them is a law of chains.
 pub record Does {N E B W : Type 0} (m : Seen N B W) (s : MachineState N E) (event : Event N B W) (reply : EventReply N B W) (s' : MachineState N E) : Type 0 where
   pub step : Step m (world_of s) event reply (world_of s')
   pub moves : Moves (EventBrings m.values (world_of s) event) s.pager s'.pager
@@ -139,8 +123,6 @@ pub record HasRun {N E B W : Type 0} (m : Seen N B W) (old : MachineState N E) (
   pub replies_are : replies_of moments ≡ replied
   pub ends : state_after old moments ≡ new
   pub chain : AreMoments m old moments
-
--- ---- trees along a chain
 
 -- what one event does to machine and trees, as a fact
 abbrev pub Fact : (N E B W : Type 0) → Type 1

@@ -1,41 +1,23 @@
--- A page-out worker's steps. A worker has a list of what it has to do; each step does what stands at its front, and says what it
--- does to the pager, to the table and to the list.
-use Rattle.std.specs.Prelude.{ℕ, ◌≡◌, ◌+◌, ◌<◌, ◌≤◌, ◌==◌, ◌&&◌, ◌||◌, ◌⊎◌, Bool, true, false, not, if◌then◌else◌, List, [], ◌∷◌, ◌++◌, length, drop, max, Option, Some, None, Result, Ok, Err, IfOk, IfErr, nat_eq}
-use Rattle.pagable_model.specs.declared.error.Error.{Error}
-use Rattle.pagable_model.specs.declared.error.Error.TheVariants as errors
-use Rattle.pagable_model.specs.declared.numbers.ArcRef.{ArcRef}
-use Rattle.pagable_model.specs.declared.numbers.Identity.{Identity}
-use Rattle.pagable_model.specs.declared.numbers.HandleNumber.{HandleNumber}
-use Rattle.pagable_model.specs.declared.numbers.LoadNumber.{LoadNumber}
-use Rattle.pagable_model.specs.Trees.{type_of}
+-- A page-out worker's steps. A worker has a list of what it has to do; each step does what stands at its front, and says what it does to the pager, to the table and to the list.
+use Rattle.std.specs.Prelude.{ℕ, ◌≡◌, ◌+◌, ◌<◌, ◌≤◌, ◌&&◌, ◌||◌, ◌⊎◌, Bool, true, false, if◌then◌else◌, List, [], ◌∷◌, ◌++◌, length, drop, max, Option, Some, None, Result, Ok, Err, IfOk, IfErr, nat_eq}
 use Rattle.pagable_model.specs.Merkle.{blob_of}
-use Rattle.pagable_world.specs.declared.handles.Owner.{Owner}
+use Rattle.pagable_world.specs.Plain.{Error, ArcRef, Identity, HandleNumber, LoadNumber, type_of, Owner, HandleRow, Claim, PinStep, Took, WorkerAnswer, updated, is_eager, longest_path, above, if_there}
+use Rattle.pagable_model.specs.declared.error.Error.TheVariants as errors
 use Rattle.pagable_world.specs.declared.handles.Owner.TheVariants as owners
-use Rattle.pagable_world.specs.declared.handles.HandleRow.{HandleRow}
 use Rattle.pagable_world.specs.declared.answers.Pinning.TheVariants as pinnings
 use Rattle.pagable_world.specs.declared.answers.Beginning.TheVariants as beginnings
-use Rattle.pagable_world.specs.declared.events.Claim.{Claim}
 use Rattle.pagable_world.specs.declared.events.Claim.TheVariants as claims
 use Rattle.pagable_world.specs.declared.events.LoadAnswer.TheVariants as ends
-use Rattle.pagable_world.specs.declared.events.PinStep.{PinStep}
 use Rattle.pagable_world.specs.declared.events.PinStep.TheVariants as pinsteps
-use Rattle.pagable_world.specs.declared.events.Took.{Took}
 use Rattle.pagable_world.specs.declared.events.Took.TheVariants as took
-use Rattle.pagable_world.specs.declared.events.WorkerAnswer.{WorkerAnswer}
 use Rattle.pagable_world.specs.declared.events.WorkerAnswer.TheVariants as finals
-use Rattle.pagable_world.specs.Lists.{updated}
-use Rattle.pagable_world.specs.Kinds.{is_eager, fits_mode, identity_of, longest_path, above}
-use Rattle.pagable_world.specs.Owners.{is_owner, is_loose, owner_worker}
-use Rattle.pagable_world.specs.World.{Core, OpenLoad, Shelf, Slot, Outcome, no_result, published, failed, Written, Frame, Reading, Fault, was_refused, was_failed, answer_of_fault, Todo, to_start, to_pin, to_load, to_write, to_finish, to_item, to_set, to_publish, to_release, to_fail, Task, of_item, of_entry, row_at, type_at, is_identity, Alike, SameShelf}
-use Rattle.pagable_world.specs.Values.{Values, Seen, digest, seen_as}
+use Rattle.pagable_world.specs.Kinds.{identity_of, is_owner, is_loose, owner_worker, find_row, is_at, is_owned_by}
+use Rattle.pagable_world.specs.World.{Core, OpenLoad, Shelf, Slot, Outcome, no_result, published, failed, Written, Frame, Reading, Fault, was_refused, was_failed, answer_of_fault, Todo, to_start, to_pin, to_load, to_write, to_finish, to_item, to_set, to_publish, to_release, to_fail, Task, of_item, of_entry, row_at, is_identity, Alike, SameShelf, Values, Seen, digest, seen_as}
 use Rattle.pagable_world.specs.Cascade.{FallsAnyhow}
-use Rattle.pagable_world.specs.Refusals.{refused_if, is_type}
-use Rattle.pagable_world.specs.HandleCalls.{CloneCall, PinCall, SetKeyCall, ScheduleCall}
-use Rattle.pagable_world.specs.CacheCalls.{StoreCall}
+use Rattle.pagable_world.specs.Refusals.{row_fault}
+use Rattle.pagable_world.specs.Calls.{CloneCall, PinCall, SetKeyCall, ScheduleCall, StoreCall}
 use Rattle.pagable_world.specs.LoadCalls.{BeginCall}
 use Rattle.pagable_world.specs.Loads.{ReadingDoes, gone_on}
-
--- ---- what comes to the list of what is to be done
 
 -- the place of a reference on the path below a node at this one; a path ends at a reference through a loose handle
 abbrev pub place_below : ℕ → ℕ → ℕ
@@ -86,8 +68,6 @@ failing fault todo = to_fail fault (entry_left todo) ∷ []
 abbrev pub failing_by : Error → List Todo → List Todo
 failing_by e todo = failing (was_refused e) todo
 
--- ---- what a worker works on
-
 -- the pager, its table, and what it has to do
 pub record Site : Type 0 where
   pub core : Core
@@ -111,18 +91,9 @@ pub record GoesTo (s : Site) (todo : List Todo) (s' : Site) : Type 0 where
   pub table_stays : SameShelf s.shelf s'.shelf
   pub list_is : s'.todo ≡ todo
 
--- ---- claims
-
-abbrev pub claim_row_fault : Core → ArcRef → Option HandleRow → Option Error
-claim_row_fault w r None = Some errors.NoSuchHandle
-claim_row_fault w r (Some row) =
-    if not (row.node.0 == r.node.0) then Some errors.NoSuchHandle else
-    if not (fits_mode r.kind.0 row.mode) then Some errors.WrongMode else
-    refused_if (not (is_type (type_of r.kind.0) (type_at w r.node.0))) errors.WrongKind
-
 -- why a reference can't be claimed, before its place and slot are looked at, whoever owns its handle
 abbrev pub claim_fault : Core → ArcRef → Option Error
-claim_fault w r = claim_row_fault w r (row_at w r.handle)
+claim_fault w r = if_there (row_fault w r None) (Some errors.NoSuchHandle) (row_at w r.handle)
 
 -- the identity is claimed, and this is its slot, which has no result yet
 pub record IsOpenSlot (s : Shelf) (i : Identity) (slot : Slot) : Type 0 where
@@ -132,12 +103,10 @@ pub record IsOpenSlot (s : Shelf) (i : Identity) (slot : Slot) : Type 0 where
 -- whether there is no result yet
 abbrev pub is_open_outcome : Outcome → Bool
 is_open_outcome no_result = true
-is_open_outcome (published key height) = false
-is_open_outcome failed = false
+is_open_outcome _ = false
 
 abbrev pub is_open_slot : Option Slot → Bool
-is_open_slot None = false
-is_open_slot (Some slot) = is_open_outcome slot.outcome
+is_open_slot slot = if_there (λ (s : Slot). is_open_outcome s.outcome) false slot
 
 -- the worker u waits for one that waits, and so on, for the worker v
 pub data ComesBack (s : Shelf) (v : ℕ) : ℕ → Type 0 where
@@ -181,8 +150,6 @@ pub record Claims (v : ℕ) (s : Site) (r : ArcRef) (place : ℕ) (below : List 
   pub finds : IfOk result (λ c. (claim_fault s.core r ≡ None) × Finds v s r place below c s')
   pub refused : IfErr result (λ e. ((claim_fault s.core r ≡ Some e) ⊎ ((claim_fault s.core r ≡ None) × (e ≡ errors.TooDeep) × IsTooDeep s.shelf v (identity_of r) place) ⊎ (e ≡ errors.OutOfMemory))
       × Turns s (with_wait s.shelf v None) (failing_by e s.todo) s')
-
--- ---- pins
 
 -- the row of a live handle is so
 pub record RowIs (w : Core) (h : HandleNumber) (loose : Bool) : Type 0 where
@@ -232,15 +199,13 @@ pub record PinsLoaded {N : Type 0} (m : Values N) (v : ℕ) (s : Site) (r : ArcR
   pub goes : IfOk result (λ p. LoadsOn m v s r place through reading below p s')
   pub refused : IfErr result (λ e. ReadingDoes m s.core (owner_worker v) reading (Some (ends.Refused e)) [] s'.core × GoesTo s (failing_by e s.todo) s')
 
--- ---- writing, storing, keys
-
-abbrev pub written_slot : Written → Option Slot → Option Slot
-written_slot written None = None
-written_slot written (Some slot) = Some (record slot { written = Some written })
+-- the slot of the identity is changed so, if it is claimed
+abbrev pub with_changed_slot : Shelf → Identity → (Slot → Slot) → Shelf
+with_changed_slot shelf i f = with_slot shelf i (if_there (λ slot. Some (f slot)) None (shelf.slots i))
 
 -- the value is written, and what was written is known from now on
 pub record Writes {N : Type 0} (m : Values N) (s : Site) (r : ArcRef) (place : ℕ) (through : HandleNumber) (below : List Todo) (result : Result Written Error) (s' : Site) : Type 0 where
-  pub writes : IfOk result (λ written. Turns s (with_slot s.shelf (identity_of r) (written_slot written (s.shelf.slots (identity_of r)))) (open_node r place through written below) s')
+  pub writes : IfOk result (λ written. Turns s (with_changed_slot s.shelf (identity_of r) (λ slot. record slot { written = Some written })) (open_node r place through written below) s')
   pub refused : IfErr result (λ e. (m.write_causes (type_of r.kind.0) e ⊎ (e ≡ errors.OutOfMemory)) × Turns s s.shelf (failing_by e s.todo) s')
 
 -- the blob of what was written is stored over the keys of its references, which are all known
@@ -257,39 +222,24 @@ pub record SetsKey (v : ℕ) (s : Site) (r : ArcRef) (through : HandleNumber) (k
   pub refused : IfErr result (λ e. GoesTo s (failing_by e s.todo) s')
 
 -- the first result of a claim stays
-abbrev pub with_outcome : Outcome → Option Slot → Option Slot
-with_outcome outcome None = None
-with_outcome outcome (Some slot) = Some (if is_open_outcome slot.outcome then record slot { outcome = outcome } else slot)
-
--- ---- giving up
-
-abbrev pub is_workers_row : ℕ → Option HandleRow → Bool
-is_workers_row v None = false
-is_workers_row v (Some row) = is_owner (owner_worker v) row.owner
-
-abbrev pub is_row_at : ℕ → Option HandleRow → Bool
-is_row_at n None = false
-is_row_at n (Some row) = row.node.0 == n
+abbrev pub with_outcome : Outcome → Slot → Slot
+with_outcome outcome slot = if is_open_outcome slot.outcome then record slot { outcome = outcome } else slot
 
 -- whether the handle is the worker's, at this node
 abbrev pub is_workers_at : Core → ℕ → ℕ → ℕ → Bool
-is_workers_at w v n q = is_workers_row v (row_at w (record { 0 = q })) && is_row_at n (row_at w (record { 0 = q }))
+is_workers_at w v n q = if_there (λ row. is_owned_by (owner_worker v) row && is_at n row) false (find_row q w.rows)
 
+-- whether the load is the worker's
 abbrev pub is_workers_load : ℕ → Option OpenLoad → Bool
-is_workers_load v None = false
-is_workers_load v (Some load) = is_owner (owner_worker v) load.owner
+is_workers_load v load = if_there (λ (l : OpenLoad). is_owner (owner_worker v) l.owner) false load
 
 abbrev pub is_load_of : Core → ℕ → Owner → Bool
 is_load_of w v (owners.Load l) = is_workers_load v (w.loads l.0)
 is_load_of w v owner = false
 
-abbrev pub is_of_worker_row : Core → ℕ → Option HandleRow → Bool
-is_of_worker_row w v None = false
-is_of_worker_row w v (Some row) = is_owner (owner_worker v) row.owner || is_load_of w v row.owner
-
 -- whether the handle is owned by the worker or by one of its loads
 abbrev pub is_workers : Core → ℕ → ℕ → Bool
-is_workers w v q = is_of_worker_row w v (row_at w (record { 0 = q }))
+is_workers w v q = if_there (λ (row : HandleRow). is_owner (owner_worker v) row.owner || is_load_of w v row.owner) false (find_row q w.rows)
 
 -- the worker isn't at work any more, and its loads are closed
 abbrev pub without_worker : Core → ℕ → Core
@@ -299,20 +249,14 @@ without_worker w v = record w { workers = updated v false w.workers; loads = λ 
 abbrev pub WorkerEnds : Core → ℕ → Core → Type 0
 WorkerEnds w v w' = FallsAnyhow w (without_worker w v) (is_workers w v) w'
 
-abbrev pub failed_slot : ℕ → Option Slot → Option Slot
-failed_slot v None = None
-failed_slot v (Some slot) = Some (if nat_eq slot.worker v && is_open_outcome slot.outcome then record slot { outcome = failed } else slot)
-
 -- the worker's claims without a result are failed
 abbrev pub with_failed : Shelf → ℕ → Shelf
-with_failed shelf v = record shelf { slots = λ i. failed_slot v (shelf.slots i) }
+with_failed shelf v = record shelf { slots = λ i. if_there (λ (slot : Slot). Some (if nat_eq slot.worker v then with_outcome failed slot else slot)) None (shelf.slots i) }
 
 -- an entry that was never pinned goes back to the list's end, as far as the list can take it
 abbrev pub GivesBack : Core → ℕ → Option HandleNumber → Core → Type 0
 GivesBack w v None w' = Alike w w'
 GivesBack w v (Some h) w' = (r : Result (Unit {0}) Error) × ScheduleCall w (owner_worker v) h r w'
-
--- ---- one step
 
 -- the step is of this kind, and P of what it tells
 abbrev pub TookClaim : {W : Type 0} → Took W → (Identity → Result Claim Error → Type 0) → Type 0
@@ -357,7 +301,7 @@ Does m v s (to_finish o ∷ below) step s' = TookStore step (λ i key. (i ≡ So
 Does m v s (to_item written keys ∷ below) step s' = TookStore step (λ i key. (i ≡ None) × StoresBlob m.values s written keys (λ k. []) key s')
 Does m v s (to_set r through key height ∷ below) step s' = TookSetKey step (λ i u. (i ≡ identity_of r) × SetsKey v s r through key height below u s')
 Does m v s (to_publish r key height ∷ below) step s' =
-    TookPublish step (λ i k h. (i ≡ identity_of r) × (k ≡ key) × (h ≡ height) × Turns s (with_slot s.shelf (identity_of r) (with_outcome (published key height) (s.shelf.slots (identity_of r)))) (to_release r key height ∷ below) s')
+    TookPublish step (λ i k h. (i ≡ identity_of r) × (k ≡ key) × (h ≡ height) × Turns s (with_changed_slot s.shelf (identity_of r) (with_outcome (published key height))) (to_release r key height ∷ below) s')
 Does m v s (to_release r key height ∷ below) step s' =
     TookRelease step (λ i. (i ≡ identity_of r) × FallsAnyhow s.core s.core (is_workers_at s.core v r.node.0) s'.core × GoesTo s (give r key height below) s')
 Does m v s (to_fail fault back ∷ below) step s' =
@@ -367,8 +311,6 @@ Does m v s [] step s' = ⊥
 -- One step of the worker v, on the pager, its table and its list. It touches nothing else.
 pub record WalkDoes {N B W : Type 0} (m : Seen N B W) (v : ℕ) (s : Site) (step : Took W) (s' : Site) : Type 0 where
   pub does : Does m v s s.todo step s'
-
--- ---- what a step answers and counts
 
 abbrev pub item_answer : Result ℕ Error → Option WorkerAnswer
 item_answer (Ok key) = Some (finals.Key key)

@@ -1,25 +1,16 @@
--- The plain world: handles, cells, list, cache, store, loads, claims and workers, with no values and no counts; in parts, by who
--- tells them.
-use Rattle.std.specs.Prelude.{ℕ, ◌≡◌, ◌≤◌, ◌==◌, ◌&&◌, ◌^◌, ◌-◌, ◌+◌, min, Bool, not, if◌then◌else◌, List, Option, Some, None}
-use Rattle.pagable_model.specs.declared.error.Error.{Error}
-use Rattle.pagable_model.specs.declared.data_key.OptionalDataKey.{OptionalDataKey}
+-- The plain world: handles, cells, list, cache, store, loads, claims and workers, with no values and no counts; in parts, by who tells them. What the
+-- caller's types say of values: the members of the traits, with what is asked of them.
+use Rattle.std.specs.Prelude.{ℕ, ◌≡◌, ◌≤◌, ◌==◌, ◌&&◌, ◌^◌, ◌-◌, ◌+◌, min, Bool, not, if◌then◌else◌, List, Option, Some, None, true, Result, Ok, Err}
+use Rattle.pagable_model.specs.Blob.{key_of}
+use Rattle.pagable_model.specs.Reading.{deepest}
+use Rattle.pagable_model.specs.Refusals.{is_own_reading, may_refuse_writing}
+use Rattle.pagable_model.specs.Form.{Form}
+use Rattle.pagable_model.specs.Writing.{kind_of_arc}
+use Rattle.pagable_model.specs.References.{references_in, SameReferences}
+use Rattle.pagable_world.specs.Plain.{Error, OptionalDataKey, Kind, ArcRef, Identity, HandleNumber, LoadNumber, NodeNumber, Blob, Owner, HandleRow, WorkerAnswer, SameAt, Meaning, Shape, Types, is_pinned_kind, if_there}
 use Rattle.pagable_model.specs.declared.data_key.OptionalDataKey.TheVariants as optional
-use Rattle.pagable_model.specs.declared.numbers.Kind.{Kind}
-use Rattle.pagable_model.specs.declared.numbers.ArcRef.{ArcRef}
-use Rattle.pagable_model.specs.declared.numbers.Identity.{Identity}
-use Rattle.pagable_model.specs.declared.numbers.HandleNumber.{HandleNumber}
-use Rattle.pagable_model.specs.declared.numbers.LoadNumber.{LoadNumber}
-use Rattle.pagable_model.specs.declared.numbers.NodeNumber.{NodeNumber}
-use Rattle.pagable_model.specs.Blob.{Blob}
-use Rattle.pagable_world.specs.declared.handles.Owner.{Owner}
-use Rattle.pagable_world.specs.declared.handles.HandleRow.{HandleRow}
-use Rattle.pagable_world.specs.declared.events.WorkerAnswer.{WorkerAnswer}
 use Rattle.pagable_world.specs.declared.events.WorkerAnswer.TheVariants as finals
-use Rattle.pagable_world.specs.Lists.{SameAt}
-use Rattle.pagable_world.specs.Kinds.{is_pinned_kind}
-use Rattle.pagable_world.specs.Owners.{find_row, pins, is_in_memory}
-
--- ---- what a lent pager tells
+use Rattle.pagable_world.specs.Kinds.{find_row, pins, is_in_memory}
 
 -- a node by the type of its value and its key
 pub record Cell : Type 0 where
@@ -38,8 +29,7 @@ pub record Last : Type 0 where
   pub load : ℕ
   pub worker : ℕ
 
--- what a load reads its key for: the value of a cell of a type, with the handle by which the load was begun; or what the caller makes
--- of it
+-- what a load reads its key for: the value of a cell of a type, with the handle by which the load was begun; or what the caller makes of it
 pub data Root : Type 0 where
   of_cell : NodeNumber → ℕ → HandleNumber → Root
   of_key : Root
@@ -68,8 +58,6 @@ pub record Core : Type 0 where
   pub last : Last
   pub places : Places
 
--- ---- what a lent table tells
-
 -- what was written of a value: its bytes, and its references in the order written
 pub record Written : Type 0 where
   pub bytes : List ℕ
@@ -92,10 +80,8 @@ pub record Shelf : Type 0 where
   pub slots : Identity → Option Slot
   pub waits : ℕ → Option Identity
 
--- ---- what whoever drives loads and workers knows
-
--- A blob that a load has got and reads: the kind as which its node will stand (of no meaning for the root), its key, the type of
--- its value, and the references that were got for it so far, in the order in which they are read.
+-- A blob that a load has got and reads: the kind as which its node will stand (of no meaning for the root), its key, the type of its value, and the
+-- references that were got for it so far, in the order in which they are read.
 pub record Frame : Type 0 where
   pub kind : Kind
   pub key : ℕ
@@ -110,8 +96,8 @@ pub record Reading : Type 0 where
   pub frames : List Frame
   pub steps : ℕ
 
--- A node that a worker has written and whose references it walks: the reference by which it was claimed, its place on the path, the
--- worker's handle of the reference's mode, what was written, and key after key and the height by the references done so far.
+-- A node that a worker has written and whose references it walks: the reference by which it was claimed, its place on the path, the worker's handle
+-- of the reference's mode, what was written, and key after key and the height by the references done so far.
 pub record Open : Type 0 where
   pub reference : ArcRef
   pub place : ℕ
@@ -174,8 +160,6 @@ pub record World : Type 0 where
   pub core : Core
   pub work : Work
 
--- ---- look-ups
-
 -- the greatest number there is of any sort
 abbrev pub greatest : ℕ
 greatest = 2 ^ 64 - 1
@@ -187,42 +171,23 @@ one_more n = min (n + 1) greatest
 abbrev pub row_at : Core → HandleNumber → Option HandleRow
 row_at w h = find_row h.0 w.rows
 
-abbrev pub type_in : Option Cell → Option ℕ
-type_in None = None
-type_in (Some cell) = Some cell.node_type
-
-abbrev pub key_in : Option Cell → OptionalDataKey
-key_in None = optional.None
-key_in (Some cell) = cell.key
-
 -- the type of a live node, and its key
 abbrev pub type_at : Core → ℕ → Option ℕ
-type_at w n = type_in (w.cells n)
+type_at w n = if_there (λ (cell : Cell). Some cell.node_type) None (w.cells n)
 
 abbrev pub key_at : Core → ℕ → OptionalDataKey
-key_at w n = key_in (w.cells n)
+key_at w n = if_there (λ (cell : Cell). cell.key) optional.None (w.cells n)
 
 -- whether a live node has its value in memory
 abbrev pub is_here : Core → ℕ → Bool
 is_here w n = is_in_memory (pins n w.rows) (key_at w n)
 
--- An entry of the cache counts only while its node lives and, as a pin, has its value.
-abbrev pub usable_cell : Core → ℕ → ℕ → Option Cell → Option ℕ
-usable_cell w kind n None = None
-usable_cell w kind n (Some cell) = if is_pinned_kind kind && not (is_in_memory (pins n w.rows) cell.key) then None else Some n
-
-abbrev pub usable_entry : Core → ℕ → Option ℕ → Option ℕ
-usable_entry w kind None = None
-usable_entry w kind (Some n) = usable_cell w kind n (w.cells n)
-
--- the node that the cache gives for a kind and a key
+-- The node that the cache gives for a kind and a key. An entry counts only while its node lives and, as a pin, has its value.
 abbrev pub usable : Core → ℕ → ℕ → Option ℕ
-usable w kind key = usable_entry w kind (w.cache kind key)
+usable w kind key = if_there (λ n. if_there (λ (cell : Cell). if is_pinned_kind kind && not (is_in_memory (pins n w.rows) cell.key) then None else Some n) None (w.cells n)) None (w.cache kind key)
 
 abbrev pub is_identity : Identity → Identity → Bool
 is_identity i j = (j.kind.0 == i.kind.0) && (j.node.0 == i.node.0)
-
--- ---- when nothing differs that anyone can tell
 
 -- The cache gives the same; of the entries that it can't use any may be forgotten, and none comes.
 pub record SameCache (w w' : Core) : Type 0 where
@@ -252,3 +217,52 @@ pub record Alike (w w' : Core) : Type 0 where
 pub record SameShelf (s s' : Shelf) : Type 0 where
   pub slots : (i : Identity) → s'.slots i ≡ s.slots i
   pub waits : SameAt s.waits s'.waits
+
+-- Values of the type N in an environment. Trees, forms, readings and keys follow from these alone.
+pub record Values (N : Type 0) : Type 1 where
+  -- the number of a value's type, its references in the order written, and what it may mean
+  pub node_type : N → ℕ
+  pub references : N → List ArcRef
+  pub means : N → Meaning ArcRef → Type 0
+  -- why a reader of values of the type may refuse one, beside the faults of the blob; and all refusals of a writer of them
+  pub read_causes : ℕ → Error → Type 0
+  pub write_causes : ℕ → Error → Type 0
+  -- how values are spelled, and the hash
+  pub types : Types
+  pub hash : List ℕ → List ℕ
+
+-- the same, with how the storage's blobs and what is written of a value are seen
+pub record Seen (N B W : Type 0) : Type 1 where
+  pub values : Values N
+  pub blob_of : B → Blob
+  pub written_of : W → Written
+
+-- the key of a blob
+abbrev pub digest : {N : Type 0} → Values N → Blob → ℕ
+digest v b = key_of v.hash b
+
+-- what was answered, as it is seen
+abbrev pub seen_as : {X Y : Type 0} → (X → Y) → Result X Error → Result Y Error
+seen_as f (Ok x) = Ok (f x)
+seen_as f (Err e) = Err e
+
+-- The laws of values that are asked of the caller's types: a value means something, refers to what it means to, and is of a type that is there; a
+-- reader has no cause of its own that tells of a reference, nor a writer one that tells of reading.
+pub record IsLawful {N : Type 0} (v : Values N) : Type 0 where
+  pub some : (x : N) → (own : Meaning ArcRef) × v.means x own
+  pub refers : (x : N) (own : Meaning ArcRef) → v.means x own → SameReferences (v.references x) (references_in own)
+  pub shaped : (x : N) → (shape : Shape) × (v.types.nodes (v.node_type x) ≡ Some shape)
+  pub own_reading : (t : ℕ) (e : Error) → v.read_causes t e → is_own_reading e ≡ true
+  pub own_writing : (t : ℕ) (e : Error) → v.write_causes t e → may_refuse_writing e ≡ true
+
+-- a value of which the clauses on trees speak: it means one thing, whatever is written to it later
+abbrev pub IsSettled : {N : Type 0} → Values N → N → Type 0
+IsSettled v x = (a b : Meaning ArcRef) → v.means x a → v.means x b → b ≡ a
+
+-- these bytes, with these references in their order, are a form of the value
+pub record HasForm {N : Type 0} (v : Values N) (x : N) (written : Written) : Type 0 where
+  pub shape : Shape
+  pub own : Meaning ArcRef
+  pub is : v.types.nodes (v.node_type x) ≡ Some shape
+  pub means : v.means x own
+  pub form : Form ArcRef kind_of_arc v.types.parts deepest shape own written.bytes written.references

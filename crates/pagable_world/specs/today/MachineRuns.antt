@@ -15,7 +15,7 @@ use Rattle.pagable_world.specs.today.Calls.{HasLoad}
 use Rattle.pagable_world.specs.today.State.{WellFormed}
 use Rattle.pagable_world.specs.today.InStep.{InStep}
 use Rattle.pagable_world.specs.today.Shown.{Shown}
-use Rattle.pagable_world.specs.Trees.{SameTrees}
+use Rattle.pagable_world.specs.Pager.{SameTrees}
 use Rattle.pagable_world.specs.today.TodayTrees.{MeansTree, KeyReads, TodayWorld, RepresentsToday, SetKeyFits, ReadFits}
 use Rattle.pagable_world.specs.today.MachineSteps.{MachineSight}
 use Rattle.pagable_world.specs.today.LoadMoves.{FetchedRoot, Driven, EventSight, event_world_of}

@@ -19,7 +19,7 @@ use Rattle.pagable_world.specs.today.Calls.{HasLoad}
 use Rattle.pagable_world.specs.declared.rows.HandleRow.{HandleRow}
 use Rattle.pagable_world.specs.declared.rows.LoadRow.{LoadRow}
 use Rattle.pagable_world.specs.today.Shown.{Shown}
-use Rattle.pagable_world.specs.Trees.{SameTrees}
+use Rattle.pagable_world.specs.Pager.{SameTrees}
 
 -- How values and blobs are seen: the type of a value and what it may mean, how values are spelled, and what is stored.
 pub record Sight (N S E : Type 0) : Type 1 where

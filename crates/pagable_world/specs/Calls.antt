@@ -1,27 +1,17 @@
--- The calls on handles and nodes: what each does to the pager's plain world, and why it is refused.
-use Rattle.std.specs.Prelude.{ℕ, ◌≡◌, ◌+◌, ◌-◌, ◌<◌, ◌≤◌, ◌==◌, ◌||◌, ◌⊎◌, Bool, true, false, not, List, [], ◌∷◌, ◌++◌, length, min, Option, Some, None, Result, Ok, Err, IfOk, IfErr, slice_get}
+-- The calls on handles and nodes: what each does to the pager's plain world, and why it is refused. The calls on the cache and the storage.
+use Rattle.std.specs.Prelude.{ℕ, ◌≡◌, ◌+◌, ◌-◌, ◌<◌, ◌≤◌, ◌==◌, ◌||◌, ◌⊎◌, Bool, true, false, not, List, [], ◌∷◌, ◌++◌, length, min, Option, Some, None, Result, Ok, Err, IfOk, IfErr, slice_get, ◌&&◌, if◌then◌else◌, is_some, nat_lt}
 use Rattle.std.specs.List.{remove}
-use Rattle.pagable_model.specs.declared.error.Error.{Error}
+use Rattle.pagable_model.specs.Stored.{Adds, RefusesFetch, RefusesStore, RefusesFlush}
+use Rattle.pagable_world.specs.Plain.{Error, OptionalDataKey, ArcRef, HandleNumber, NodeNumber, Mode, Owner, HandleRow, Pinning, changed, updated, Kind, Blob, type_of, times, if_there}
 use Rattle.pagable_model.specs.declared.error.Error.TheVariants as errors
-use Rattle.pagable_model.specs.declared.data_key.OptionalDataKey.{OptionalDataKey}
 use Rattle.pagable_model.specs.declared.data_key.OptionalDataKey.TheVariants as optional
-use Rattle.pagable_model.specs.declared.numbers.ArcRef.{ArcRef}
-use Rattle.pagable_model.specs.declared.numbers.HandleNumber.{HandleNumber}
-use Rattle.pagable_model.specs.declared.numbers.NodeNumber.{NodeNumber}
-use Rattle.pagable_world.specs.declared.rows.Mode.{Mode}
 use Rattle.pagable_world.specs.declared.rows.Mode.TheVariants as modes
-use Rattle.pagable_world.specs.declared.handles.Owner.{Owner}
 use Rattle.pagable_world.specs.declared.handles.Owner.TheVariants as owners
-use Rattle.pagable_world.specs.declared.handles.HandleRow.{HandleRow}
-use Rattle.pagable_world.specs.declared.answers.Pinning.{Pinning}
 use Rattle.pagable_world.specs.declared.answers.Pinning.TheVariants as pinnings
-use Rattle.pagable_world.specs.Lists.{changed, updated}
-use Rattle.pagable_world.specs.Owners.{is_loose, is_unpinned, is_pinned, any_mode, is_handle, owner_value, pins}
-use Rattle.pagable_world.specs.World.{Core, Cell, greatest, row_at, type_at, key_at, is_here, Alike}
+use Rattle.pagable_world.specs.Kinds.{is_loose, is_unpinned, is_pinned, any_mode, is_handle, owner_value, pins, mode_of, fits_mode}
+use Rattle.pagable_world.specs.World.{Core, Cell, greatest, row_at, type_at, key_at, is_here, Alike, usable}
 use Rattle.pagable_world.specs.Cascade.{Falls, FallsAnyhow, nobody, only_handle}
-use Rattle.pagable_world.specs.Refusals.{earlier, where_so, spent, AreHandlesFull, IsListFull, Owns, live_fault, handle_fault, references_fault, Refused}
-
--- ---- what calls do directly
+use Rattle.pagable_world.specs.Refusals.{earlier, where_so, spent, AreHandlesFull, IsListFull, Owns, live_fault, handle_fault, references_fault, Refused, refused_if, is_type}
 
 abbrev pub row_of : ℕ → NodeNumber → Mode → Owner → HandleRow
 row_of q node mode owner = record { number = record { 0 = q }; node = node; mode = mode; owner = owner }
@@ -38,13 +28,9 @@ with_mode w h mode = record w { rows = changed (is_handle h.0) (λ row. record r
 abbrev pub moved : (ℕ → Bool) → Owner → List HandleRow → List HandleRow
 moved s owner rows = changed (λ row. s row.number.0) (λ row. record row { owner = owner }) rows
 
-abbrev pub rekeyed : ℕ → Option Cell → Option Cell
-rekeyed key None = None
-rekeyed key (Some cell) = Some (record cell { key = optional.Some key })
-
 -- the node with this key
 abbrev pub with_key : Core → NodeNumber → ℕ → Core
-with_key w n key = record w { cells = updated n.0 (rekeyed key (w.cells n.0)) w.cells }
+with_key w n key = record w { cells = updated n.0 (if_there (λ (cell : Cell). Some (record cell { key = optional.Some key })) None (w.cells n.0)) w.cells }
 
 -- whether the handle is one of a value's references
 unfoldable pub is_named_by : List ArcRef → ℕ → Bool
@@ -69,14 +55,11 @@ pub record IsNext (k : HandleNumber) (w : Core) : Type 0 where
   pub above : k.0 ≡ w.last.handle + 1
   pub is_left : w.last.handle < greatest
 
--- ---- nodes are made
-
 -- why a node with a handle can't be made
 abbrev pub birth_fault : Core → Option Error
 birth_fault w = earlier (spent w.last.node) (spent w.last.handle)
 
--- A new node of a value x that is handed in, with one handle. A refusal gives the value back. Memory may be wanting before the
--- references are known.
+-- A new node of a value x that is handed in, with one handle. A refusal gives the value back. Memory may be wanting before the references are known.
 pub record BirthCall {N : Type 0} (w : Core) (me : Owner) (x : N) (node_type : ℕ) (references : List ArcRef) (mode : Mode) (r : Result HandleNumber (Error × N)) (w' : Core) : Type 0 where
   pub made : IfOk r (λ k. (references_fault w me [] references ≡ None) × (w.last.node < greatest) × IsNext k w × Alike (with_handle (with_node w node_type optional.None references) (next_node w) mode me) w')
   pub refused : IfErr r (λ e. (e.1 ≡ x) × Refused (earlier (references_fault w me [] references) (birth_fault w)) None (Unit {0}) w e.0 w')
@@ -85,8 +68,6 @@ pub record BirthCall {N : Type 0} (w : Core) (me : Owner) (x : N) (node_type : �
 pub record AwayBirthCall (w : Core) (me : Owner) (node_type key : ℕ) (r : Result HandleNumber Error) (w' : Core) : Type 0 where
   pub made : IfOk r (λ k. (w.last.node < greatest) × IsNext k w × Alike (with_handle (with_node w node_type (optional.Some key) []) (next_node w) modes.LooseUnpinned me) w')
   pub refused : IfErr r (λ e. Refused (birth_fault w) None (Unit {0}) w e w')
-
--- ---- handles are made and turned
 
 -- why a clone is refused before anything grows
 abbrev pub clone_fault : Core → HandleNumber → Option Error
@@ -97,16 +78,11 @@ pub record CloneCall (w : Core) (me : Owner) (h : HandleNumber) (r : Result Hand
   pub made : IfOk r (λ k. (row : HandleRow) × (row_at w h ≡ Some row) × IsNext k w × Alike (with_handle w row.node row.mode me) w')
   pub refused : IfErr r (λ e. Refused (clone_fault w h) (clone_fault w h) (AreHandlesFull w) w e w')
 
-abbrev pub is_row_here : Core → Option HandleRow → Bool
-is_row_here w None = false
-is_row_here w (Some row) = is_here w row.node.0
-
 -- whether the value of a live handle's node is in memory; whether it has to be read first
 abbrev pub is_handle_here : Core → HandleNumber → Bool
-is_handle_here w h = is_row_here w (row_at w h)
+is_handle_here w h = if_there (λ (row : HandleRow). is_here w row.node.0) false (row_at w h)
 
--- The loose handle is pinned from now on, and a Pinned one is made. Or the value has to be read first under this key, and nothing
--- changes.
+-- The loose handle is pinned from now on, and a Pinned one is made. Or the value has to be read first under this key, and nothing changes.
 abbrev pub Pins : Core → Owner → HandleNumber → HandleRow → Pinning → Core → Type 0
 Pins w me h row (pinnings.Pinned k) w' = (is_here w row.node.0 ≡ true) × IsNext k w × Alike (with_handle (with_mode w h modes.LoosePinned) row.node modes.Pinned me) w'
 Pins w me h row (pinnings.NeedsLoad key) w' = (is_here w row.node.0 ≡ false) × (key_at w row.node.0 ≡ optional.Some key) × Alike w w'
@@ -123,8 +99,6 @@ pub record PinCall (w : Core) (me : Owner) (h : HandleNumber) (r : Result Pinnin
 pub record LoosenCall (w : Core) (me : Owner) (h : HandleNumber) (r : Result HandleNumber Error) (w' : Core) : Type 0 where
   pub turned : IfOk r (λ k. (row : HandleRow) × Owns w me h is_pinned row × (k ≡ h) × Alike (with_mode w h modes.LoosePinned) w')
   pub refused : IfErr r (λ e. (handle_fault w me h is_pinned ≡ Some e) × Alike w w')
-
--- ---- handles are given up
 
 -- A call on an own handle is refused by this cause, and nothing changes.
 pub record IsRefused (cause : Option Error) (w : Core) (r : Result (Unit {0}) Error) (w' : Core) : Type 0 where
@@ -150,8 +124,6 @@ SetsKey w row key r w' = ((is_loose row.mode ≡ false) × (r ≡ Ok tt) × Alik
 pub record SetKeyCall (w : Core) (me : Owner) (h : HandleNumber) (key : ℕ) (r : Result (Unit {0}) Error) (w' : Core) : Type 0 where
   pub does : IsRefused (handle_fault w me h any_mode) w r w' ⊎ ((row : HandleRow) × Owns w me h any_mode row × SetsKey w row key r w')
 
--- ---- look-ups
-
 -- a look-up is refused only where there is no such handle
 pub record Looks {X : Type 0} (w : Core) (h : HandleNumber) (holds : X → HandleRow → Type 0) (r : Result X Error) : Type 0 where
   pub found : IfOk r (λ x. (row : HandleRow) × (row_at w h ≡ Some row) × holds x row)
@@ -174,8 +146,6 @@ NodeCall w h r = Looks w h (λ n row. n ≡ row.node) r
 abbrev pub TypeCall : Core → NodeNumber → Option ℕ → Type 0
 TypeCall w n found = found ≡ type_at w n.0
 
--- ---- the list
-
 -- a loose unpinned handle moves to the list's end; once the storage is closed it is given up
 abbrev pub Schedules : Core → HandleNumber → Core → Type 0
 Schedules w h w' =
@@ -190,8 +160,6 @@ abbrev pub TakeCall : Core → Owner → ℕ → Option HandleNumber → Core �
 TakeCall w me i (Some h) w' = (slice_get w.list i ≡ Some h) × Alike (record w { rows = moved (only_handle h) me w.rows; list = remove w.list i }) w'
 TakeCall w me i None w' = (length w.list ≤ i) × Alike w w'
 
--- ---- room
-
 -- how many handles and list entries can still be added while nothing grows
 abbrev pub room_of : Core → ℕ
 room_of w = min (w.places.handles - length w.rows) (w.places.entries - length w.list)
@@ -201,3 +169,93 @@ pub record ReserveCall (w : Core) (n : ℕ) (r : Result (Unit {0}) Error) (w' : 
   pub stays : Alike w w'
   pub enough : IfOk r (λ u. n ≤ room_of w')
   pub wanting : IfErr r (λ e. (e ≡ errors.OutOfMemory) × (room_of w' < n))
+
+-- whether the cache gives a node for the kind and key
+abbrev pub is_usable : Core → Kind → ℕ → Bool
+is_usable w kind key = is_some (usable w kind.0 key)
+
+-- a new handle of a node that the cache gives, in the kind's mode
+abbrev pub with_known : Core → Kind → ℕ → Owner → Core
+with_known w kind n owner = with_handle w (record { 0 = n }) (mode_of kind.0) owner
+
+-- a handle of the node that the cache gives, or None where it gives none
+abbrev pub Recalls : Core → Owner → Kind → ℕ → Option HandleNumber → Core → Type 0
+Recalls w me kind key (Some k) w' = (n : ℕ) × (usable w kind.0 key ≡ Some n) × IsNext k w × Alike (with_known w kind n me) w'
+Recalls w me kind key None w' = (usable w kind.0 key ≡ None) × Alike w w'
+
+abbrev pub recall_fault : Core → Kind → ℕ → Option Error
+recall_fault w kind key = where_so (is_usable w kind key) (spent w.last.handle)
+
+pub record RecallCall (w : Core) (me : Owner) (kind : Kind) (key : ℕ) (r : Result (Option HandleNumber) Error) (w' : Core) : Type 0 where
+  pub answers : IfOk r (λ found. Recalls w me kind key found w')
+  pub refused : IfErr r (λ e. Refused (recall_fault w kind key) (recall_fault w kind key) ((is_usable w kind key ≡ true) × AreHandlesFull w) w e w')
+
+-- the cache knows this node under the kind and key from now on
+abbrev pub with_cached : Core → Kind → ℕ → NodeNumber → Core
+with_cached w kind key n = record w { cache = λ k q. if k == kind.0 && q == key then Some n.0 else w.cache k q }
+
+-- unless the storage is closed
+abbrev pub with_cached_if_open : Core → Kind → ℕ → NodeNumber → Core
+with_cached_if_open w kind key n = if w.closed then w else with_cached w kind key n
+
+abbrev pub offer_fault : Core → Owner → Kind → ℕ → HandleNumber → Option Error
+offer_fault w me kind key h =
+    earlier (handle_fault w me h (fits_mode kind.0)) (earlier (refused_if (not (is_type (type_of kind.0) (if_there (λ (row : HandleRow). type_at w row.node.0) None (row_at w h)))) errors.WrongKind) (where_so (not w.closed && is_usable w kind key) (spent w.last.handle)))
+
+-- The cache learns the handle's node, and the handle stays with its owner. Where it gives a node already, a handle of that node is made first, and
+-- then the one that was offered is given up. Once the storage is closed, the handle is answered itself.
+abbrev pub Offers : Core → Owner → Kind → ℕ → HandleNumber → HandleRow → Option HandleNumber → Core → Type 0
+Offers w me kind key h row None w' = (w.closed ≡ false) × (usable w kind.0 key ≡ None) × Alike (with_cached w kind key row.node) w'
+Offers w me kind key h row (Some k) w' =
+    ((w.closed ≡ true) × (k ≡ h) × Alike w w') ⊎ ((w.closed ≡ false) × ((n : ℕ) × (usable w kind.0 key ≡ Some n) × IsNext k w × FallsAnyhow w (with_known w kind n me) (only_handle h) w'))
+
+pub record OfferCall (w : Core) (me : Owner) (kind : Kind) (key : ℕ) (h : HandleNumber) (r : Result (Option HandleNumber) Error) (w' : Core) : Type 0 where
+  pub answers : IfOk r (λ found. (row : HandleRow) × Owns w me h (fits_mode kind.0) row × (type_at w row.node.0 ≡ Some (type_of kind.0)) × Offers w me kind key h row found w')
+  pub refused : IfErr r (λ e. Refused (offer_fault w me kind key h) (offer_fault w me kind key h) ((w.closed ≡ false) × ((usable w kind.0 key ≡ None) ⊎ AreHandlesFull w)) w e w')
+
+-- the cache forgets all
+pub record ClearCall (w : Core) (r : Result (Unit {0}) Error) (w' : Core) : Type 0 where
+  pub told : r ≡ Ok tt
+  pub leaves : Alike (record w { cache = λ kind key. None }) w'
+
+-- the storage was asked: at most it failed
+pub record Asked (w w' : Core) : Type 0 where
+  pub fails : w.failures ≤ w'.failures
+  pub leaves : Alike (record w { failures = w'.failures }) w'
+
+-- the blob that stands under a key
+pub record FetchCall (w : Core) (key : ℕ) (r : Result Blob Error) (w' : Core) : Type 0 where
+  pub asked : Asked w w'
+  pub found : IfOk r (λ blob. w.stored key ≡ Some blob)
+  pub refused : IfErr r (λ e. RefusesFetch key (w.stored key) w.failures w'.failures e)
+
+-- a blob stands under its key from now on, where it may have stood already and no other did
+pub record Stores (w : Core) (key : ℕ) (blob : Blob) (w' : Core) : Type 0 where
+  pub stands_open : w.closed ≡ false
+  pub adds : Adds key blob w.stored w'.stored
+  pub fails : w.failures ≤ w'.failures
+  pub leaves : Alike (record w { stored = w'.stored; failures = w'.failures }) w'
+
+-- a blob is stored under its digest
+pub record StoreCall (digest : Blob → ℕ) (w : Core) (blob : Blob) (r : Result ℕ Error) (w' : Core) : Type 0 where
+  pub stores : IfOk r (λ key. (key ≡ digest blob) × Stores w key blob w')
+  pub refused : IfErr r (λ e. Asked w w' × RefusesStore blob (w.stored (digest blob)) w.closed w.failures w'.failures e)
+
+-- the storage writes what it has held back
+pub record FlushCall (w : Core) (r : Result (Unit {0}) Error) (w' : Core) : Type 0 where
+  pub asked : Asked w w'
+  pub refused : IfErr r (λ e. RefusesFlush w.failures w'.failures e)
+
+-- whether the list owns the handle
+abbrev pub is_listed : Core → ℕ → Bool
+is_listed w q = nat_lt 0 (times (λ (h : HandleNumber). h.0 == q) w.list)
+
+-- nothing is stored, known or listed any more
+abbrev pub shut : Core → ℕ → Core
+shut w failures = record w { stored = λ key. None; cache = λ kind key. None; list = []; closed = true; failures = failures }
+
+-- the storage is closed, and the list gives up what it owns; the storage may have failed then
+pub record CloseCall (w : Core) (r : Result (Unit {0}) Error) (w' : Core) : Type 0 where
+  pub told : r ≡ Ok tt
+  pub fails : w.failures ≤ w'.failures
+  pub falls : FallsAnyhow w (shut w w'.failures) (is_listed w) w'
