@@ -21,12 +21,12 @@ use Rattle.pagable_world.specs.declared.answers.Pinning.TheVariants as pinnings
 use Rattle.pagable_world.specs.declared.answers.Beginning.{Beginning}
 use Rattle.pagable_world.specs.declared.answers.Beginning.TheVariants as beginnings
 use Rattle.pagable_world.specs.declared.answers.EndRefusal.{EndRefusal}
-use Rattle.pagable_world.specs.State.{State, WellFormed, one, has_key, is_aside, is_pinning, idle_pin, is_node, is_number, pins, pin_of, held}
-use Rattle.pagable_world.specs.Cells.{Cell, CellsFollow}
-use Rattle.pagable_world.specs.World.{World, plain, next_row, joined, turned, enlisted, born, born_with, rekeyed, HasCell, IsHere, Leaves, Closes, Prepared, CannotBear}
-use Rattle.pagable_world.specs.Refusals.{IsOwn, RefusesPinned}
-use Rattle.pagable_world.specs.Calls.{Born, BornAway, Cloned, Loosened, PinnedBy, Unpinned, Released, Took, KeySet, Begun, HasLoad, Ended, Dropped}
-use Rattle.pagable_world.specs.Values.{value_with, values_of, value_of_node, cell_here, here, SameValues, NoValueComes, OnlyItsValueGoes, ValueComes, ValueIsThere}
+use Rattle.pagable_world.specs.today.State.{State, WellFormed, one, has_key, is_aside, is_pinning, idle_pin, is_node, is_number, pins, pin_of, held}
+use Rattle.pagable_world.specs.today.Cells.{Cell, CellsFollow}
+use Rattle.pagable_world.specs.today.World.{World, plain, next_row, joined, turned, enlisted, born, born_with, rekeyed, HasCell, IsHere, Leaves, Closes, Prepared, CannotBear}
+use Rattle.pagable_world.specs.today.Refusals.{IsOwn, RefusesPinned}
+use Rattle.pagable_world.specs.today.Calls.{Born, BornAway, Cloned, Loosened, PinnedBy, Unpinned, Released, Took, KeySet, Begun, HasLoad, Ended, Dropped}
+use Rattle.pagable_world.specs.today.Values.{value_with, values_of, value_of_node, cell_here, here, SameValues, NoValueComes, OnlyItsValueGoes, ValueComes, ValueIsThere}
 use Rattle.pagable_book.proofs.Sums.{sum-set, sum-remove, row-le-sum, no_count, pins-le-held, push-there}
 use Rattle.pagable_book.proofs.Here.{cells-nodes, value-le, value-le-one, fitting-parts, no-cell-here, values-here, Once, once-whole, here-at, here-same, here-as-many, here-less, here-pinned, here-still, unpinned-le}
 use Rattle.pagable_world.specs.declared.rows.HandleRow.{HandleRow}

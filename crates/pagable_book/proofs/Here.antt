@@ -7,10 +7,10 @@ use Rattle.std.proofs.lemmas.Bool.{cases_Bool}
 use Rattle.std.proofs.lemmas.List.Sums.{sum_by-cons, sum_by-le-sum_by, get_or-le-sum_by}
 use Rattle.pagable_model.specs.declared.data_key.OptionalDataKey.TheVariants as optional
 use Rattle.pagable_model.specs.declared.numbers.NodeNumber.{NodeNumber}
-use Rattle.pagable_world.specs.State.{State, WellFormed, one, has_key, is_node, is_pinning, count_at, pins, pin_of}
-use Rattle.pagable_world.specs.Cells.{Cell, cell_of, cells_of}
-use Rattle.pagable_world.specs.World.{World, plain, HasCell, IsHere}
-use Rattle.pagable_world.specs.Values.{value_with, values_of, cell_here, here}
+use Rattle.pagable_world.specs.today.State.{State, WellFormed, one, has_key, is_node, is_pinning, count_at, pins, pin_of}
+use Rattle.pagable_world.specs.today.Cells.{Cell, cell_of, cells_of}
+use Rattle.pagable_world.specs.today.World.{World, plain, HasCell, IsHere}
+use Rattle.pagable_world.specs.today.Values.{value_with, values_of, cell_here, here}
 use Rattle.pagable_book.proofs.Sums.{sum-remove, row-le-sum, no_count}
 use Rattle.pagable_world.specs.declared.rows.NodeRow.{NodeRow}
 use Rattle.pagable_world.specs.declared.rows.HandleRow.{HandleRow}

@@ -12,7 +12,7 @@ use Rattle.pagable_world.specs.declared.rows.Owner.{Owner}
 use Rattle.pagable_world.specs.declared.rows.Owner.TheVariants as owners
 use Rattle.pagable_model.specs.declared.numbers.LoadNumber.{LoadNumber}
 use Rattle.pagable_model.specs.declared.numbers.NodeNumber.{NodeNumber}
-use Rattle.pagable_world.specs.State.{State, WellFormed, one, is_pinning, pin_of, pins, handle_of, held, is_node, value_at, is_number, is_entry, is_same, is_listed, is_aside, is_of_load, is_load_with, is_own, is_begun, is_elsewhere, is_loose, idle_pin, AreHandles}
+use Rattle.pagable_world.specs.today.State.{State, WellFormed, one, is_pinning, pin_of, pins, handle_of, held, is_node, value_at, is_number, is_entry, is_same, is_listed, is_aside, is_of_load, is_load_with, is_own, is_begun, is_elsewhere, is_loose, idle_pin, AreHandles}
 use Rattle.pagable_book.proofs.Sums.{sum-remove, row-le-sum, its_count, its_value, no_value, entries-le}
 use Rattle.pagable_world.specs.declared.rows.NodeRow.{NodeRow}
 use Rattle.pagable_world.specs.declared.rows.LoadRow.{LoadRow}

@@ -9,7 +9,7 @@ use Rattle.std.proofs.lemmas.Bool.{cases_eq}
 use Rattle.std.proofs.lemmas.Option.{get_or_from_slice_get, slice_get_within}
 use Rattle.std.proofs.lemmas.List.Sums.{sum_by-cons, get_or-le-sum_by}
 use Rattle.std.proofs.lemmas.List.Quantifiers.{all_pairs_push}
-use Rattle.pagable_world.specs.State.{one}
+use Rattle.pagable_world.specs.today.State.{one}
 
 split_less : (k m : ℕ) → k < m + 1 → (k < m) ⊎ (k ≡ m)
 split_less k m h = grind arith

@@ -5,8 +5,8 @@ use Rattle.std.proofs.Math.Nat.{eq-zero-or-pos}
 use Rattle.std.proofs.lemmas.Bool.Decides.{nat_tests}
 use Rattle.pagable_model.specs.declared.data_key.OptionalDataKey.{OptionalDataKey}
 use Rattle.pagable_model.specs.declared.data_key.OptionalDataKey.TheVariants as optional
-use Rattle.pagable_world.specs.State.{State, pins}
-use Rattle.pagable_world.specs.World.{plain, IsHere, IsAway}
+use Rattle.pagable_world.specs.today.State.{State, pins}
+use Rattle.pagable_world.specs.today.World.{plain, IsHere, IsAway}
 use Rattle.pagable_book.proofs.Preparing.{has-key}
 use Rattle.pagable_world.specs.declared.rows.NodeRow.{NodeRow}
 use Rattle.pagable_world.specs.declared.rows.HandleRow.{HandleRow}

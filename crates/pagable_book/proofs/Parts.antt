@@ -8,8 +8,8 @@ use Rattle.std.proofs.Math.Seq.{map-set_same}
 use Rattle.std.proofs.lemmas.List.Sums.{sum_by_push}
 use Rattle.std.proofs.lemmas.List.Quantifiers.{all_pairs_remove}
 use Rattle.std.proofs.lemmas.Option.{get_or_from_slice_get, slice_get_within}
-use Rattle.pagable_world.specs.State.{one, is_number, is_node, count_at, is_own, is_elsewhere, AreHandles, AreNodes, AreLoads, IsHandleBefore, IsNodeBefore}
-use Rattle.pagable_world.specs.Cells.{cell_of, cells_of, Recounted}
+use Rattle.pagable_world.specs.today.State.{one, is_number, is_node, count_at, is_own, is_elsewhere, AreHandles, AreNodes, AreLoads, IsHandleBefore, IsNodeBefore}
+use Rattle.pagable_world.specs.today.Cells.{cell_of, cells_of, Recounted}
 use Rattle.pagable_book.proofs.Order.{rises-push, rises-set}
 use Rattle.pagable_book.proofs.Sums.{set-there, sum-set, sum-remove, no_count}
 use Rattle.pagable_world.specs.declared.rows.NodeRow.{NodeRow}

@@ -8,9 +8,9 @@ use Rattle.pagable_model.specs.declared.data_key.OptionalDataKey.{OptionalDataKe
 use Rattle.pagable_model.specs.declared.data_key.OptionalDataKey.TheVariants as optional
 use Rattle.pagable_world.specs.declared.rows.Mode.{Mode}
 use Rattle.pagable_world.specs.declared.rows.Mode.TheVariants as modes
-use Rattle.pagable_world.specs.State.{State, has_key, is_shared, pins}
-use Rattle.pagable_world.specs.Cells.{cell_of}
-use Rattle.pagable_world.specs.World.{World, plain, greatest, enlisted, CannotMake, HasKey, NeedsListing, NeedsNoListing, Prepared}
+use Rattle.pagable_world.specs.today.State.{State, has_key, is_shared, pins}
+use Rattle.pagable_world.specs.today.Cells.{cell_of}
+use Rattle.pagable_world.specs.today.World.{World, plain, greatest, enlisted, CannotMake, HasKey, NeedsListing, NeedsNoListing, Prepared}
 use Rattle.pagable_book.proofs.Sums.{push-there}
 use Rattle.pagable_book.proofs.Settling.{cell-at}
 use Rattle.pagable_world.specs.declared.rows.NodeRow.{NodeRow}

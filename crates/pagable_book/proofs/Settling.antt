@@ -9,9 +9,9 @@ use Rattle.std.proofs.lemmas.Option.{slice_get-map}
 use Rattle.pagable_model.specs.declared.data_key.OptionalDataKey.TheVariants as optional
 use Rattle.pagable_world.specs.declared.rows.Mode.{Mode}
 use Rattle.pagable_world.specs.declared.rows.Mode.TheVariants as modes
-use Rattle.pagable_world.specs.State.{State, WellFormed, one, is_pinning, is_loose, is_aside, pin_of, pins, handle_of, held, is_node, AreNodes}
-use Rattle.pagable_world.specs.Cells.{Cell, cell_of, cells_of, Recounted, CellsFollow}
-use Rattle.pagable_world.specs.World.{plain, turned, rekeyed}
+use Rattle.pagable_world.specs.today.State.{State, WellFormed, one, is_pinning, is_loose, is_aside, pin_of, pins, handle_of, held, is_node, AreNodes}
+use Rattle.pagable_world.specs.today.Cells.{Cell, cell_of, cells_of, Recounted, CellsFollow}
+use Rattle.pagable_world.specs.today.World.{plain, turned, rekeyed}
 use Rattle.pagable_book.proofs.Sums.{set-same, sum-remove, its_count, pins-le-held}
 use Rattle.pagable_book.proofs.Parts.{nodes-recounted, nodes-along, nodes-remove}
 use Rattle.pagable_book.proofs.Whole.{whole-turn}

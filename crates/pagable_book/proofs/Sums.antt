@@ -6,7 +6,7 @@ use Rattle.std.proofs.lemmas.List.Sums.{sum_by-cons, sum_by-set, sum_by-remove, 
 use Rattle.std.proofs.lemmas.Option.{get_or_from_slice_get, slice_get_within, slice_get-get_or}
 use Rattle.std.proofs.lemmas.Grind.{get_or-set_at}
 use Rattle.std.proofs.lemmas.List.{set-get_or, length-set, length-append, get_or_append_left}
-use Rattle.pagable_world.specs.State.{one, is_node, count_at, value_at, pin_of, handle_of, pins, held, is_number, is_entry}
+use Rattle.pagable_world.specs.today.State.{one, is_node, count_at, value_at, pin_of, handle_of, pins, held, is_number, is_entry}
 use Rattle.pagable_world.specs.declared.rows.NodeRow.{NodeRow}
 use Rattle.pagable_world.specs.declared.rows.HandleRow.{HandleRow}
 

@@ -13,8 +13,8 @@ use Rattle.pagable_world.specs.declared.rows.Mode.{Mode}
 use Rattle.pagable_world.specs.declared.rows.Mode.TheVariants as modes
 use Rattle.pagable_world.specs.declared.rows.Owner.{Owner}
 use Rattle.pagable_world.specs.declared.rows.Owner.TheVariants as owners
-use Rattle.pagable_world.specs.State.{State, WellFormed, one, is_pinning, is_loose, is_aside, is_listed, is_of_load, pin_of, pins, handle_of, held, is_number, is_entry, is_same, is_load, is_load_with, is_own, is_begun, is_elsewhere, idle_pin, AreNodes, IsLoadBefore}
-use Rattle.pagable_world.specs.Cells.{Recounted}
+use Rattle.pagable_world.specs.today.State.{State, WellFormed, one, is_pinning, is_loose, is_aside, is_listed, is_of_load, pin_of, pins, handle_of, held, is_number, is_entry, is_same, is_load, is_load_with, is_own, is_begun, is_elsewhere, idle_pin, AreNodes, IsLoadBefore}
+use Rattle.pagable_world.specs.today.Cells.{Recounted}
 use Rattle.pagable_book.proofs.Order.{rises-push}
 use Rattle.pagable_book.proofs.Sums.{sum-set, sum-remove, row-le-sum}
 use Rattle.pagable_book.proofs.Parts.{handles-push, handles-set, handles-remove, nodes-recounted, nodes-along, nodes-push, nodes-set, loads-along}

@@ -1,5 +1,5 @@
 -- The tables as the plain state that contracts speak of.
-use Rattle.pagable_world.specs.State.{State}
+use Rattle.pagable_world.specs.today.State.{State}
 use Rattle.pagable_book.specs.declared.tables.Tables.{Tables}
 
 -- the tables' lists and last numbers

@@ -1,8 +1,8 @@
 //! New nodes.
 
 ghost use Rattle.std.specs.Prelude.{◌≡◌, ℕ, ◌+◌, IfOk, IfErr, OnOk, OnErr};
-ghost use Rattle.pagable_world.specs.State.{WellFormed, one, is_pinning};
-ghost use Rattle.pagable_world.specs.World.{plain, born_with, CannotBear};
+ghost use Rattle.pagable_world.specs.today.State.{WellFormed, one, is_pinning};
+ghost use Rattle.pagable_world.specs.today.World.{plain, born_with, CannotBear};
 ghost use Rattle.pagable_book.specs.Shape.{state_of};
 
 use crate::tables::Tables;

@@ -1,12 +1,12 @@
 //! The book: tables that are whole, and the calls on them.
 
 ghost use Rattle.std.specs.Prelude.{◌≡◌, ◌≢◌, ℕ, ◌+◌, [], All, Bool, IfOk, IfErr, IfNone, IfSome, Ok, OnOk, OnErr, length, nat_lt, sum_by, false};
-ghost use Rattle.pagable_world.specs.State.{State, WellFormed, value_at, is_node};
-ghost use Rattle.pagable_world.specs.Cells.{Cell};
-ghost use Rattle.pagable_world.specs.World.{plain, greatest, HasCell};
-ghost use Rattle.pagable_world.specs.Calls.{Born, BornAway, Cloned, Loosened, PinnedBy, Unpinned, Released, Counts, KeyIs, AwayIs, NodeIs, PinsNode, Took, KeySet, Begun, HasLoad, LooksLoad, LoadTypeIs, Ended, Dropped};
-ghost use Rattle.pagable_world.specs.Values.{values_of, value_of_node, here, SameValues, NoValueComes, OnlyItsValueGoes, ValueComes, ValueIsThere};
-ghost use Rattle.pagable_world.specs.Refusals.{IsOwn};
+ghost use Rattle.pagable_world.specs.today.State.{State, WellFormed, value_at, is_node};
+ghost use Rattle.pagable_world.specs.today.Cells.{Cell};
+ghost use Rattle.pagable_world.specs.today.World.{plain, greatest, HasCell};
+ghost use Rattle.pagable_world.specs.today.Calls.{Born, BornAway, Cloned, Loosened, PinnedBy, Unpinned, Released, Counts, KeyIs, AwayIs, NodeIs, PinsNode, Took, KeySet, Begun, HasLoad, LooksLoad, LoadTypeIs, Ended, Dropped};
+ghost use Rattle.pagable_world.specs.today.Values.{values_of, value_of_node, here, SameValues, NoValueComes, OnlyItsValueGoes, ValueComes, ValueIsThere};
+ghost use Rattle.pagable_world.specs.today.Refusals.{IsOwn};
 ghost use Rattle.pagable_world.specs.declared.rows.HandleRow.{HandleRow};
 ghost use Rattle.pagable_world.specs.declared.rows.LoadRow.{LoadRow};
 ghost use Rattle.pagable_book.specs.Shape.{state_of};
@@ -27,7 +27,7 @@ pub struct Book {
 }
 
 impl Model for Book {
-    ghost use Rattle.pagable_world.specs.State.{State, WellFormed};
+    ghost use Rattle.pagable_world.specs.today.State.{State, WellFormed};
     ghost use Rattle.pagable_book.specs.Shape.{state_of};
 
     ghost Value = { State };

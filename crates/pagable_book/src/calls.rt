@@ -1,9 +1,9 @@
 //! The calls on tables that are whole: each is one step of the plain world, and keeps the tables whole.
 
 ghost use Rattle.std.specs.Prelude.{◌≡◌};
-ghost use Rattle.pagable_world.specs.State.{WellFormed};
-ghost use Rattle.pagable_world.specs.World.{plain};
-ghost use Rattle.pagable_world.specs.Calls.{Cloned, Loosened, PinnedBy, Unpinned, Released, KeySet, Begun, Dropped};
+ghost use Rattle.pagable_world.specs.today.State.{WellFormed};
+ghost use Rattle.pagable_world.specs.today.World.{plain};
+ghost use Rattle.pagable_world.specs.today.Calls.{Cloned, Loosened, PinnedBy, Unpinned, Released, KeySet, Begun, Dropped};
 ghost use Rattle.pagable_book.specs.Shape.{state_of};
 
 use crate::tables::Tables;

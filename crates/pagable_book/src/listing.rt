@@ -1,9 +1,9 @@
 //! The list of cells that wait for page-out.
 
 ghost use Rattle.std.specs.Prelude.{◌≡◌, ℕ, ◌<◌, ◌==◌, ◌&&◌, slice_get, Some, IfErr, OnOk, OnErr, false, not};
-ghost use Rattle.pagable_world.specs.State.{WellFormed, held, has_key, is_shared, is_aside};
-ghost use Rattle.pagable_world.specs.World.{plain, enlisted, greatest, Prepared, CannotMake};
-ghost use Rattle.pagable_world.specs.Calls.{UnpinnedAt, ReleasedAt, Took};
+ghost use Rattle.pagable_world.specs.today.State.{WellFormed, held, has_key, is_shared, is_aside};
+ghost use Rattle.pagable_world.specs.today.World.{plain, enlisted, greatest, Prepared, CannotMake};
+ghost use Rattle.pagable_world.specs.today.Calls.{UnpinnedAt, ReleasedAt, Took};
 ghost use Rattle.pagable_book.specs.Shape.{state_of};
 
 use crate::places::HandleAt;

@@ -1,9 +1,9 @@
 //! Open loads.
 
 ghost use Rattle.std.specs.Prelude.{◌≡◌, ℕ, ◌+◌, slice_get, Some, IfOk, IfErr, OnOk, OnErr, true, false};
-ghost use Rattle.pagable_world.specs.State.{WellFormed, is_pinning, is_loose, is_of_load};
-ghost use Rattle.pagable_world.specs.World.{plain, opened, Closes, CannotOpen};
-ghost use Rattle.pagable_world.specs.Calls.{HasLoad, IsNoLoad, Ended};
+ghost use Rattle.pagable_world.specs.today.State.{WellFormed, is_pinning, is_loose, is_of_load};
+ghost use Rattle.pagable_world.specs.today.World.{plain, opened, Closes, CannotOpen};
+ghost use Rattle.pagable_world.specs.today.Calls.{HasLoad, IsNoLoad, Ended};
 ghost use Rattle.pagable_book.specs.Shape.{state_of};
 
 use crate::places::{HandleAt, LoadAt};

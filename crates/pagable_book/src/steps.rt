@@ -2,10 +2,10 @@
 
 ghost use Rattle.std.specs.Prelude.{◌≡◌, ℕ, ◌+◌, ◌-◌, ◌^◌, ◌<◌, ◌==◌, ◌&&◌, sum_by, slice_get, slice_set, Some, IfOk, IfErr, OnOk, OnErr, true, false};
 ghost use Rattle.std.specs.List.{remove};
-ghost use Rattle.pagable_world.specs.State.{WellFormed, AreNodes, held, pins, one, is_pinning, is_aside, value_at, is_loose};
-ghost use Rattle.pagable_world.specs.Cells.{cell_of, cells_of, CellsFollow};
-ghost use Rattle.pagable_world.specs.World.{plain, HasCell, joined, turned, rekeyed, Leaves, CannotMake};
-ghost use Rattle.pagable_world.specs.Refusals.{HasRow, IsUnknown, IsOwn, RefusesOwn, RefusesLoose, RefusesPinned};
+ghost use Rattle.pagable_world.specs.today.State.{WellFormed, AreNodes, held, pins, one, is_pinning, is_aside, value_at, is_loose};
+ghost use Rattle.pagable_world.specs.today.Cells.{cell_of, cells_of, CellsFollow};
+ghost use Rattle.pagable_world.specs.today.World.{plain, HasCell, joined, turned, rekeyed, Leaves, CannotMake};
+ghost use Rattle.pagable_world.specs.today.Refusals.{HasRow, IsUnknown, IsOwn, RefusesOwn, RefusesLoose, RefusesPinned};
 ghost use Rattle.pagable_book.specs.Shape.{state_of};
 
 use crate::places::{HandleAt, Looked, NodeAt};

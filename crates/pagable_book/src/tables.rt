@@ -5,8 +5,8 @@
 
 ghost use Rattle.std.specs.Prelude.{◌≡◌, ℕ, ◌-◌, ◌^◌, ◌<◌, ◌==◌, ◌&&◌, if◌then◌else◌, length, sum_by, slice_get, IfNone, IfSome, Some, nat_lt, true};
 ghost use Rattle.std.specs.List.{AllPairs};
-ghost use Rattle.pagable_world.specs.State.{is_number, is_node, is_load, held, is_pinning, is_loose, one, value_at, has_key, IsHandleBefore, IsNodeBefore, IsLoadBefore};
-ghost use Rattle.pagable_world.specs.Cells.{Recounted};
+ghost use Rattle.pagable_world.specs.today.State.{is_number, is_node, is_load, held, is_pinning, is_loose, one, value_at, has_key, IsHandleBefore, IsNodeBefore, IsLoadBefore};
+ghost use Rattle.pagable_world.specs.today.Cells.{Recounted};
 ghost use Rattle.pagable_world.specs.declared.rows.NodeRow.{NodeRow};
 
 use crate::places::{HandleAt, LoadAt, NodeAt};

@@ -1,23 +1,37 @@
 -- The least set of handles that fall.
 use Rattle.std.proofs.Common.{◌≡◌, ℕ, suc, zero, ◌+◌, ◌<◌, ◌≤◌, ◌==◌, ◌&&◌, ◌||◌, Bool, true, false, List, sum_by, refl, ap, sym, ◌∙◌, arith}
-use Rattle.std.specs.Prelude.{nat_lt}
+use Rattle.std.specs.Prelude.{nat_lt, nat_eq, not, if◌then◌else◌}
 use Rattle.std.proofs.lemmas.Bool.Decides.{nat_tests}
 use Rattle.std.proofs.lemmas.Bool.{and_parts}
-use Rattle.pagable_world.specs.declared.rows.Owner.{Owner}
-use Rattle.pagable_world.specs.declared.rows.Owner.TheVariants as owners
-use Rattle.pagable_world.specs.declared.rows.HandleRow.{HandleRow}
-use Rattle.pagable_world.specs.State.{one}
-use Rattle.pagable_world.specs.Cells.{Cell}
-use Rattle.pagable_world.specs.Words.{Among}
-use Rattle.pagable_world.specs.Least.{is_of_value, outside, held_outside, pin_outside, owned_outside, loses_value, IsClosed, only_in, IsWithin, IsLeast}
+use Rattle.pagable_world.specs.Plain.{one, Among}
+use Rattle.pagable_world.specs.declared.handles.Owner.TheVariants as owners
+use Rattle.pagable_world.specs.declared.handles.Owner.{Owner}
+use Rattle.pagable_world.specs.declared.handles.HandleRow.{HandleRow}
+use Rattle.pagable_world.specs.Kinds.{is_owner, is_owned_by, owner_value, is_at, is_pin, held}
+use Rattle.pagable_world.specs.Cascade.{is_outside, held_outside, pins_outside, loses_value, IsClosed, IsWithin, IsLeast}
 use Rattle.pagable_laws.specs.FallLaws.{OwnsNothing, IsGivenAlone}
 use Rattle.pagable_laws.proofs.Sums.{self-number, one-true, sum-le, at-most-sum, sum-plus, sum-zero, counted}
+
+-- 1 for a handle outside the set; one of the node, one that pins it, one that its value owns; and one of the one set and not of the other
+abbrev outside : (ℕ → Bool) → HandleRow → ℕ
+outside s h = one (is_outside s h)
+
+abbrev held_out : (ℕ → Bool) → ℕ → HandleRow → ℕ
+held_out s n h = one (is_at n h && is_outside s h)
+
+abbrev pin_out : (ℕ → Bool) → ℕ → HandleRow → ℕ
+pin_out s n h = one (is_pin n h && is_outside s h)
+
+abbrev owned_out : (ℕ → Bool) → ℕ → HandleRow → ℕ
+owned_out s n h = one (is_owned_by (owner_value n) h && is_outside s h)
+
+abbrev only_in : (ℕ → Bool) → (ℕ → Bool) → HandleRow → ℕ
+only_in s t h = one (s h.number.0 && not (t h.number.0))
 
 -- whether the owner is a value that goes
 abbrev owner_goes : (ℕ → Bool) → Owner → Bool
 owner_goes lost owners.Caller = false
 owner_goes lost (owners.Value m) = lost m.0
-owner_goes lost owners.Cache = false
 owner_goes lost owners.List = false
 owner_goes lost (owners.Load l) = false
 owner_goes lost (owners.Worker v) = false
@@ -27,37 +41,40 @@ abbrev follows : (ℕ → Bool) → ℕ → HandleRow → ℕ
 follows lost q h = one (h.number.0 == q && owner_goes lost h.owner)
 
 -- the set, and what follows from it
-abbrev grown : List HandleRow → List Cell → List HandleRow → (ℕ → Bool) → ℕ → Bool
-grown rows cells entries s q = s q || nat_lt 0 (sum_by (follows (loses_value rows cells entries s) q) rows)
+abbrev grown : List HandleRow → (ℕ → Bool) → List HandleRow → (ℕ → Bool) → ℕ → Bool
+grown rows keyed entries s q = s q || nat_lt 0 (sum_by (follows (loses_value rows keyed entries s) q) rows)
 
-owned-by : (lost : ℕ → Bool) (n : ℕ) (o : Owner) → is_of_value n o ≡ true → lost n ≡ true → owner_goes lost o ≡ true
+owned-by : (lost : ℕ → Bool) (n : ℕ) (o : Owner) → is_owner (owner_value n) o ≡ true → lost n ≡ true → owner_goes lost o ≡ true
 owned-by lost n owners.Caller is goes = absurd (grind (arith, nat_tests))
 owned-by lost n (owners.Value m) is goes = let e : m.0 ≡ n = grind (arith, nat_tests) in ap lost e ∙ goes
-owned-by lost n owners.Cache is goes = absurd (grind (arith, nat_tests))
 owned-by lost n owners.List is goes = absurd (grind (arith, nat_tests))
 owned-by lost n (owners.Load l) is goes = absurd (grind (arith, nat_tests))
 owned-by lost n (owners.Worker v) is goes = absurd (grind (arith, nat_tests))
 
-owner-of : (lost : ℕ → Bool) (o : Owner) → owner_goes lost o ≡ true → (n : ℕ) × (is_of_value n o ≡ true) × (lost n ≡ true)
+owner-of : (lost : ℕ → Bool) (o : Owner) → owner_goes lost o ≡ true → (n : ℕ) × (is_owner (owner_value n) o ≡ true) × (lost n ≡ true)
 owner-of lost owners.Caller goes = absurd (grind (arith, nat_tests))
 owner-of lost (owners.Value m) goes = (m.0, grind (arith, nat_tests), goes)
-owner-of lost owners.Cache goes = absurd (grind (arith, nat_tests))
 owner-of lost owners.List goes = absurd (grind (arith, nat_tests))
 owner-of lost (owners.Load l) goes = absurd (grind (arith, nat_tests))
 owner-of lost (owners.Worker v) goes = absurd (grind (arith, nat_tests))
 
+-- fewer pins or handles are outside the greater set
+wider-by : (b : Bool) (came p q h k : ℕ) → q ≤ p → k ≤ h → (if b then nat_eq p 0 else nat_eq came 0 && nat_eq h 0) ≡ true → (if b then nat_eq q 0 else nat_eq came 0 && nat_eq k 0) ≡ true
+wider-by true came p q h k pins handles goes = grind (arith, nat_tests)
+wider-by false came p q h k pins handles goes = grind (arith, nat_tests)
+
 same-number : (a b : ℕ) → (a == b) ≡ true → a ≡ b
 same-number a b e = grind (arith, nat_tests)
 
-module _ (rows : List HandleRow) (cells : List Cell) (entries : List HandleRow) where
+module _ (rows : List HandleRow) (keyed : ℕ → Bool) (entries : List HandleRow) where
   abbrev lost : (ℕ → Bool) → ℕ → Bool
-  lost s n = loses_value rows cells entries s n
+  lost s n = loses_value rows keyed entries s n
 
   abbrev more : (ℕ → Bool) → ℕ → Bool
-  more s = grown rows cells entries s
+  more s = grown rows keyed entries s
 
   -- a handle that a value owns that goes is in the greater set
-  comes : (s : ℕ → Bool) (h : HandleRow) (n : ℕ) → Among rows h → is_of_value n h.owner ≡ true → lost s n ≡ true → more s h.number.0 ≡ true
+  comes : (s : ℕ → Bool) (h : HandleRow) (n : ℕ) → Among rows h → is_owner (owner_value n) h.owner ≡ true → lost s n ≡ true → more s h.number.0 ≡ true
   comes s h n among is goes =
       let a = owned-by (lost s) n h.owner is goes in
       let b = self-number h.number.0 in
@@ -68,15 +85,15 @@ module _ (rows : List HandleRow) (cells : List Cell) (entries : List HandleRow) 
   shrinks s h = grind (arith, nat_tests)
 
   -- where no more follows, the set is closed
-  closed-if : (s : ℕ → Bool) → sum_by (outside (more s)) rows ≡ sum_by (outside s) rows → IsClosed rows cells entries s
+  closed-if : (s : ℕ → Bool) → sum_by (outside (more s)) rows ≡ sum_by (outside s) rows → IsClosed rows keyed entries s
   closed-if s same n goes =
-      let each : (h : HandleRow) → Among rows h → owned_outside s n h + outside (more s) h ≤ outside s h =
-      λ h among. part h among (is_of_value n h.owner) refl in
-      let a = sum-le (λ h. owned_outside s n h + outside (more s) h) (outside s) rows each in
-      let b = sum-plus (owned_outside s n) (outside (more s)) rows in
+      let each : (h : HandleRow) → Among rows h → owned_out s n h + outside (more s) h ≤ outside s h =
+      λ h among. part h among (is_owner (owner_value n) h.owner) refl in
+      let a = sum-le (λ h. owned_out s n h + outside (more s) h) (outside s) rows each in
+      let b = sum-plus (owned_out s n) (outside (more s)) rows in
       omega arith
     where
-      part : (h : HandleRow) → Among rows h → (b : Bool) → is_of_value n h.owner ≡ b → owned_outside s n h + outside (more s) h ≤ outside s h
+      part : (h : HandleRow) → Among rows h → (b : Bool) → is_owner (owner_value n) h.owner ≡ b → owned_out s n h + outside (more s) h ≤ outside s h
       part h among true e = let c = comes s h n among e goes in grind (arith, nat_tests)
       part h among false e = let c = shrinks s h in grind (arith, nat_tests)
 
@@ -87,21 +104,21 @@ module _ (rows : List HandleRow) (cells : List Cell) (entries : List HandleRow) 
   -- a value that goes with fewer handles goes with more
   pub wider : (s t : ℕ → Bool) (n : ℕ) → IsWithin rows s t → lost s n ≡ true → lost t n ≡ true
   wider s t n within goes =
-      let pins = sum-le (pin_outside t n) (pin_outside s n) rows (λ h among. let a = at-most-sum (only_in s t) rows h among in grind (arith, nat_tests)) in
-      let handles = sum-le (held_outside t n) (held_outside s n) rows (λ h among. let a = at-most-sum (only_in s t) rows h among in grind (arith, nat_tests)) in
-      grind (arith, nat_tests)
+      let pins = sum-le (pin_out t n) (pin_out s n) rows (λ h among. let a = at-most-sum (only_in s t) rows h among in grind (arith, nat_tests)) in
+      let handles = sum-le (held_out t n) (held_out s n) rows (λ h among. let a = at-most-sum (only_in s t) rows h among in grind (arith, nat_tests)) in
+      wider-by (keyed n) (held n entries) (pins_outside rows s n) (pins_outside rows t n) (held_outside rows s n) (held_outside rows t n) pins handles goes
 
   -- what follows is in each closed set
-  stays : (s t : ℕ → Bool) → IsWithin rows s t → IsClosed rows cells entries t → IsWithin rows (more s) t
+  stays : (s t : ℕ → Bool) → IsWithin rows s t → IsClosed rows keyed entries t → IsWithin rows (more s) t
   stays s t within closed = sum-zero (only_in (more s) t) rows (λ h among. part h among (s h.number.0) refl (nat_lt 0 (sum_by (follows (lost s) h.number.0) rows)) refl)
     where
       owned : (h : HandleRow) → Among rows h → 0 < sum_by (follows (lost s) h.number.0) rows → t h.number.0 ≡ true
       owned h among some = of-row h (counted (follows (lost s) h.number.0) rows some)
         where
-          of-value : (h x : HandleRow) → Among rows x → x.number.0 ≡ h.number.0 → (n : ℕ) × (is_of_value n x.owner ≡ true) × (lost s n ≡ true) → t h.number.0 ≡ true
+          of-value : (h x : HandleRow) → Among rows x → x.number.0 ≡ h.number.0 → (n : ℕ) × (is_owner (owner_value n) x.owner ≡ true) × (lost s n ≡ true) → t h.number.0 ≡ true
           of-value h x among number (n, is, goes) =
-              let none : sum_by (owned_outside t n) rows ≡ 0 = closed n (wider s t n within goes) in
-              let at : owned_outside t n x ≤ sum_by (owned_outside t n) rows = at-most-sum (owned_outside t n) rows x among in
+              let none : sum_by (owned_out t n) rows ≡ 0 = closed n (wider s t n within goes) in
+              let at : owned_out t n x ≤ sum_by (owned_out t n) rows = at-most-sum (owned_out t n) rows x among in
               let it : t x.number.0 ≡ true = grind (arith, nat_tests) in
               sym (ap t number) ∙ it
 
@@ -123,16 +140,16 @@ module _ (rows : List HandleRow) (cells : List Cell) (entries : List HandleRow) 
 
   -- a set that is in each closed one is the least once it is closed itself; until then it grows
   decide : (given s : ℕ → Bool) → IsWithin rows given s
-      → ((t : ℕ → Bool) → IsWithin rows given t → IsClosed rows cells entries t → IsWithin rows s t)
-      → (sum_by (outside (more s)) rows < sum_by (outside s) rows → (s : ℕ → Bool) × IsLeast rows cells entries given s)
+      → ((t : ℕ → Bool) → IsWithin rows given t → IsClosed rows keyed entries t → IsWithin rows s t)
+      → (sum_by (outside (more s)) rows < sum_by (outside s) rows → (s : ℕ → Bool) × IsLeast rows keyed entries given s)
       → (b : Bool) → nat_lt (sum_by (outside (more s)) rows) (sum_by (outside s) rows) ≡ b
-      → (s : ℕ → Bool) × IsLeast rows cells entries given s
+      → (s : ℕ → Bool) × IsLeast rows keyed entries given s
   decide given s holds least rest false e = let l = less s in (s, record { holds = holds; closed = closed-if s (grind (arith, nat_tests)); least = least })
   decide given s holds least rest true e = rest (grind (arith, nat_tests))
 
   grows : (given : ℕ → Bool) (k : ℕ) (s : ℕ → Bool) → sum_by (outside s) rows ≤ k → IsWithin rows given s
-      → ((t : ℕ → Bool) → IsWithin rows given t → IsClosed rows cells entries t → IsWithin rows s t)
-      → (s : ℕ → Bool) × IsLeast rows cells entries given s
+      → ((t : ℕ → Bool) → IsWithin rows given t → IsClosed rows keyed entries t → IsWithin rows s t)
+      → (s : ℕ → Bool) × IsLeast rows keyed entries given s
   grows given zero s few holds least = decide given s holds least (λ fewer. absurd (omega arith)) (nat_lt (sum_by (outside (more s)) rows) (sum_by (outside s) rows)) refl
   grows given (suc k) s few holds least =
       decide given s holds least (λ fewer. grows given k (more s) (omega arith) (wider-given given s holds) (λ t h c. stays s t (least t h c) c)) (nat_lt (sum_by (outside (more s)) rows) (sum_by (outside s) rows)) refl
@@ -140,10 +157,10 @@ module _ (rows : List HandleRow) (cells : List Cell) (entries : List HandleRow) 
   within-self : (given : ℕ → Bool) → IsWithin rows given given
   within-self given = sum-zero (only_in given given) rows (λ h among. grind (arith, nat_tests))
 
-  pub least_is_there : (given : ℕ → Bool) → (s : ℕ → Bool) × IsLeast rows cells entries given s
+  pub least_is_there : (given : ℕ → Bool) → (s : ℕ → Bool) × IsLeast rows keyed entries given s
   least_is_there given = grows given (sum_by (outside given) rows) given (omega arith) (within-self given) (λ t holds closed. holds)
 
-  pub least_is_one : (given s t : ℕ → Bool) (h : HandleRow) → IsLeast rows cells entries given s → IsLeast rows cells entries given t → Among rows h → s h.number.0 ≡ t h.number.0
+  pub least_is_one : (given s t : ℕ → Bool) (h : HandleRow) → IsLeast rows keyed entries given s → IsLeast rows keyed entries given t → Among rows h → s h.number.0 ≡ t h.number.0
   least_is_one given s t h a b among = both (s h.number.0) refl (t h.number.0) refl
     where
       both : (x : Bool) → s h.number.0 ≡ x → (y : Bool) → t h.number.0 ≡ y → s h.number.0 ≡ t h.number.0
@@ -153,15 +170,15 @@ module _ (rows : List HandleRow) (cells : List Cell) (entries : List HandleRow) 
       both false e true f = let c = inside t s h (b.least s a.holds a.closed) among f in absurd (grind (arith, nat_tests))
 
 -- where no value owns a handle, every set is closed
-closed-alone : (rows : List HandleRow) (cells : List Cell) (entries : List HandleRow) (s : ℕ → Bool) → OwnsNothing rows → IsClosed rows cells entries s
-closed-alone rows cells entries s nothing n goes =
-    let none : sum_by (λ h. one (is_of_value n h.owner)) rows ≡ 0 = nothing n in
-    let few : sum_by (owned_outside s n) rows ≤ sum_by (λ h. one (is_of_value n h.owner)) rows = sum-le (owned_outside s n) (λ h. one (is_of_value n h.owner)) rows (λ h among. grind (arith, nat_tests)) in
+closed-alone : (rows : List HandleRow) (keyed : ℕ → Bool) (entries : List HandleRow) (s : ℕ → Bool) → OwnsNothing rows → IsClosed rows keyed entries s
+closed-alone rows keyed entries s nothing n goes =
+    let none : sum_by (λ h. one (is_owner (owner_value n) h.owner)) rows ≡ 0 = nothing n in
+    let few : sum_by (owned_out s n) rows ≤ sum_by (λ h. one (is_owner (owner_value n) h.owner)) rows = sum-le (owned_out s n) (λ h. one (is_owner (owner_value n) h.owner)) rows (λ h among. grind (arith, nat_tests)) in
     omega arith
 
 -- so the given handles are the least set, and no more fall
-pub given-least : (rows : List HandleRow) (cells : List Cell) (entries : List HandleRow) (given : ℕ → Bool) → OwnsNothing rows → IsLeast rows cells entries given given
-given-least rows cells entries given nothing = record { holds = within-self rows cells entries given; closed = closed-alone rows cells entries given nothing; least = λ t holds closed. holds }
+pub given-least : (rows : List HandleRow) (keyed : ℕ → Bool) (entries : List HandleRow) (given : ℕ → Bool) → OwnsNothing rows → IsLeast rows keyed entries given given
+given-least rows keyed entries given nothing = record { holds = within-self rows keyed entries given; closed = closed-alone rows keyed entries given nothing; least = λ t holds closed. holds }
 
 pub given_alone : IsGivenAlone
-given_alone rows cells entries given s h nothing least among = least_is_one rows cells entries given s given h least (given-least rows cells entries given nothing) among
+given_alone rows keyed entries given s h nothing least among = least_is_one rows keyed entries given s given h least (given-least rows keyed entries given nothing) among

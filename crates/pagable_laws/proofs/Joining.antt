@@ -1,69 +1,92 @@
--- Runs join, and a new pager is whole.
-use Rattle.std.proofs.Common.{ℕ, [], ◌∷◌, refl, subst, inl, arith}
+-- Chains join, and a new machine is whole.
+use Rattle.std.proofs.Common.{◌≡◌, ℕ, [], ◌∷◌, ◌++◌, List, refl, inl, arith}
 use Rattle.std.specs.Prelude.{Option}
-use Rattle.pagable_model.specs.Blob.{Blob}
-use Rattle.pagable_world.specs.Seen.{Seen}
-use Rattle.pagable_world.specs.Pages.{WellFormed}
-use Rattle.pagable_world.specs.Events.{Run, IsNew}
-use Rattle.pagable_laws.specs.SmallWorlds.{empty, new_pages}
-use Rattle.pagable_laws.specs.RunLaws.{RunsJoin, NewIsWhole}
+use Rattle.pagable_world.specs.Plain.{Blob, Tree}
+use Rattle.pagable_world.specs.World.{Places, Values, Seen}
+use Rattle.pagable_world.specs.Pager.{MachineState, IsMachineWhole, WellFormed, StandsFor, of_caller, of_worker}
+use Rattle.pagable_world.specs.Runs.{Moment, AreMoments, state_after}
+use Rattle.pagable_laws.specs.SmallWorlds.{new_pager, new_machine}
+use Rattle.pagable_laws.specs.RunLaws.{ChainsJoin, NewIsWhole}
 
-pub runs_join : {N B W : Type 0} (m : Seen N B W) → RunsJoin m
-runs_join m w mid w' [] more [] rest first second = subst (λ x. Run m x more rest w') first second
-runs_join m w mid w' (event ∷ events) more (reply ∷ replies) rest (between, step, first) second = (between, step, runs_join m between mid w' events more replies rest first second)
-runs_join m w mid w' [] more (reply ∷ replies) rest first second = absurd first
-runs_join m w mid w' (event ∷ events) more [] rest first second = absurd first
+joins : {N E B W : Type 0} (m : Seen N B W) (s : MachineState N E) (xs ys : List (Moment N E B W)) → AreMoments m s xs → AreMoments m (state_after s xs) ys → AreMoments m s (xs ++ ys)
+unfolding state_after
+joins m s [] ys first second = second
+joins m s (x ∷ xs) ys (does, first) second = (does, joins m x.after xs ys first second)
 
-new-whole : {N B W : Type 0} (m : Seen N B W) (stored : ℕ → Option Blob) → WellFormed m (new_pages stored)
-new-whole m stored =
+ends : {N E B W : Type 0} (s : MachineState N E) (xs ys : List (Moment N E B W)) → state_after s (xs ++ ys) ≡ state_after (state_after s xs) ys
+unfolding state_after
+ends s [] ys = refl
+ends s (x ∷ xs) ys = ends x.after xs ys
+
+pub chains_join : {N B W : Type 0} (E : Type 0) (m : Seen N B W) → ChainsJoin E m
+chains_join E m = record { joins = joins m; ends = ends }
+
+new-well : {N E : Type 0} (v : Values N) (stored : ℕ → Option Blob) (places : Places) (env : E) → WellFormed v (new_pager stored places env)
+new-well v stored places env =
     record {
       whole = record {
         handles = record {
           ordered = λ i j lt d e. absurd (omega arith);
-          once = λ q. omega arith;
-          fresh = λ q out. refl;
-          cells_ordered = λ i j lt d e. absurd (omega arith);
-          node_fresh = λ q out. refl;
-          within = (omega arith, omega arith);
+          numbered = λ h among. absurd (cc);
+          nodes_numbered = λ n is. absurd (cc);
+          within = (omega arith, omega arith, omega arith);
           live = λ n. refl;
           uniform = λ n. inl refl;
           unkeyed = λ n some. refl;
+          places = (omega arith, omega arith);
         };
         owners_there = record {
           listed = λ q. refl;
           waiting = λ h among is. absurd (cc);
-          cached = λ q. refl;
-          entries = λ kind key. omega arith;
-          kinds = λ c h among row. absurd (cc);
-          loads = λ q some. absurd (omega arith);
-          workers = λ q some. absurd (omega arith);
+          loads = λ h l among is. absurd (cc);
+          workers = λ h v among is. absurd (cc);
         };
-        work = record {
-          load_once = λ q. omega arith;
-          load_fresh = λ q out. refl;
-          load_owned = λ load among. absurd (cc);
-          worker_once = λ q. omega arith;
-          worker_fresh = λ q out. refl;
-          tables = λ v among. absurd (cc);
-          slot_once = λ t i. omega arith;
-          claimers = λ s among. absurd (cc);
-          open_slots = λ s among is. absurd (cc);
+        loads = record {
+          numbered = λ l is. absurd (cc);
+          owned = λ l load is. absurd (cc);
+          roots = λ l load node t h is root. absurd (cc);
         };
+        cache = λ kind key n is. absurd (cc);
+        workers_numbered = λ v is. absurd (cc);
+        shut = λ closed. (refl, λ kind key. refl);
       };
       counted = λ n. refl;
       valued = λ n. refl;
-      typed = λ n x has. absurd (cc);
-      inside = λ n q. refl;
-      references = λ n x r has among. absurd (cc);
+      typed = λ n x is. absurd (cc);
+      inside = λ n x q is. absurd (cc);
+      bare = λ n none. refl;
+      references = λ n x r is among. absurd (cc);
     }
 
-is-new : (stored : ℕ → Option Blob) → IsNew (empty stored)
-is-new stored = record { rows = refl; cells = refl; list = refl; cache = refl; loads = refl; workers = refl; slots = refl; last = refl }
-
-pub new_whole : {N B W : Type 0} (m : Seen N B W) → NewIsWhole m
-new_whole m =
+new-whole : {N E : Type 0} (v : Values N) (stored : ℕ → Option Blob) (places : Places) (env : E) → IsMachineWhole v (new_machine stored places env)
+new-whole v stored places env =
     record {
-      new = is-new;
-      whole = new-whole m;
-      stands = λ stored u same. record { same = same; stands = λ n some. absurd (omega arith); typed = λ n some. absurd (omega arith); loads = λ load among. absurd (cc) };
+      pager = new-well v stored places env;
+      readings = λ l reading is. absurd (cc);
+      walkings = λ n walking is. absurd (cc);
+      all_there = λ n is. absurd (cc);
+    }
+
+new-stands : {N E : Type 0} (v : Values N) (stored : ℕ → Option Blob) (places : Places) (env : E) (trees : ℕ → Tree) → StandsFor v (new_machine stored places env) trees
+new-stands v stored places env trees =
+    record {
+      pager = record {
+        stands = λ n some. absurd (omega arith);
+        typed = λ n some. absurd (omega arith);
+        loads = λ l load node t h is root. absurd (cc);
+        cache = λ kind key n is. absurd (cc);
+      };
+      readings = λ reading is. elim is [
+        | of_caller l there ↦ absurd (cc)
+        | of_worker n place walking r through below there todo ↦ absurd (cc)
+      ];
+    }
+
+pub new_whole : {N : Type 0} (E : Type 0) (v : Values N) → NewIsWhole E v
+new_whole E v =
+    record {
+      new = λ stored places env. record { rows = refl; cells = λ n. refl; list = refl; cache = λ kind key. refl; loads = λ l. refl; workers = λ n. refl; last = refl; counts = λ n. refl; values = λ n. refl };
+      idle = λ stored places env. record { no_table = refl; shelves = λ t i. refl; waits = λ t n. refl; readings = λ l. refl; walkings = λ n. refl; nobody = λ n. refl };
+      whole = new-whole v;
+      stands = new-stands v;
     }

@@ -24,8 +24,8 @@ mod Existing
 mod Two
 mod Joining
 mod Telling
-mod Missing
-mod Lone
+mod Nexts
+mod Once
 mod Headlines
-mod NoFacts
-mod NoGrammars
+mod Working
+mod Doing

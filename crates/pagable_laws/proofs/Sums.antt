@@ -3,8 +3,7 @@ use Rattle.std.proofs.Common.{◌≡◌, ℕ, suc, zero, ◌+◌, ◌<◌, ◌�
 use Rattle.std.specs.Prelude.{filter, length}
 use Rattle.std.proofs.lemmas.Bool.Decides.{nat_tests}
 use Rattle.std.proofs.lemmas.List.Sums.{sum_by-cons}
-use Rattle.pagable_world.specs.State.{one}
-use Rattle.pagable_world.specs.Words.{Among, times}
+use Rattle.pagable_world.specs.Plain.{one, Among, times}
 use Rattle.pagable_laws.specs.FallLaws.{PinsAreAFilter}
 
 -- a number is itself by the test too

@@ -1,19 +1,18 @@
--- What falls of a value of two levels.
-use Rattle.std.proofs.Common.{◌≡◌, ℕ, ◌+◌, ◌<◌, ◌≤◌, ◌==◌, ◌&&◌, Bool, true, false, List, [], ◌∷◌, length, sum_by, refl, ap, inl, inr, arith}
+-- What falls of a value of two levels; and a lone cell that is unpinned.
+use Rattle.std.proofs.Common.{◌≡◌, ℕ, ◌+◌, ◌<◌, ◌≤◌, ◌==◌, ◌&&◌, Bool, true, false, List, [], ◌∷◌, length, refl, ap, inl, inr, subst, arith}
 use Rattle.std.specs.Prelude.{not, Option, Ok}
 use Rattle.std.proofs.lemmas.List.Sums.{sum_by-cons}
 use Rattle.std.proofs.lemmas.Bool.Decides.{nat_tests}
-use Rattle.pagable_model.specs.Blob.{Blob}
-use Rattle.pagable_world.specs.declared.rows.Owner.TheVariants as owners
+use Rattle.pagable_world.specs.Plain.{Blob, one}
+use Rattle.pagable_world.specs.declared.handles.Owner.TheVariants as owners
 use Rattle.pagable_world.specs.declared.rows.Mode.TheVariants as modes
-use Rattle.pagable_world.specs.declared.rows.HandleRow.{HandleRow}
-use Rattle.pagable_world.specs.Cells.{Cell}
-use Rattle.pagable_world.specs.State.{one, pins, held}
-use Rattle.pagable_world.specs.Least.{owned_outside, loses_value, IsClosed, IsWithin, IsLeast}
-use Rattle.pagable_world.specs.Falls.{MustList, nobody}
-use Rattle.pagable_world.specs.Handles.{row_of, with_mode, UnpinCall}
-use Rattle.pagable_laws.specs.SmallWorlds.{two_rows, two_cells, two_levels, outer, both, lone, lone_listed, lone_unlisted}
-use Rattle.pagable_laws.specs.FallLaws.{OwnsNothing, TwoLevelsFall, TwoLevelsAreReleased, LoneIsListed}
+use Rattle.pagable_world.specs.declared.handles.HandleRow.{HandleRow}
+use Rattle.pagable_world.specs.Kinds.{pins, held, is_at, find_row}
+use Rattle.pagable_world.specs.World.{Last}
+use Rattle.pagable_world.specs.Cascade.{is_keyed, owned_outside, loses_value, IsClosed, IsWithin, IsLeast, MustList, Falls, fallen, nobody}
+use Rattle.pagable_world.specs.Calls.{row_of, with_mode, UnpinCall}
+use Rattle.pagable_laws.specs.SmallWorlds.{two_rows, are_two, outer, both, first, first_node, lone, lone_listed, lone_unlisted}
+use Rattle.pagable_laws.specs.FallLaws.{OwnsNothing, TwoLevelsFall, LoneIsListed}
 use Rattle.pagable_laws.proofs.Existing.{given-least}
 use Rattle.pagable_laws.proofs.Sums.{one-small}
 
@@ -21,105 +20,103 @@ and-false : (b : Bool) → one (b && false) ≡ 0
 and-false true = refl
 and-false false = refl
 
-both-closed : (key inner : ℕ) → IsClosed two_rows (two_cells key inner) [] both
-both-closed key inner n goes = let a = and-false (1 == n) in omega arith
+both-closed : IsClosed two_rows are_two [] both
+both-closed n goes = let a = and-false (1 == n) in omega arith
 
-pub both-least : (key inner : ℕ) → IsLeast two_rows (two_cells key inner) [] outer both
-both-least key inner = record { holds = refl; closed = both-closed key inner; least = least }
+both-least : IsLeast two_rows are_two [] outer both
+both-least = record { holds = refl; closed = both-closed; least = least }
   where
-    least : (t : ℕ → Bool) → IsWithin two_rows outer t → IsClosed two_rows (two_cells key inner) [] t → IsWithin two_rows both t
+    least : (t : ℕ → Bool) → IsWithin two_rows outer t → IsClosed two_rows are_two [] t → IsWithin two_rows both t
     least t holds closed =
-        let first : one (not (t 1)) ≡ 0 = omega arith in
-        let goes : loses_value two_rows (two_cells key inner) [] t 1 ≡ true = grind (arith, nat_tests) in
-        let fallen : sum_by (owned_outside t 1) two_rows ≡ 0 = closed 1 goes in
-        let second : one (not (t 2)) ≡ 0 = omega arith in
+        let first_in : one (not (t 1)) ≡ 0 = omega arith in
+        let goes : loses_value two_rows are_two [] t 1 ≡ true = grind (arith, nat_tests) in
+        let fallen : owned_outside two_rows t 1 ≡ 0 = closed 1 goes in
+        let second_in : one (not (t 2)) ≡ 0 = omega arith in
         omega arith
 
-outer-not : (key inner : ℕ) → ¬ IsLeast two_rows (two_cells key inner) [] outer outer
-outer-not key inner least = let fallen = least.closed 1 refl in absurd (omega arith)
+outer-not : ¬ IsLeast two_rows are_two [] outer outer
+outer-not least = let fallen = least.closed 1 refl in absurd (omega arith)
 
 pub two_fall : TwoLevelsFall
 two_fall = record { falls = both-least; not_less = outer-not }
 
-unlisted : (stored : ℕ → Option Blob) (key inner n : ℕ) → MustList (two_levels stored key inner) (two_levels stored key inner) (record (two_levels stored key inner) { rows = []; cells = [] }) n → ⊥
-unlisted stored key inner n must = let a = must.pinned in let b = must.unkeyed in grind (arith, nat_tests)
-
-pub two_released : TwoLevelsAreReleased
-two_released stored key inner =
-    inr (
-      row_of 1 (record { 0 = 1 }) modes.LoosePinned owners.Caller,
-      (((0, refl), refl), refl, tt),
-      record {
-        gone = both;
-        entries = [];
-        set = both-least key inner;
-        new = tt;
-        only = λ n some. absurd (omega arith);
-        each = λ n must. absurd (unlisted stored key inner n must);
-        tells = λ n must. absurd (unlisted stored key inner n must);
-        within = omega arith;
-        grows = omega arith;
-        rest = refl;
-      },
-    )
-
-lone-closed : (rows : List HandleRow) (cells : List Cell) (entries : List HandleRow) → OwnsNothing rows → IsLeast rows cells entries nobody nobody
-lone-closed rows cells entries nothing = given-least rows cells entries nobody nothing
-
-lone-nothing : OwnsNothing (row_of 1 (record { 0 = 1 }) modes.LooseUnpinned owners.Caller ∷ [])
-lone-nothing n = refl
-
 held-length : (n : ℕ) (rows : List HandleRow) → held n rows ≤ length rows
 held-length n [] = omega arith
-held-length n (h ∷ hs) = let a = held-length n hs in let b = sum_by-cons (λ x. one (x.node.0 == n)) h hs in let c = one-small (h.node.0 == n) in omega arith
+held-length n (h ∷ hs) = let a = held-length n hs in let b = sum_by-cons (λ x. one (is_at n x)) h hs in let c = one-small (is_at n h) in omega arith
 
-lone-must : (stored : ℕ → Option Blob) (n : ℕ) → 0 < held n (row_of 2 (record { 0 = 1 }) modes.LooseUnpinned owners.List ∷ []) → MustList (lone stored) (with_mode (lone stored) (record { 0 = 1 }) modes.LooseUnpinned) (lone_listed stored) n
+lone-nothing : OwnsNothing (row_of 1 first_node modes.LooseUnpinned owners.Caller ∷ [])
+lone-nothing n = refl
+
+lone-must : (stored : ℕ → Option Blob) (n : ℕ) → 0 < held n (row_of 2 first_node modes.LooseUnpinned owners.List ∷ []) → MustList (lone stored) (with_mode (lone stored) first modes.LooseUnpinned) (lone_listed stored) n
 lone-must stored n some =
     record {
       pinned = grind (arith, nat_tests);
       unpinned = grind (arith, nat_tests);
-      unkeyed = grind (arith, nat_tests);
+      unkeyed = let e : n ≡ 1 = grind (arith, nat_tests) in ap (λ q. is_keyed (with_mode (lone stored) first modes.LooseUnpinned) q) e;
       unshared = grind (arith, nat_tests);
       stands_open = refl;
     }
 
-lone-each : (stored : ℕ → Option Blob) (n : ℕ) → MustList (lone stored) (with_mode (lone stored) (record { 0 = 1 }) modes.LooseUnpinned) (lone_listed stored) n → held n (row_of 2 (record { 0 = 1 }) modes.LooseUnpinned owners.List ∷ []) ≡ 1
+lone-each : (stored : ℕ → Option Blob) (n : ℕ) → MustList (lone stored) (with_mode (lone stored) first modes.LooseUnpinned) (lone_listed stored) n → held n (row_of 2 first_node modes.LooseUnpinned owners.List ∷ []) ≡ 1
 lone-each stored n must = let a = must.pinned in grind (arith, nat_tests)
 
-lone-unpinned : (stored : ℕ → Option Blob) → UnpinCall (lone stored) owners.Caller (record { 0 = 1 }) (Ok tt) (lone_listed stored)
-lone-unpinned stored =
-    inr (inr (
-      row_of 1 (record { 0 = 1 }) modes.LoosePinned owners.Caller,
-      (((0, refl), refl), refl, refl),
-      record {
-        gone = nobody;
-        entries = row_of 2 (record { 0 = 1 }) modes.LooseUnpinned owners.List ∷ [];
-        set = lone-closed _ _ _ lone-nothing;
-        new = (refl, refl, refl, tt);
-        only = λ n some. (lone-must stored n some, grind (arith, nat_tests));
-        each = λ n must. inl (lone-each stored n must);
-        tells = λ n must. lone-each stored n must;
-        within = omega arith;
-        grows = omega arith;
-        rest = refl;
-      },
-    ))
+-- ---- a lone cell is listed
 
-lone-must-unlisted : (stored : ℕ → Option Blob) → MustList (lone stored) (with_mode (lone stored) (record { 0 = 1 }) modes.LooseUnpinned) (lone_unlisted stored) 1
+-- the entry that comes
+abbrev came : List HandleRow
+came = row_of 2 first_node modes.LooseUnpinned owners.List ∷ []
+
+fell : (stored : ℕ → Option Blob) → Falls (lone stored) (with_mode (lone stored) first modes.LooseUnpinned) nobody (Ok tt) (lone_listed stored)
+fell stored =
+    record {
+      gone = nobody;
+      entries = came;
+      set = given-least _ _ _ nobody lone-nothing;
+      new = (refl, refl, refl, tt);
+      only = λ n some. (lone-must stored n some, lone-each stored n (lone-must stored n some));
+      each = λ n must. inl (lone-each stored n must);
+      tells = record { all = λ n must. lone-each stored n must; not_all = tt };
+      within = omega arith;
+      leaves = record {
+        rows = refl;
+        cells = λ n. same-cells n (1 == n) refl;
+        list = refl;
+        cache = record { gives = λ kind key. refl; only = λ kind key n is. is };
+        stored = λ key. refl;
+        closed = refl;
+        failures = refl;
+        loads = λ l. refl;
+        workers = λ v. refl;
+        last = refl;
+        places = record { handles = omega arith; entries = omega arith };
+      };
+    }
+  where
+    same-cells : (n : ℕ) (b : Bool) → (1 == n) ≡ b → (lone_listed stored).cells n ≡ (fallen (with_mode (lone stored) first modes.LooseUnpinned) nobody came).cells n
+    same-cells n true is = let e : 1 ≡ n = grind (arith, nat_tests) in subst (λ q. (lone_listed stored).cells q ≡ (fallen (with_mode (lone stored) first modes.LooseUnpinned) nobody came).cells q) e refl
+    same-cells n false is = let a : (n == 1) ≡ false = grind (arith, nat_tests) in rw (a, is) refl
+
+lone-unpinned : (stored : ℕ → Option Blob) → UnpinCall (lone stored) owners.Caller first (Ok tt) (lone_listed stored)
+unfolding find_row
+lone-unpinned stored = record { does = inr (row_of 1 first_node modes.LoosePinned owners.Caller, record { live = refl; own = refl; as_asked = refl }, inr (refl, fell stored)) }
+
+lone-must-unlisted : (stored : ℕ → Option Blob) → MustList (lone stored) (with_mode (lone stored) first modes.LooseUnpinned) (lone_unlisted stored) 1
 lone-must-unlisted stored = record { pinned = omega arith; unpinned = refl; unkeyed = refl; unshared = refl; stands_open = refl }
 
-not-unlisted : (stored : ℕ → Option Blob) → ¬ UnpinCall (lone stored) owners.Caller (record { 0 = 1 }) (Ok tt) (lone_unlisted stored)
-not-unlisted stored (inl (e, why, (is, same))) = absurd (cc)
-not-unlisted stored (inr (inl (row, own, is, same))) =
-    let rows : (lone_unlisted stored).rows ≡ (lone stored).rows = ap (λ w. w.rows) same in
-    let pins_are : pins 1 (lone_unlisted stored).rows ≡ pins 1 (lone stored).rows = ap (pins 1) rows in
-    omega arith
-not-unlisted stored (inr (inr (row, own, falls))) =
-    let listed : held 1 falls.entries ≡ 1 = falls.tells 1 (lone-must-unlisted stored) in
-    let last : 1 ≡ 1 + length falls.entries = ap (λ w. w.last.handle) falls.rest in
-    let none : length falls.entries ≡ 0 = omega arith in
-    let few : held 1 falls.entries ≤ length falls.entries = held-length 1 falls.entries in
-    omega arith
+not-unlisted : (stored : ℕ → Option Blob) → ¬ UnpinCall (lone stored) owners.Caller first (Ok tt) (lone_unlisted stored)
+not-unlisted stored call = elim call.does [
+  | inl refused ↦ absurd (cc)
+  | inr (row, own, inl (is, told, alike)) ↦ let pins_are : pins 1 (lone_unlisted stored).rows ≡ pins 1 (lone stored).rows = ap (pins 1) alike.rows in absurd (omega arith)
+  | inr (row, own, inr (is, falls)) ↦ unlisted falls
+]
+  where
+    unlisted : Falls (lone stored) (with_mode (lone stored) first modes.LooseUnpinned) nobody (Ok tt) (lone_unlisted stored) → ⊥
+    unlisted falls =
+        let listed : held 1 falls.entries ≡ 1 = falls.tells.all 1 (lone-must-unlisted stored) in
+        let last : 1 ≡ 1 + length falls.entries = ap (λ (l : Last). l.handle) falls.leaves.last in
+        let none : length falls.entries ≡ 0 = omega arith in
+        let few : held 1 falls.entries ≤ length falls.entries = held-length 1 falls.entries in
+        omega arith
 
 pub is_listed : LoneIsListed
 is_listed = record { listed = lone-unpinned; not_unlisted = not-unlisted }

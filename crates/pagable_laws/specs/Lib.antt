@@ -4,8 +4,8 @@ pub mod KeyLaws
 pub mod JsonLaws
 pub mod Rows
 pub mod SmallWorlds
-pub mod SmallMoments
 pub mod FallLaws
 pub mod RunLaws
-pub mod NearMisses
-pub mod Refused
+pub mod SmallMoments
+pub mod SmallWork
+pub mod MetLaws

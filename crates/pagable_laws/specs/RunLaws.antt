@@ -1,42 +1,45 @@
--- The laws of new pagers and of runs, and that the headline is met.
-use Rattle.std.specs.Prelude.{ℕ, ◌≡◌, ◌++◌, List, Option}
-use Rattle.pagable_model.specs.Blob.{Blob}
-use Rattle.pagable_world.specs.declared.events.Event.{Event}
-use Rattle.pagable_world.specs.declared.events.EventReply.{EventReply}
-use Rattle.pagable_world.specs.Whole.{Whole}
-use Rattle.pagable_world.specs.Seen.{Seen, IsLawful}
-use Rattle.pagable_world.specs.Pages.{WellFormed}
-use Rattle.pagable_world.specs.Stands.{TreeWorld, Represents}
-use Rattle.pagable_world.specs.Events.{Run, IsNew}
-use Rattle.pagable_world.specs.Premises.{ReadsItsTypes}
-use Rattle.pagable_world.specs.Runs.{ArePremised}
-use Rattle.pagable_world.specs.Headline.{Headline}
-use Rattle.pagable_world.specs.Alone.{StandTogether, HeadlineAlone, KeysTellTrees}
-use Rattle.pagable_laws.specs.SmallWorlds.{empty, new_pages}
-use Rattle.pagable_laws.specs.SmallMoments.{sample, sample_types, two_moments}
+-- The laws of new pagers, of what blobs ask for, of the order of a worker's steps, and of chains.
+use Rattle.std.specs.Prelude.{ℕ, ◌≡◌, ◌≤◌, ◌++◌, List, Option}
+use Rattle.pagable_world.specs.Plain.{Error, ArcRef, Identity, Kind, Blob, Meaning, Tree, Types, times}
+use Rattle.pagable_world.specs.declared.events.Took.{Took}
+use Rattle.pagable_world.specs.World.{Frame, Task, Places, Values, Seen}
+use Rattle.pagable_world.specs.Loads.{reads, asks, is_faulty, next_in}
+use Rattle.pagable_world.specs.Workers.{Site, WalkDoes}
+use Rattle.pagable_world.specs.Pager.{MachineState, IsNew, IsIdle, IsMachineWhole, StandsFor}
+use Rattle.pagable_world.specs.Runs.{Moment, AreMoments, state_after}
+use Rattle.pagable_world.specs.Order.{Follows, InOrder, is_claim_of, OnceEach}
+use Rattle.pagable_world.specs.OneWorker.{KeysTellTrees}
+use Rattle.pagable_laws.specs.SmallWorlds.{new_machine}
 
--- A run goes on with another.
-abbrev pub RunsJoin : {N B W : Type 0} → Seen N B W → Type 0
-RunsJoin {N} {B} {W} m =
-    (w mid w' : Whole) (events more : List (Event N B W)) (replies rest : List (EventReply N B W))
-    → Run m w events replies mid → Run m mid more rest w' → Run m w (events ++ more) (replies ++ rest) w'
+-- A chain goes on with another.
+pub record ChainsJoin {N B W : Type 0} (E : Type 0) (m : Seen N B W) : Type 0 where
+  pub joins : (s : MachineState N E) (xs ys : List (Moment N E B W)) → AreMoments m s xs → AreMoments m (state_after s xs) ys → AreMoments m s (xs ++ ys)
+  pub ends : (s : MachineState N E) (xs ys : List (Moment N E B W)) → state_after s (xs ++ ys) ≡ state_after (state_after s xs) ys
 
--- A new pager over any storage is whole, and stands for the empty world, whatever trees are assigned to nodes that aren't.
-pub record NewIsWhole {N B W : Type 0} (m : Seen N B W) : Type 0 where
-  pub new : (stored : ℕ → Option Blob) → IsNew (empty stored)
-  pub whole : (stored : ℕ → Option Blob) → WellFormed m (new_pages stored)
-  pub stands : (stored : ℕ → Option Blob) (u : TreeWorld) → u.plain ≡ empty stored → Represents m (new_pages stored) u
+-- A new machine over any storage is whole, idle, and stands for whatever trees are assigned to nodes that aren't.
+pub record NewIsWhole {N : Type 0} (E : Type 0) (v : Values N) : Type 0 where
+  pub new : (stored : ℕ → Option Blob) (places : Places) (env : E) → IsNew (let s : MachineState N E = new_machine stored places env in s.pager)
+  pub idle : (stored : ℕ → Option Blob) (places : Places) (env : E) → IsIdle (let s : MachineState N E = new_machine stored places env in s)
+  pub whole : (stored : ℕ → Option Blob) (places : Places) (env : E) → IsMachineWhole v (new_machine stored places env)
+  pub stands : (stored : ℕ → Option Blob) (places : Places) (env : E) (trees : ℕ → Tree) → StandsFor v (new_machine stored places env) trees
 
--- In every world, keys tell stored trees of canonical types apart.
-abbrev pub KeysTellTheirTrees : {N B W : Type 0} → Seen N B W → Type 0
-KeysTellTheirTrees m = (w : Whole) → KeysTellTrees m w
+-- A blob is read, asks for one reference, or is refused: at most one of these.
+pub record NextIsOne (types : Types) (frame : Frame) : Type 0 where
+  pub read_or_asks : (own : Meaning ArcRef) (kind : Kind) (key : ℕ) → next_in types frame ≡ reads own → next_in types frame ≡ asks kind key → ⊥
+  pub read_or_faulty : (own : Meaning ArcRef) (e : Error) → next_in types frame ≡ reads own → next_in types frame ≡ is_faulty e → ⊥
+  pub asks_or_faulty : (kind : Kind) (key : ℕ) (e : Error) → next_in types frame ≡ asks kind key → next_in types frame ≡ is_faulty e → ⊥
 
--- The headline is met, with all that it asks: by a birth and a count, which answers one and not two.
-pub record HeadlineIsMet : Type 0 where
-  pub lawful : IsLawful sample
-  pub types : ReadsItsTypes sample_types
-  pub premised : (stored : ℕ → Option Blob) → ArePremised sample (new_pages stored) (two_moments stored 1)
-  pub together : (stored : ℕ → Option Blob) → StandTogether (two_moments stored 1)
-  pub headline : (stored : ℕ → Option Blob) → Headline sample (new_pages stored) (two_moments stored 1)
-  pub alone : (stored : ℕ → Option Blob) → HeadlineAlone sample (new_pages stored) (two_moments stored 1)
-  pub not_two : (stored : ℕ → Option Blob) → ¬ Headline sample (new_pages stored) (two_moments stored 2)
+abbrev pub NextIsOneOf : Type 0
+NextIsOneOf = (types : Types) (frame : Frame) → NextIsOne types frame
+
+-- Whatever a worker does is a step of the automaton of its order.
+abbrev pub StepsFollow : {N B W : Type 0} → Seen N B W → Type 0
+StepsFollow {N} {B} {W} m = (v : ℕ) (s s' : Site) (step : Took W) → WalkDoes m v s step s' → Follows m.written_of s.todo step s'.todo
+
+-- What the automaton accepts, with no identity claimed twice, has each stage at most once after its claim.
+abbrev pub IsOnceEach : {N B W : Type 0} → Seen N B W → Type 0
+IsOnceEach {N} {B} {W} m = (task : Task) (steps : List (Took W)) → InOrder m.written_of task steps → ((i : Identity) → times (is_claim_of i) steps ≤ 1) → OnceEach steps
+
+-- In every store, keys tell stored trees of canonical types apart.
+abbrev pub KeysTellTheirTrees : {N : Type 0} → Values N → Type 0
+KeysTellTheirTrees v = (store : ℕ → Option Blob) → KeysTellTrees v store

@@ -2,8 +2,8 @@
 use Rattle.std.specs.Prelude.{◌≡◌, ℕ, ◌≤◌, List, Bool, true, Option, ◌↔◌}
 use Rattle.pagable_model.specs.Meaning.{Meaning}
 use Rattle.pagable_model.specs.Blob.{Blob}
-use Rattle.pagable_model.specs.Trees.{Tree, Types, ReadsTree, height, HasPath}
-use Rattle.pagable_model.specs.Deep.{Kid}
+use Rattle.pagable_model.specs.Trees.{Tree, Types, ReadsTree}
+use Rattle.pagable_model.specs.Deep.{Kid, height, HasPath}
 use Rattle.pagable_model.specs.Merkle.{KeyOf, KeyOfItem, IsCanonicalItem, StoredTree, HasOwnKeys, SharesNoKey}
 use Rattle.pagable_model.specs.Canonical.{EachType, IsCanonicalType, IsCanonicalTree, IsReadableTree, IsClosed}
 

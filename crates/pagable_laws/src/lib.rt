@@ -2,7 +2,6 @@
 //! No library of the product stands on this one.
 #![tactic(auto)]
 
-pub mod refused;
 pub mod values;
 pub mod worked;
 pub mod world;

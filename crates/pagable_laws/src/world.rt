@@ -1,9 +1,9 @@
 //! The laws of the definitions of the pager's world: each is the contract of a function that does nothing.
 
-ghost use Rattle.pagable_world.specs.Seen.{Seen};
-ghost use Rattle.pagable_laws.specs.FallLaws.{IsThere, IsOne, IsGivenAlone, PinsAreAFilter, TwoLevelsFall, TwoLevelsAreReleased, LoneIsListed};
-ghost use Rattle.pagable_laws.specs.RunLaws.{RunsJoin, NewIsWhole, KeysTellTheirTrees, HeadlineIsMet};
-ghost use Rattle.pagable_laws.specs.NearMisses.{NewNodeHasItsValue, NoLoadInMemory, OnlyLooseIsUnfit, ItemIsAtOne, FirstIsTheRoot, NoWaitForFree};
+ghost use Rattle.pagable_world.specs.World.{Seen};
+ghost use Rattle.pagable_laws.specs.FallLaws.{IsThere, IsOne, IsGivenAlone, PinsAreAFilter, TwoLevelsFall, LoneIsListed};
+ghost use Rattle.pagable_laws.specs.MetLaws.{HeadlineIsMet, WorkMeetsHeadline};
+ghost use Rattle.pagable_laws.specs.RunLaws.{ChainsJoin, NewIsWhole, NextIsOneOf, StepsFollow, IsOnceEach, KeysTellTheirTrees};
 
 use crate::values::is_key_of_one_tree;
 
@@ -41,73 +41,54 @@ pub fn two_levels_fall()
     ensures { TwoLevelsFall }
 {}
 
-/// Releasing a value of two levels is a step that leaves nothing.
-pub fn two_levels_are_released()
-    ensures { TwoLevelsAreReleased }
-{}
-
 /// Unpinning a lone cell without a key lists it.
 #[tactic(auto, using(crate::proofs::Two::is_listed))]
 pub fn lone_is_listed()
     ensures { LoneIsListed }
 {}
 
-/// A run goes on with another.
-#[tactic(auto, using(crate::proofs::Joining::runs_join))]
-pub fn runs_join<N: SeenAs<B, W>, B, W>()
-    ensures { RunsJoin N.seen }
+/// A chain goes on with another.
+#[tactic(auto, using(crate::proofs::Joining::chains_join))]
+pub fn chains_join<N: SeenAs<B, W>, B, W, E>()
+    ensures { ChainsJoin E N.seen }
 {}
 
-/// A new pager is whole and stands for the empty world.
+/// A new machine is whole, and stands for whatever trees.
 #[tactic(auto, using(crate::proofs::Joining::new_whole))]
-pub fn new_is_whole<N: SeenAs<B, W>, B, W>()
-    ensures { NewIsWhole N.seen }
+pub fn new_is_whole<N: SeenAs<B, W>, B, W, E>()
+    ensures { NewIsWhole E N.seen.values }
 {}
 
-/// Of stored trees of canonical types the keys are equal exactly if the trees are: the law of values, in every world.
+/// A blob is read, asks for one reference or is refused: at most one of these.
+#[tactic(auto, using(crate::proofs::Nexts::next_is_one))]
+pub fn next_is_one()
+    ensures { NextIsOneOf }
+{}
+
+/// Whatever a worker does is a step of the automaton of its order.
+#[tactic(auto, using(crate::proofs::Nexts::steps_follow))]
+pub fn steps_follow<N: SeenAs<B, W>, B, W>()
+    ensures { StepsFollow N.seen }
+{}
+
+/// What that automaton accepts, with no identity claimed twice, has each stage at most once after its claim.
+pub fn is_once_each<N: SeenAs<B, W>, B, W>()
+    ensures { IsOnceEach N.seen }
+{}
+
+/// Of stored trees of canonical types the keys are equal exactly if the trees are: the law of values, in every store.
 pub fn keys_tell_trees<N: SeenAs<B, W>, B, W>()
-    ensures { KeysTellTheirTrees N.seen }
+    ensures { KeysTellTheirTrees N.seen.values }
 {
     is_key_of_one_tree()
 }
 
-/// The headline is met, with all that it asks: by a birth and a count.
-#[tactic(auto, using(crate::proofs::Headlines::headline_met))]
-pub fn headline_is_met()
-    ensures { HeadlineIsMet }
+/// The headline is met with all that it asks: by a child, a parent that refers to it, and a count.
+pub fn headline_is_met<E>()
+    ensures { HeadlineIsMet E }
 {}
 
-/// A new node has the value that was handed in, which stands for its tree.
-#[tactic(auto, using(crate::proofs::Missing::has_its_value))]
-pub fn new_node_has_its_value<N: SeenAs<B, W>, B, W>()
-    ensures { NewNodeHasItsValue N.seen }
-{}
-
-/// A pin asks for a load only where the value isn't in memory.
-#[tactic(auto, using(crate::proofs::Missing::no_load_in_memory))]
-pub fn no_load_in_memory()
-    ensures { NoLoadInMemory }
-{}
-
-/// A worker's pin is refused by its mode only where the reference is loose.
-#[tactic(auto, using(crate::proofs::Missing::only_loose))]
-pub fn only_loose_is_unfit()
-    ensures { OnlyLooseIsUnfit }
-{}
-
-/// An item's references are claimed at the first place of the path.
-#[tactic(auto, using(crate::proofs::Missing::at_one))]
-pub fn item_is_at_one()
-    ensures { ItemIsAtOne }
-{}
-
-/// A load's first step gets the blob of its own key.
-#[tactic(auto, using(crate::proofs::Missing::first_root))]
-pub fn first_is_the_root<N: SeenAs<B, W>, B, W>()
-    ensures { FirstIsTheRoot N.seen }
-{}
-
-/// No worker waits for a free slot.
-pub fn no_wait_for_free()
-    ensures { NoWaitForFree }
+/// The headline is met with all that it asks: by an item that a worker pages out, and a load that reads its key back.
+pub fn work_meets_headline<E>()
+    ensures { WorkMeetsHeadline E }
 {}

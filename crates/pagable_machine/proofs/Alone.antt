@@ -20,8 +20,8 @@ use Rattle.pagable_model.specs.Shape as shapes
 use Rattle.pagable_model.specs.References.{references_in, SameReferences}
 use Rattle.pagable_model.specs.Standing.{Answer, answer_at, handles_at}
 use Rattle.pagable_model.specs.Trees.{Tree, KeyRef, Types, blob_context, rest_of, ReadsAs, IsFollowed, number-followed, integer-followed, text-followed, pattern-followed, none-followed, pair-followed, variant-followed, reference-followed}
-use Rattle.pagable_world.specs.Shown.{Shown}
-use Rattle.pagable_world.specs.TodayTrees.{Sight, MeansTree, KeyReads}
+use Rattle.pagable_world.specs.today.Shown.{Shown}
+use Rattle.pagable_world.specs.today.TodayTrees.{Sight, MeansTree, KeyReads}
 use Rattle.pagable_machine.specs.Reading.{refusals, refused_rest, ReadsAlone, MeansItsTree}
 use Rattle.pagable_machine.proofs.Leading.{nothing-named}
 use Rattle.pagable_model.specs.Reading.{Rest, Look, Gets, bytes_of, reference_at, seen, two, choose, items, counted, registered, Deeper, enter, JsonCase, null_case, flag_case, number_case, text_case, array_case, object_case, json_case, json_part, read_with, below, deepest, read, read_typed}

@@ -11,17 +11,17 @@ use Rattle.pagable_model.specs.declared.numbers.NodeNumber.{NodeNumber}
 use Rattle.pagable_model.specs.Stored.{RefusesFetch}
 use Rattle.pagable_world.specs.declared.rows.LoadRow.{LoadRow}
 use Rattle.pagable_world.specs.declared.events.LoadAnswer.TheVariants as ends
-use Rattle.pagable_world.specs.Cells.{Cell}
-use Rattle.pagable_world.specs.State.{State, WellFormed}
-use Rattle.pagable_world.specs.World.{World, plain, HasCell, Closes}
-use Rattle.pagable_world.specs.Calls.{HasLoad, LoadTypeIs, Ended, Dropped}
-use Rattle.pagable_world.specs.Shown.{Shown, SameStore, Unchanged}
-use Rattle.pagable_world.specs.LoadEnds.{FitsLoad, ClosedBy, InstallsValue, StaysOpen}
-use Rattle.pagable_world.specs.Refusals.{IsOwn}
+use Rattle.pagable_world.specs.today.Cells.{Cell}
+use Rattle.pagable_world.specs.today.State.{State, WellFormed}
+use Rattle.pagable_world.specs.today.World.{World, plain, HasCell, Closes}
+use Rattle.pagable_world.specs.today.Calls.{HasLoad, LoadTypeIs, Ended, Dropped}
+use Rattle.pagable_world.specs.today.Shown.{Shown, SameStore, Unchanged}
+use Rattle.pagable_world.specs.today.LoadEnds.{FitsLoad, ClosedBy, InstallsValue, StaysOpen}
+use Rattle.pagable_world.specs.today.Refusals.{IsOwn}
 use Rattle.pagable_pager.specs.Ends.{MayEnd}
-use Rattle.pagable_world.specs.TodayTrees.{Sight, TodayWorld, RepresentsToday, EachWorld, Always}
-use Rattle.pagable_world.specs.MachineSteps.{MachineSight, MachineWorld, world_of, OnlyTables, OnlyFailures, IsForLoad, EndsLoad}
-use Rattle.pagable_world.specs.LoadMoves.{FetchedRoot, EventSight, NoPinLeft, StepFetches}
+use Rattle.pagable_world.specs.today.TodayTrees.{Sight, TodayWorld, RepresentsToday, EachWorld, Always}
+use Rattle.pagable_world.specs.today.MachineSteps.{MachineSight, MachineWorld, world_of, OnlyTables, OnlyFailures, IsForLoad, EndsLoad}
+use Rattle.pagable_world.specs.today.LoadMoves.{FetchedRoot, EventSight, NoPinLeft, StepFetches}
 use Rattle.pagable_machine.specs.Moves.{EachLoad, LeadsIf, ClosesOnly, GetsRoot, FetchesRoot, EndsWith}
 use Rattle.pagable_machine.specs.declared.fetched.FetchedBlob.{FetchedBlob}
 use Rattle.pagable_machine.specs.Rows.{fetched_of}

@@ -14,16 +14,16 @@ use Rattle.pagable_core.specs.Context.{answers_from}
 use Rattle.pagable_world.specs.declared.rows.LoadRow.{LoadRow}
 use Rattle.pagable_world.specs.declared.events.LoadAnswer.{LoadAnswer}
 use Rattle.pagable_world.specs.declared.events.LoadAnswer.TheVariants as ends
-use Rattle.pagable_world.specs.Cells.{Cell}
-use Rattle.pagable_world.specs.State.{WellFormed, one}
-use Rattle.pagable_world.specs.World.{World, plain}
-use Rattle.pagable_world.specs.Calls.{HasLoad, LoadTypeIs}
-use Rattle.pagable_world.specs.Shown.{Shown}
-use Rattle.pagable_world.specs.LoadSteps.{one_more}
-use Rattle.pagable_world.specs.TodayTrees.{TodayWorld, RepresentsToday, CellFits, KeyReads, ReadFits}
-use Rattle.pagable_world.specs.MachineSteps.{MachineWorld, world_of}
-use Rattle.pagable_world.specs.LoadMoves.{FetchedRoot, EventSight, HasFetched, HasFetchedNothing, without_load, read_root, IsReadFrom, RefusesRoot, StepFetches, StepEnds, LoadStepped}
-use Rattle.pagable_world.specs.MachineRuns.{FetchedFits}
+use Rattle.pagable_world.specs.today.Cells.{Cell}
+use Rattle.pagable_world.specs.today.State.{WellFormed, one}
+use Rattle.pagable_world.specs.today.World.{World, plain}
+use Rattle.pagable_world.specs.today.Calls.{HasLoad, LoadTypeIs}
+use Rattle.pagable_world.specs.today.Shown.{Shown}
+use Rattle.pagable_world.specs.World.{one_more}
+use Rattle.pagable_world.specs.today.TodayTrees.{TodayWorld, RepresentsToday, CellFits, KeyReads, ReadFits}
+use Rattle.pagable_world.specs.today.MachineSteps.{MachineWorld, world_of}
+use Rattle.pagable_world.specs.today.LoadMoves.{FetchedRoot, EventSight, HasFetched, HasFetchedNothing, without_load, read_root, IsReadFrom, RefusesRoot, StepFetches, StepEnds, LoadStepped}
+use Rattle.pagable_world.specs.today.MachineRuns.{FetchedFits}
 use Rattle.pagable_machine.specs.declared.fetched.FetchedBlob.{FetchedBlob}
 use Rattle.pagable_machine.specs.Rows.{fetched_of}
 use Rattle.pagable_machine.specs.Moves.{EachLoad, EndsRead}

@@ -29,13 +29,13 @@ use Rattle.pagable_world.specs.declared.events.LoadAnswer.TheVariants as ends
 use Rattle.pagable_world.specs.declared.rows.Mode.{Mode}
 use Rattle.pagable_world.specs.declared.rows.HandleRow.{HandleRow}
 use Rattle.pagable_world.specs.declared.rows.LoadRow.{LoadRow}
-use Rattle.pagable_world.specs.World.{World, Prepared, Closes}
-use Rattle.pagable_world.specs.Calls.{Born, BornAway, Cloned, Loosened, PinnedBy, Unpinned, Released, Took, KeySet, Begun, HasLoad, Ended, Dropped}
-use Rattle.pagable_world.specs.Shown.{Shown}
-use Rattle.pagable_world.specs.MachineSteps.{MachineSight, MachineWorld, world_of, OnlyTables, OnlyFailures, BearsValue, FindsBlob, StoresBlob, LoadFinds, EndsLoad, CallDoes}
-use Rattle.pagable_world.specs.LoadMoves.{FetchedRoot, Driven, EventSight, event_world_of, without_load, HasFetchedNothing, StepFetches, StepEnds}
-use Rattle.pagable_world.specs.MachineEvents.{fetched_after, EventDoes}
-use Rattle.pagable_world.specs.MachineRuns.{FetchedFits}
+use Rattle.pagable_world.specs.today.World.{World, Prepared, Closes}
+use Rattle.pagable_world.specs.today.Calls.{Born, BornAway, Cloned, Loosened, PinnedBy, Unpinned, Released, Took, KeySet, Begun, HasLoad, Ended, Dropped}
+use Rattle.pagable_world.specs.today.Shown.{Shown}
+use Rattle.pagable_world.specs.today.MachineSteps.{MachineSight, MachineWorld, world_of, OnlyTables, OnlyFailures, BearsValue, FindsBlob, StoresBlob, LoadFinds, EndsLoad, CallDoes}
+use Rattle.pagable_world.specs.today.LoadMoves.{FetchedRoot, Driven, EventSight, event_world_of, without_load, HasFetchedNothing, StepFetches, StepEnds}
+use Rattle.pagable_world.specs.today.MachineEvents.{fetched_after, EventDoes}
+use Rattle.pagable_world.specs.today.MachineRuns.{FetchedFits}
 use Rattle.pagable_machine.proofs.Loads.{same-there}
 
 -- the load isn't the one that is gone

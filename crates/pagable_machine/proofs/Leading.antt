@@ -10,18 +10,18 @@ use Rattle.pagable_model.specs.Meaning.{Meaning, number, integer, text, pattern,
 use Rattle.pagable_model.specs.Trees.{Tree, tree}
 use Rattle.pagable_model.specs.References.{references_in, SameReferences}
 use Rattle.pagable_model.specs.Standing.{SomeMeaning}
-use Rattle.pagable_world.specs.Shown.{Shown, OnlyBook, Unchanged}
+use Rattle.pagable_world.specs.today.Shown.{Shown, OnlyBook, Unchanged}
 use Rattle.pagable_world.specs.declared.rows.Mode.{Mode}
-use Rattle.pagable_world.specs.World.{World}
-use Rattle.pagable_world.specs.World.{plain as plain_world}
-use Rattle.pagable_world.specs.Stands.{SameTrees}
-use Rattle.pagable_world.specs.TodayTrees.{Sight, TodayWorld, RepresentsToday, EachWorld, ReadFits, BirthOf, AwayBirthOf, MeansTree, CellFits, KeyReads}
+use Rattle.pagable_world.specs.today.World.{World}
+use Rattle.pagable_world.specs.today.World.{plain as plain_world}
+use Rattle.pagable_world.specs.Pager.{SameTrees}
+use Rattle.pagable_world.specs.today.TodayTrees.{Sight, TodayWorld, RepresentsToday, EachWorld, ReadFits, BirthOf, AwayBirthOf, MeansTree, CellFits, KeyReads}
 use Rattle.pagable_world.specs.declared.machine.MachineCall.TheVariants as calls
 use Rattle.pagable_world.specs.declared.calls.Reply.TheVariants as replies
 use Rattle.pagable_world.specs.declared.rows.Mode.TheVariants as modes
-use Rattle.pagable_world.specs.Calls.{BornAway}
-use Rattle.pagable_world.specs.MachineSteps.{MachineSight}
-use Rattle.pagable_world.specs.MachineRuns.{LeadsOn}
+use Rattle.pagable_world.specs.today.Calls.{BornAway}
+use Rattle.pagable_world.specs.today.MachineSteps.{MachineSight}
+use Rattle.pagable_world.specs.today.MachineRuns.{LeadsOn}
 use Rattle.pagable_pager.proofs.Kept.{cells-move, loads-move}
 use Rattle.std.proofs.lemmas.List.Elements.{All-same}
 

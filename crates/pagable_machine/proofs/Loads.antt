@@ -10,10 +10,10 @@ use Rattle.pagable_model.specs.declared.numbers.LoadNumber.{LoadNumber}
 use Rattle.pagable_model.specs.declared.numbers.NodeNumber.{NodeNumber}
 use Rattle.pagable_world.specs.declared.rows.NodeRow.{NodeRow}
 use Rattle.pagable_world.specs.declared.rows.LoadRow.{LoadRow}
-use Rattle.pagable_world.specs.State.{State, WellFormed, is_load}
-use Rattle.pagable_world.specs.Cells.{Cell, cell_of}
-use Rattle.pagable_world.specs.World.{World, plain, HasCell}
-use Rattle.pagable_world.specs.Calls.{HasLoad, IsNoLoad}
+use Rattle.pagable_world.specs.today.State.{State, WellFormed, is_load}
+use Rattle.pagable_world.specs.today.Cells.{Cell, cell_of}
+use Rattle.pagable_world.specs.today.World.{World, plain, HasCell}
+use Rattle.pagable_world.specs.today.Calls.{HasLoad, IsNoLoad}
 use Rattle.pagable_machine.specs.Moves.{EachLoad}
 
 -- where numbers rise, each stands once

@@ -11,10 +11,10 @@ use Rattle.pagable_world.specs.declared.machine.MachineCall.TheVariants as calls
 use Rattle.pagable_world.specs.declared.machine.MachineEvent.TheVariants as events
 use Rattle.pagable_world.specs.declared.events.EventReply.TheVariants as answers
 use Rattle.pagable_world.specs.declared.events.LoadReply.{LoadReply}
-use Rattle.pagable_world.specs.TodayTrees.{TodayWorld, EachWorld, Always}
-use Rattle.pagable_world.specs.LoadMoves.{FetchedRoot, Driven, EventSight, without_load}
-use Rattle.pagable_world.specs.MachineEvents.{fetched_after}
-use Rattle.pagable_world.specs.MachineRuns.{LeadsOn, EventLeadsOn}
+use Rattle.pagable_world.specs.today.TodayTrees.{TodayWorld, EachWorld, Always}
+use Rattle.pagable_world.specs.today.LoadMoves.{FetchedRoot, Driven, EventSight, without_load}
+use Rattle.pagable_world.specs.today.MachineEvents.{fetched_after}
+use Rattle.pagable_world.specs.today.MachineRuns.{LeadsOn, EventLeadsOn}
 use Rattle.pagable_machine.specs.Rows.{ended_by}
 
 pub call-leads : {N S E B C : Type 0} (m : EventSight N S E B C) (v v' : Driven N S E) (call : MachineCall N B) (r : Reply N C) → LeadsOn m.machine v.pager call r v'.pager → EventLeadsOn m v (events.Call call) (answers.CallReply r) v'

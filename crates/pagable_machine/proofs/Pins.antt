@@ -11,22 +11,22 @@ use Rattle.std.specs.List.{remove}
 use Rattle.pagable_world.specs.declared.rows.Mode.TheVariants as modes
 use Rattle.pagable_world.specs.declared.rows.Owner.TheVariants as owners
 use Rattle.pagable_world.specs.declared.rows.HandleRow.{HandleRow}
-use Rattle.pagable_world.specs.State.{State, WellFormed, handle_of}
-use Rattle.pagable_world.specs.World.{World, plain, next_row}
-use Rattle.pagable_world.specs.Refusals.{IsOwn}
-use Rattle.pagable_world.specs.MachineSteps.{MachineSight}
-use Rattle.pagable_world.specs.Calls.{HasLoad}
+use Rattle.pagable_world.specs.today.State.{State, WellFormed, handle_of}
+use Rattle.pagable_world.specs.today.World.{World, plain, next_row}
+use Rattle.pagable_world.specs.today.Refusals.{IsOwn}
+use Rattle.pagable_world.specs.today.MachineSteps.{MachineSight}
+use Rattle.pagable_world.specs.today.Calls.{HasLoad}
 use Rattle.pagable_model.specs.Blob.{Blob}
 use Rattle.pagable_world.specs.declared.rows.LoadRow.{LoadRow}
 use Rattle.pagable_world.specs.declared.events.LoadAnswer.{LoadAnswer}
-use Rattle.pagable_world.specs.Refusals.{HasRow}
-use Rattle.pagable_world.specs.Calls.{Ended}
-use Rattle.pagable_world.specs.Shown.{Shown}
-use Rattle.pagable_world.specs.Stands.{SameTrees}
-use Rattle.pagable_world.specs.TodayTrees.{Sight, TodayWorld, RepresentsToday}
-use Rattle.pagable_world.specs.LoadSteps.{one_more}
-use Rattle.pagable_world.specs.MachineSteps.{MachineWorld, world_of}
-use Rattle.pagable_world.specs.LoadMoves.{EventSight, StepEnds}
+use Rattle.pagable_world.specs.today.Refusals.{HasRow}
+use Rattle.pagable_world.specs.today.Calls.{Ended}
+use Rattle.pagable_world.specs.today.Shown.{Shown}
+use Rattle.pagable_world.specs.Pager.{SameTrees}
+use Rattle.pagable_world.specs.today.TodayTrees.{Sight, TodayWorld, RepresentsToday}
+use Rattle.pagable_world.specs.World.{one_more}
+use Rattle.pagable_world.specs.today.MachineSteps.{MachineWorld, world_of}
+use Rattle.pagable_world.specs.today.LoadMoves.{EventSight, StepEnds}
 use Rattle.pagable_machine.specs.Laws.{EndsInTwoSteps, LoadGivesTree, PinGivesTree, StepGivesTree}
 use Rattle.pagable_machine.proofs.Ending.{fits-here}
 

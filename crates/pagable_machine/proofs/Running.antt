@@ -3,10 +3,10 @@ use Rattle.std.proofs.Common.{◌≡◌, List, [], ◌∷◌, ◌++◌, length, 
 use Rattle.std.proofs.lemmas.List.{append-nil, map-append}
 use Rattle.pagable_world.specs.declared.machine.MachineEvent.{MachineEvent}
 use Rattle.pagable_world.specs.declared.events.EventReply.{EventReply}
-use Rattle.pagable_world.specs.TodayTrees.{TodayWorld, RepresentsToday}
-use Rattle.pagable_world.specs.LoadMoves.{Driven, EventSight, event_world_of}
-use Rattle.pagable_world.specs.MachineEvents.{EventDoes}
-use Rattle.pagable_world.specs.MachineRuns.{MachineMoment, IsWholeDriven, AreEventSteps, EventLeadsOn, TreesAlong, driven_after, HasRun}
+use Rattle.pagable_world.specs.today.TodayTrees.{TodayWorld, RepresentsToday}
+use Rattle.pagable_world.specs.today.LoadMoves.{Driven, EventSight, event_world_of}
+use Rattle.pagable_world.specs.today.MachineEvents.{EventDoes}
+use Rattle.pagable_world.specs.today.MachineRuns.{MachineMoment, IsWholeDriven, AreEventSteps, EventLeadsOn, TreesAlong, driven_after, HasRun}
 
 steps-more : {N S E B C : Type 0} (m : EventSight N S E B C) (v : Driven N S E) (xs : List (MachineMoment N S E B C)) (x : MachineMoment N S E B C) → AreEventSteps m v xs → EventDoes m (driven_after v xs).pager.env (event_world_of m (driven_after v xs)) x.event x.reply (event_world_of m x.after) → IsWholeDriven m x.after → AreEventSteps m v (xs ++ x ∷ [])
 steps-more m v [] x all does whole = (does, whole, tt)

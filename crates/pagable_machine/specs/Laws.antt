@@ -5,21 +5,21 @@ use Rattle.pagable_model.specs.declared.numbers.LoadNumber.{LoadNumber}
 use Rattle.pagable_world.specs.declared.answers.Pinning.TheVariants as pinnings
 use Rattle.pagable_world.specs.declared.rows.HandleRow.{HandleRow}
 use Rattle.pagable_world.specs.declared.rows.LoadRow.{LoadRow}
-use Rattle.pagable_world.specs.Calls.{HasLoad}
+use Rattle.pagable_world.specs.today.Calls.{HasLoad}
 use Rattle.pagable_world.specs.declared.calls.Reply.TheVariants as replies
 use Rattle.pagable_world.specs.declared.machine.MachineCall.TheVariants as calls
-use Rattle.pagable_world.specs.State.{WellFormed}
-use Rattle.pagable_world.specs.Refusals.{HasRow, IsOwn}
-use Rattle.pagable_world.specs.Shown.{Shown}
-use Rattle.pagable_world.specs.TodayTrees.{TodayWorld, RepresentsToday}
-use Rattle.pagable_world.specs.MachineSteps.{MachineSight, world_of, CallDoes}
+use Rattle.pagable_world.specs.today.State.{WellFormed}
+use Rattle.pagable_world.specs.today.Refusals.{HasRow, IsOwn}
+use Rattle.pagable_world.specs.today.Shown.{Shown}
+use Rattle.pagable_world.specs.today.TodayTrees.{TodayWorld, RepresentsToday}
+use Rattle.pagable_world.specs.today.MachineSteps.{MachineSight, world_of, CallDoes}
 use Rattle.pagable_world.specs.declared.machine.MachineEvent.TheVariants as events
 use Rattle.pagable_world.specs.declared.events.EventReply.TheVariants as answers
 use Rattle.pagable_world.specs.declared.events.LoadAnswer.TheVariants as ends
 use Rattle.pagable_world.specs.declared.events.LoadReply.{LoadReply}
-use Rattle.pagable_world.specs.LoadMoves.{Driven, EventSight, event_world_of}
-use Rattle.pagable_world.specs.MachineEvents.{EventDoes}
-use Rattle.pagable_world.specs.MachineRuns.{IsWholeDriven, NextWorld, WorldAfter}
+use Rattle.pagable_world.specs.today.LoadMoves.{Driven, EventSight, event_world_of}
+use Rattle.pagable_world.specs.today.MachineEvents.{EventDoes}
+use Rattle.pagable_world.specs.today.MachineRuns.{IsWholeDriven, NextWorld, WorldAfter}
 
 -- A pin that succeeds gives a handle of which the node's tree is the tree that the caller's handle was made with.
 abbrev pub PinGivesTree : {N S E B C : Type 0} → MachineSight N S E B C → Type 0

@@ -6,13 +6,13 @@ use Rattle.pagable_model.specs.Stored.{RefusesFetch}
 use Rattle.pagable_world.specs.declared.rows.LoadRow.{LoadRow}
 use Rattle.pagable_world.specs.declared.events.LoadAnswer.{LoadAnswer}
 use Rattle.pagable_world.specs.declared.events.LoadAnswer.TheVariants as ends
-use Rattle.pagable_world.specs.World.{World, Closes}
-use Rattle.pagable_world.specs.Calls.{HasLoad, Ended}
-use Rattle.pagable_world.specs.Shown.{Shown}
-use Rattle.pagable_world.specs.TodayTrees.{Sight, TodayWorld, EachWorld}
-use Rattle.pagable_world.specs.MachineSteps.{MachineSight, MachineWorld, OnlyTables, OnlyFailures, LoadFinds}
+use Rattle.pagable_world.specs.today.World.{World, Closes}
+use Rattle.pagable_world.specs.today.Calls.{HasLoad, Ended}
+use Rattle.pagable_world.specs.today.Shown.{Shown}
+use Rattle.pagable_world.specs.today.TodayTrees.{Sight, TodayWorld, EachWorld}
+use Rattle.pagable_world.specs.today.MachineSteps.{MachineSight, MachineWorld, OnlyTables, OnlyFailures, LoadFinds}
 use Rattle.pagable_world.specs.declared.calls.Found.TheVariants as founds
-use Rattle.pagable_world.specs.LoadMoves.{RefusesPin}
+use Rattle.pagable_world.specs.today.LoadMoves.{RefusesPin}
 
 -- the load, if it is open, is so
 abbrev pub EachLoad : World → LoadNumber → (ℕ → LoadRow → Type 0) → Type 0

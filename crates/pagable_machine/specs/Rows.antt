@@ -4,8 +4,8 @@ use Rattle.std.specs.Arc.{arc_value}
 use Rattle.pagable_core.specs.Data.{blob_of}
 use Rattle.pagable_model.specs.declared.error.Error.{Error}
 use Rattle.pagable_model.specs.declared.numbers.HandleNumber.{HandleNumber}
-use Rattle.pagable_world.specs.Shown.{Shown}
-use Rattle.pagable_world.specs.LoadMoves.{FetchedRoot, Driven}
+use Rattle.pagable_world.specs.today.Shown.{Shown}
+use Rattle.pagable_world.specs.today.LoadMoves.{FetchedRoot, Driven}
 use Rattle.pagable_machine.specs.declared.fetched.FetchedBlob.{FetchedBlob}
 
 -- the row as contracts see it

@@ -15,11 +15,11 @@ use Rattle.pagable_world.specs.declared.events.EventReply.{EventReply}
 use Rattle.pagable_world.specs.declared.events.LoadReply.{LoadReply}
 use Rattle.pagable_world.specs.declared.machine.MachineCall.{MachineCall}
 use Rattle.pagable_world.specs.declared.machine.MachineEvent.{MachineEvent}
-use Rattle.pagable_world.specs.Shown.{Shown}
-use Rattle.pagable_world.specs.TodayTrees.{Sight}
-use Rattle.pagable_world.specs.MachineSteps.{MachineSight, CallDoes, world_of}
-use Rattle.pagable_world.specs.MachineEvents.{EventDoes}
-use Rattle.pagable_world.specs.LoadMoves.{Driven, EventSight, event_world_of, LoadStepped}
+use Rattle.pagable_world.specs.today.Shown.{Shown}
+use Rattle.pagable_world.specs.today.TodayTrees.{Sight}
+use Rattle.pagable_world.specs.today.MachineSteps.{MachineSight, CallDoes, world_of}
+use Rattle.pagable_world.specs.today.MachineEvents.{EventDoes}
+use Rattle.pagable_world.specs.today.LoadMoves.{Driven, EventSight, event_world_of, LoadStepped}
 
 -- with what values are: their references, the hash, and what the storage tells
 abbrev pub machine_by : {N S E : Type 0} → Sight N S E → (N → List ArcRef) → (List ℕ → List ℕ) → (S → Bool) → (S → ℕ) → MachineSight N S E PagableData (Arc PagableData Global)

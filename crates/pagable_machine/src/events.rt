@@ -1,9 +1,9 @@
 //! Each event of the machine: a step of the plain world, with a reply of the event's type.
 
 ghost use Rattle.std.specs.Prelude.{◌≡◌, All, map};
-ghost use Rattle.pagable_world.specs.MachineRuns.{EventLeadsOn, FetchedFits, IsWholeDriven};
+ghost use Rattle.pagable_world.specs.today.MachineRuns.{EventLeadsOn, FetchedFits, IsWholeDriven};
 ghost use Rattle.pagable_machine.specs.Rows.{driven_by, fetched_of};
-ghost use Rattle.pagable_world.specs.Sights.{values_by};
+ghost use Rattle.pagable_world.specs.today.Sights.{values_by};
 ghost use Rattle.pagable_machine.specs.Sights.{events_by, machine_by, MakesEvent};
 
 use crate::fetched::FetchedBlob;

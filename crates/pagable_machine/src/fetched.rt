@@ -1,8 +1,8 @@
 //! The open loads that have got the blob of their root.
 
 ghost use Rattle.std.specs.Prelude.{◌≡◌, ℕ, ◌<◌, ◌==◌, IfNone, IfSome, length, map, slice_index_or, sum_by, if◌then◌else◌};
-ghost use Rattle.pagable_world.specs.State.{one};
-ghost use Rattle.pagable_world.specs.LoadMoves.{without_load};
+ghost use Rattle.pagable_world.specs.today.State.{one};
+ghost use Rattle.pagable_world.specs.today.LoadMoves.{without_load};
 ghost use Rattle.pagable_machine.specs.Rows.{fetched_of};
 ghost use Rattle.pagable_machine.specs.declared.fetched.FetchedBlob.{FetchedBlob};
 

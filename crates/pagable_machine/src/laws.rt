@@ -1,7 +1,7 @@
 //! What a run of events says, as laws: each is a function that does nothing.
 
 ghost use Rattle.pagable_machine.specs.Laws.{EndsInTwoSteps, LoadGivesTree, PinGivesTree, StepGivesTree};
-ghost use Rattle.pagable_world.specs.Sights.{values_by};
+ghost use Rattle.pagable_world.specs.today.Sights.{values_by};
 ghost use Rattle.pagable_machine.specs.Sights.{events_by, machine_by};
 
 use pagable_codec::{Env, NodeSet};

@@ -1,8 +1,8 @@
 //! A pager that is driven by lists of events.
 
 ghost use Rattle.std.specs.Prelude.{◌≡◌, [], IfOk, IfErr, OnErr};
-ghost use Rattle.pagable_world.specs.MachineRuns.{HasRun};
-ghost use Rattle.pagable_world.specs.Sights.{values_by};
+ghost use Rattle.pagable_world.specs.today.MachineRuns.{HasRun};
+ghost use Rattle.pagable_world.specs.today.Sights.{values_by};
 ghost use Rattle.pagable_machine.specs.Sights.{events_by, machine_by};
 
 use crate::events;
@@ -34,10 +34,10 @@ where
     E::Node: NodeSet<E>,
 {
     ghost use Rattle.std.specs.Prelude.{All, map};
-    ghost use Rattle.pagable_world.specs.LoadMoves.{Driven};
-    ghost use Rattle.pagable_world.specs.MachineRuns.{FetchedFits};
+    ghost use Rattle.pagable_world.specs.today.LoadMoves.{Driven};
+    ghost use Rattle.pagable_world.specs.today.MachineRuns.{FetchedFits};
     ghost use Rattle.pagable_machine.specs.Rows.{fetched_of};
-    ghost use Rattle.pagable_world.specs.Sights.{values_by};
+    ghost use Rattle.pagable_world.specs.today.Sights.{values_by};
     ghost use Rattle.pagable_machine.specs.Sights.{events_by, machine_by};
 
     ghost Value = { Driven E.Node S E };

@@ -1,10 +1,10 @@
 //! Each call of the pager as the machine makes it: a step of the plain world, with a reply of the call's type.
 
 ghost use Rattle.std.specs.Prelude.{◌≡◌, map};
-ghost use Rattle.pagable_world.specs.MachineEvents.{fetched_after};
-ghost use Rattle.pagable_world.specs.MachineRuns.{IsWholeToday, LeadsOn};
+ghost use Rattle.pagable_world.specs.today.MachineEvents.{fetched_after};
+ghost use Rattle.pagable_world.specs.today.MachineRuns.{IsWholeToday, LeadsOn};
 ghost use Rattle.pagable_machine.specs.Rows.{ended_by, fetched_of};
-ghost use Rattle.pagable_world.specs.Sights.{values_by};
+ghost use Rattle.pagable_world.specs.today.Sights.{values_by};
 ghost use Rattle.pagable_machine.specs.Sights.{machine_by, MakesCall};
 
 use crate::fetched;

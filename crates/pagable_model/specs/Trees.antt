@@ -1,5 +1,5 @@
 -- Trees that never leave memory, and how the store spells them.
-use Rattle.std.specs.Prelude.{◌≡◌, ℕ, zero, suc, ◌/◌, max, List, Option, Some, Ok, ℤ, ◌⊎◌}
+use Rattle.std.specs.Prelude.{◌≡◌, ℕ, ◌/◌, List, Option, Some, Ok, ℤ}
 use Rattle.pagable_model.specs.Meaning.{Meaning, number, integer, text, pattern, none, pair, variant, reference, followed}
 use Rattle.pagable_model.specs.Shape.{Shape}
 use Rattle.pagable_model.specs.Reading.{Rest, Context, read_typed}
@@ -62,28 +62,3 @@ pub record ReadsTree (store : ℕ → Option Blob) (types : Types) (key : ℕ) (
   pub own : Meaning KeyRef
   pub reads : ReadsAs store types tree.type key own
   pub follows : IsFollowed (ReadsAs store types) own tree.meaning
-
--- how many references the longest path through the tree has
-unfoldable pub height : Meaning ⊥ → ℕ
-height (number n) = 0
-height (integer z) = 0
-height (text t) = 0
-height (pattern t) = 0
-height none = 0
-height (pair a b) = max (height a) (height b)
-height (variant n a) = height a
-height (reference a) = absurd a
-height (followed kind a) = suc (height a)
-
--- a path of this many references leads down through the tree
-unfoldable pub HasPath : ℕ → Meaning ⊥ → Type 0
-HasPath n (number x) = n ≡ 0
-HasPath n (integer z) = n ≡ 0
-HasPath n (text t) = n ≡ 0
-HasPath n (pattern t) = n ≡ 0
-HasPath n none = n ≡ 0
-HasPath n (pair a b) = HasPath n a ⊎ HasPath n b
-HasPath n (variant x a) = HasPath n a
-HasPath n (reference a) = absurd a
-HasPath zero (followed kind a) = Unit {0}
-HasPath (suc n) (followed kind a) = HasPath n a

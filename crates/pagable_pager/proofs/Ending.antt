@@ -6,16 +6,16 @@ use Rattle.pagable_model.specs.declared.error.Error.TheVariants as errors
 use Rattle.pagable_model.specs.declared.numbers.ArcRef.{ArcRef}
 use Rattle.pagable_model.specs.declared.numbers.LoadNumber.{LoadNumber}
 use Rattle.pagable_model.specs.declared.numbers.NodeNumber.{NodeNumber}
-use Rattle.pagable_world.specs.State.{State}
-use Rattle.pagable_world.specs.Cells.{Cell}
-use Rattle.pagable_world.specs.World.{World, plain, HasCell, CannotMake}
-use Rattle.pagable_world.specs.Calls.{HasLoad, Ended}
-use Rattle.pagable_world.specs.Values.{value_of_node, SameValues, ValueComes, ValueIsThere}
-use Rattle.pagable_world.specs.Refusals.{IsOwn}
+use Rattle.pagable_world.specs.today.State.{State}
+use Rattle.pagable_world.specs.today.Cells.{Cell}
+use Rattle.pagable_world.specs.today.World.{World, plain, HasCell, CannotMake}
+use Rattle.pagable_world.specs.today.Calls.{HasLoad, Ended}
+use Rattle.pagable_world.specs.today.Values.{value_of_node, SameValues, ValueComes, ValueIsThere}
+use Rattle.pagable_world.specs.today.Refusals.{IsOwn}
 use Rattle.pagable_world.specs.declared.rows.HandleRow.{HandleRow}
 use Rattle.pagable_world.specs.declared.rows.LoadRow.{LoadRow}
 use Rattle.pagable_world.specs.declared.answers.EndRefusal.{EndRefusal}
-use Rattle.pagable_world.specs.LoadEnds.{FitsLoad, StaysOpen}
+use Rattle.pagable_world.specs.today.LoadEnds.{FitsLoad, StaysOpen}
 
 -- what the book says of the load's node, whose value comes or is there
 abbrev pub Comes : LoadNumber → State → State → Type 0

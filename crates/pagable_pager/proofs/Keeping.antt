@@ -6,9 +6,9 @@ use Rattle.std.proofs.lemmas.Bool.{cases_eq, cases_Bool}
 use Rattle.std.proofs.lemmas.List.{map-append}
 use Rattle.pagable_model.specs.declared.numbers.NodeNumber.{NodeNumber}
 use Rattle.std.proofs.lemmas.List.Sums.{sum_by-cons, sum_by_push}
-use Rattle.pagable_world.specs.State.{State, one, value_at}
-use Rattle.pagable_world.specs.Values.{values_of, value_of_node, SameValues, ValueComes}
-use Rattle.pagable_world.specs.InStep.{is_value, InStep, kept}
+use Rattle.pagable_world.specs.today.State.{State, one, value_at}
+use Rattle.pagable_world.specs.today.Values.{values_of, value_of_node, SameValues, ValueComes}
+use Rattle.pagable_world.specs.today.InStep.{is_value, InStep, kept}
 use Rattle.pagable_book.proofs.Here.{fitting-le}
 use Rattle.pagable_pager.specs.Rows.{value_of}
 use Rattle.pagable_pager.specs.declared.pagable_arc.values.ValueRow.{ValueRow}

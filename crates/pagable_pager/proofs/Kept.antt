@@ -17,34 +17,34 @@ use Rattle.pagable_model.specs.Blob.{Blob}
 use Rattle.pagable_model.specs.Meaning.{Meaning}
 use Rattle.pagable_model.specs.Trees.{Tree, Types, KeyRef, type_of, ReadsAs, ReadsTree, IsFollowed, number-followed, integer-followed, text-followed, pattern-followed, none-followed, pair-followed, variant-followed, reference-followed}
 use Rattle.pagable_model.specs.Stored.{Adds}
-use Rattle.pagable_world.specs.State.{State, held}
-use Rattle.pagable_world.specs.Refusals.{HasRow, IsOwn}
+use Rattle.pagable_world.specs.today.State.{State, held}
+use Rattle.pagable_world.specs.today.Refusals.{HasRow, IsOwn}
 use Rattle.pagable_world.specs.declared.answers.Pinning.{Pinning}
 use Rattle.pagable_world.specs.declared.answers.Pinning.TheVariants as pinnings
 use Rattle.pagable_world.specs.declared.answers.Beginning.{Beginning}
 use Rattle.pagable_world.specs.declared.answers.Beginning.TheVariants as beginnings
-use Rattle.pagable_world.specs.Cells.{Cell, CellsFollow}
-use Rattle.pagable_world.specs.World.{World, plain, born, born_with, joined, turned, Prepared, Leaves, Closes}
+use Rattle.pagable_world.specs.today.Cells.{Cell, CellsFollow}
+use Rattle.pagable_world.specs.today.World.{World, plain, born, born_with, joined, turned, Prepared, Leaves, Closes}
 use Rattle.pagable_world.specs.declared.rows.Mode.{Mode}
 use Rattle.pagable_world.specs.declared.rows.Mode.TheVariants as modes
 use Rattle.pagable_world.specs.declared.rows.Owner.TheVariants as owners
 use Rattle.pagable_model.specs.declared.numbers.ArcRef.{ArcRef}
 use Rattle.pagable_model.specs.declared.numbers.NodeNumber.{NodeNumber}
-use Rattle.pagable_world.specs.Values.{value_of_node}
-use Rattle.pagable_world.specs.Calls.{Cloned, Loosened, PinnedBy, Unpinned, Released, Took, KeySet, Begun, HasLoad, Ended, Dropped}
+use Rattle.pagable_world.specs.today.Values.{value_of_node}
+use Rattle.pagable_world.specs.today.Calls.{Cloned, Loosened, PinnedBy, Unpinned, Released, Took, KeySet, Begun, HasLoad, Ended, Dropped}
 use Rattle.pagable_world.specs.declared.rows.HandleRow.{HandleRow}
 use Rattle.pagable_world.specs.declared.rows.LoadRow.{LoadRow}
-use Rattle.pagable_world.specs.Shown.{Shown, SameStore, OnlyStore, Unchanged}
+use Rattle.pagable_world.specs.today.Shown.{Shown, SameStore, OnlyStore, Unchanged}
 -- the machine cites these two as well
 pub use Rattle.pagable_book.proofs.Known.{same_number}
 pub use Rattle.pagable_book.proofs.Here.{all-apart}
 use Rattle.pagable_pager.specs.Rows.{value_of}
-use Rattle.pagable_world.specs.LoadEnds.{InstallsValue, ClosedBy, StaysOpen, EndedAs}
+use Rattle.pagable_world.specs.today.LoadEnds.{InstallsValue, ClosedBy, StaysOpen, EndedAs}
 use Rattle.pagable_pager.specs.declared.pagable_arc.values.ValueRow.{ValueRow}
-use Rattle.pagable_world.specs.Lending.{IsLent}
-use Rattle.pagable_world.specs.InStep.{InStep, kept}
-use Rattle.pagable_world.specs.Stands.{SameTrees}
-use Rattle.pagable_world.specs.TodayTrees.{Sight, MeansTree, CellFits, TodayWorld, RepresentsToday, EachWorld, Always, KeyReads, SetKeyFits, LendsTree, StandsEmpty, AwayBirthOf, BirthOf, ReadFits}
+use Rattle.pagable_world.specs.today.Lending.{IsLent}
+use Rattle.pagable_world.specs.today.InStep.{InStep, kept}
+use Rattle.pagable_world.specs.Pager.{SameTrees}
+use Rattle.pagable_world.specs.today.TodayTrees.{Sight, MeansTree, CellFits, TodayWorld, RepresentsToday, EachWorld, Always, KeyReads, SetKeyFits, LendsTree, StandsEmpty, AwayBirthOf, BirthOf, ReadFits}
 
 -- what is true of each open load stays so
 abbrev KeepsLoads : World → World → Type 1

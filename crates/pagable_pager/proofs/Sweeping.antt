@@ -9,12 +9,12 @@ use Rattle.std.proofs.lemmas.Grind.{elements}
 use Rattle.pagable_model.specs.declared.error.Error.{Error}
 use Rattle.pagable_model.specs.declared.numbers.HandleNumber.{HandleNumber}
 use Rattle.pagable_model.specs.declared.numbers.NodeNumber.{NodeNumber}
-use Rattle.pagable_world.specs.State.{State, WellFormed, one, value_at, is_number}
-use Rattle.pagable_world.specs.World.{plain}
-use Rattle.pagable_world.specs.Calls.{NodeIs}
-use Rattle.pagable_world.specs.Refusals.{HasRow}
-use Rattle.pagable_world.specs.Values.{value_of_node, OnlyItsValueGoes}
-use Rattle.pagable_world.specs.InStep.{is_value, InStep}
+use Rattle.pagable_world.specs.today.State.{State, WellFormed, one, value_at, is_number}
+use Rattle.pagable_world.specs.today.World.{plain}
+use Rattle.pagable_world.specs.today.Calls.{NodeIs}
+use Rattle.pagable_world.specs.today.Refusals.{HasRow}
+use Rattle.pagable_world.specs.today.Values.{value_of_node, OnlyItsValueGoes}
+use Rattle.pagable_world.specs.today.InStep.{is_value, InStep}
 use Rattle.pagable_world.specs.declared.rows.HandleRow.{HandleRow}
 use Rattle.pagable_book.proofs.Known.{its-row}
 use Rattle.pagable_book.proofs.Sums.{row-le-sum}

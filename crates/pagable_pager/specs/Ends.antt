@@ -3,8 +3,8 @@ use Rattle.std.specs.Prelude.{◌≡◌, ℕ, List, []}
 use Rattle.pagable_model.specs.declared.numbers.ArcRef.{ArcRef}
 use Rattle.pagable_model.specs.declared.numbers.LoadNumber.{LoadNumber}
 use Rattle.pagable_model.specs.declared.numbers.NodeNumber.{NodeNumber}
-use Rattle.pagable_world.specs.State.{State}
-use Rattle.pagable_world.specs.LoadEnds.{FitsLoad}
+use Rattle.pagable_world.specs.today.State.{State}
+use Rattle.pagable_world.specs.today.LoadEnds.{FitsLoad}
 
 -- the load is open for a cell of the value's type, and the value refers to nothing
 pub record MayEnd {N : Type 0} (type_of : N → ℕ) (refs_of : N → List ArcRef) (load : LoadNumber) (node : N) (book : State) : Type 0 where

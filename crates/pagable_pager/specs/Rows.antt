@@ -1,6 +1,6 @@
 -- The rows of values.
 use Rattle.std.specs.Prelude.{ℕ, ◌≡◌, ◌⊎◌, true, nat_lt, sum_by}
-use Rattle.pagable_world.specs.State.{State, value_at}
+use Rattle.pagable_world.specs.today.State.{State, value_at}
 use Rattle.pagable_pager.specs.declared.pagable_arc.values.ValueRow.{ValueRow}
 
 -- a value with its node's number

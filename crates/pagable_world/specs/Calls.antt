@@ -1,165 +1,261 @@
--- What each call answers, and what it does to the plain world.
-use Rattle.std.specs.Prelude.{ℕ, ◌≡◌, ◌+◌, ◌≤◌, ◌⊎◌, Bool, true, false, length, Option, Some, None, Result, Ok, Err, sum_by, slice_get, slice_set, ◌&&◌, nat_eq}
+-- The calls on handles and nodes: what each does to the pager's plain world, and why it is refused. The calls on the cache and the storage.
+use Rattle.std.specs.Prelude.{ℕ, ◌≡◌, ◌+◌, ◌-◌, ◌<◌, ◌≤◌, ◌==◌, ◌||◌, ◌⊎◌, Bool, true, false, not, List, [], ◌∷◌, ◌++◌, length, min, Option, Some, None, Result, Ok, Err, IfOk, IfErr, slice_get, ◌&&◌, if◌then◌else◌, is_some, nat_lt}
 use Rattle.std.specs.List.{remove}
-use Rattle.pagable_model.specs.declared.error.Error.{Error}
+use Rattle.pagable_model.specs.Stored.{Adds, RefusesFetch, RefusesStore, RefusesFlush}
+use Rattle.pagable_world.specs.Plain.{Error, OptionalDataKey, ArcRef, HandleNumber, NodeNumber, Mode, Owner, HandleRow, Pinning, changed, updated, Kind, Blob, type_of, times, if_there}
 use Rattle.pagable_model.specs.declared.error.Error.TheVariants as errors
-use Rattle.pagable_model.specs.declared.data_key.OptionalDataKey.{OptionalDataKey}
 use Rattle.pagable_model.specs.declared.data_key.OptionalDataKey.TheVariants as optional
-use Rattle.pagable_model.specs.declared.numbers.HandleNumber.{HandleNumber}
-use Rattle.pagable_model.specs.declared.numbers.LoadNumber.{LoadNumber}
-use Rattle.pagable_model.specs.declared.numbers.NodeNumber.{NodeNumber}
-use Rattle.pagable_world.specs.declared.rows.Mode.{Mode}
 use Rattle.pagable_world.specs.declared.rows.Mode.TheVariants as modes
-use Rattle.pagable_world.specs.declared.rows.Owner.TheVariants as owners
-use Rattle.pagable_world.specs.State.{is_pinning, is_loose, is_load, pins, has_key}
-use Rattle.pagable_world.specs.Cells.{Cell}
-use Rattle.pagable_world.specs.World.{World, joined, turned, born, born_with, rekeyed, opened, HasCell, IsHere, IsAway, Leaves, Closes, Prepared, CannotMake, CannotBear, CannotOpen}
-use Rattle.pagable_world.specs.Refusals.{HasRow, IsUnknown, IsOwn, RefusesOwn, RefusesLoose, RefusesPinned}
-use Rattle.pagable_world.specs.declared.answers.Pinning.{Pinning}
+use Rattle.pagable_world.specs.declared.handles.Owner.TheVariants as owners
 use Rattle.pagable_world.specs.declared.answers.Pinning.TheVariants as pinnings
-use Rattle.pagable_world.specs.declared.answers.Beginning.{Beginning}
-use Rattle.pagable_world.specs.declared.answers.Beginning.TheVariants as beginnings
-use Rattle.pagable_world.specs.declared.answers.EndRefusal.{EndRefusal}
-use Rattle.pagable_world.specs.declared.rows.HandleRow.{HandleRow}
-use Rattle.pagable_world.specs.declared.rows.LoadRow.{LoadRow}
+use Rattle.pagable_world.specs.Kinds.{is_loose, is_unpinned, is_pinned, any_mode, is_handle, owner_value, pins, mode_of, fits_mode}
+use Rattle.pagable_world.specs.World.{Core, Cell, greatest, row_at, type_at, key_at, is_here, Alike, usable}
+use Rattle.pagable_world.specs.Cascade.{Falls, FallsAnyhow, nobody, only_handle}
+use Rattle.pagable_world.specs.Refusals.{earlier, where_so, spent, AreHandlesFull, IsListFull, Owns, live_fault, handle_fault, references_fault, Refused, refused_if, is_type}
 
--- a new node with one handle of the caller's, of this mode
-abbrev pub Born : World → ℕ → Mode → Result HandleNumber Error → World → Type 0
-Born w node_type mode (Ok k) w' = (k.0 ≡ w.last_handle + 1) × (w' ≡ born w node_type mode)
-Born w node_type mode (Err e) w' = CannotBear w e × (w' ≡ w)
+abbrev pub row_of : ℕ → NodeNumber → Mode → Owner → HandleRow
+row_of q node mode owner = record { number = record { 0 = q }; node = node; mode = mode; owner = owner }
 
--- a new node with this key, whose value is away, with one unpinned handle of the caller's
-abbrev pub BornAway : World → ℕ → ℕ → Result HandleNumber Error → World → Type 0
-BornAway w node_type key (Ok k) w' = (k.0 ≡ w.last_handle + 1) × (w' ≡ born_with w node_type (optional.Some key) modes.LooseUnpinned)
-BornAway w node_type key (Err e) w' = CannotBear w e × (w' ≡ w)
+-- one more handle, under the next number
+abbrev pub with_handle : Core → NodeNumber → Mode → Owner → Core
+with_handle w node mode owner = record w { rows = w.rows ++ row_of (w.last.handle + 1) node mode owner ∷ []; last = record w.last { handle = w.last.handle + 1 } }
 
--- A clone of any live handle: one more handle of its node, of the same mode, which is the caller's.
-abbrev pub Cloned : World → HandleNumber → Result HandleNumber Error → World → Type 0
-Cloned w h (Ok k) w' = (i : ℕ) × (row : HandleRow) × HasRow w h i row × (k.0 ≡ w.last_handle + 1) × (w' ≡ joined w row.node row.mode owners.Caller)
-Cloned w h (Err e) w' = ((IsUnknown w h × (e ≡ errors.NoSuchHandle)) ⊎ ((i : ℕ) × (row : HandleRow) × HasRow w h i row × CannotMake w.last_handle e)) × (w' ≡ w)
+-- the handle in another mode
+abbrev pub with_mode : Core → HandleNumber → Mode → Core
+with_mode w h mode = record w { rows = changed (is_handle h.0) (λ row. record row { mode = mode }) w.rows }
 
--- A Pinned handle becomes a loose pinned one, under its own number. Nothing else is needed for it, so no other refusal
--- is there.
-abbrev pub Loosened : World → HandleNumber → Result HandleNumber Error → World → Type 0
-Loosened w h (Ok k) w' = (i : ℕ) × (row : HandleRow) × IsOwn w h i row × (row.mode ≡ modes.Pinned) × (k ≡ h) × (w' ≡ turned w i row modes.LoosePinned)
-Loosened w h (Err e) w' = RefusesPinned w h e × (w' ≡ w)
+-- the rows, with the handles of a set under another owner
+abbrev pub moved : (ℕ → Bool) → Owner → List HandleRow → List HandleRow
+moved s owner rows = changed (λ row. s row.number.0) (λ row. record row { owner = owner }) rows
 
--- A pin: the loose handle is pinned from now on, and one more handle that pins is made. Or the key under which the value
--- has to be read first, and nothing changes.
-abbrev pub PinnedBy : World → HandleNumber → Result Pinning Error → World → Type 0
-PinnedBy w h (Ok (pinnings.Pinned k)) w' =
-    (i : ℕ) × (row : HandleRow) × IsOwn w h i row × (is_loose row.mode ≡ true) × IsHere w row.node × (k.0 ≡ w.last_handle + 1) × (w' ≡ turned (joined w row.node modes.Pinned owners.Caller) i row modes.LoosePinned)
-PinnedBy w h (Ok (pinnings.NeedsLoad key)) w' = (i : ℕ) × (row : HandleRow) × IsOwn w h i row × (is_loose row.mode ≡ true) × IsAway w row.node key × (w' ≡ w)
-PinnedBy w h (Err e) w' = (RefusesLoose w h e ⊎ ((i : ℕ) × (row : HandleRow) × IsOwn w h i row × (is_loose row.mode ≡ true) × IsHere w row.node × CannotMake w.last_handle e)) × (w' ≡ w)
+-- the node with this key
+abbrev pub with_key : Core → NodeNumber → ℕ → Core
+with_key w n key = record w { cells = updated n.0 (if_there (λ (cell : Cell). Some (record cell { key = optional.Some key })) None (w.cells n.0)) w.cells }
 
--- The pin of the handle of this row is given up, and the handle stays. The last pin of a cell without a key lists the
--- cell first; where that fails, the pin is given up all the same.
-abbrev pub UnpinnedAt : World → ℕ → HandleRow → Result (Unit {0}) Error → World → Type 0
-UnpinnedAt w i row r w' = (mid : World) × Prepared w row r mid × (w' ≡ turned mid i row modes.LooseUnpinned)
+-- whether the handle is one of a value's references
+unfoldable pub is_named_by : List ArcRef → ℕ → Bool
+is_named_by [] q = false
+is_named_by (r ∷ rs) q = (r.handle.0 == q) || is_named_by rs q
 
--- an unpin: a handle that is unpinned already stays as it is
-abbrev pub Unpinned : World → HandleNumber → Result (Unit {0}) Error → World → Type 0
-Unpinned w h r w' =
-    ((e : Error) × (r ≡ Err e) × RefusesLoose w h e × (w' ≡ w))
-    ⊎ ((i : ℕ) × (row : HandleRow) × IsOwn w h i row × (((row.mode ≡ modes.LooseUnpinned) × (r ≡ Ok tt) × (w' ≡ w)) ⊎ ((row.mode ≡ modes.LoosePinned) × UnpinnedAt w i row r w')))
+-- the node that the next one will be
+abbrev pub next_node : Core → NodeNumber
+next_node w = record { 0 = w.last.node + 1 }
 
--- The handle of this row leaves. A pinning one gives up its pin as an unpin does.
-abbrev pub ReleasedAt : World → ℕ → HandleRow → Result (Unit {0}) Error → World → Type 0
-ReleasedAt w i row r w' =
-    ((is_pinning row.mode ≡ false) × (r ≡ Ok tt) × Leaves w i row w')
-    ⊎ ((is_pinning row.mode ≡ true) × ((mid : World) × Prepared w row r mid × Leaves mid i row w'))
+-- A new node of a value with these references, whose handles move to it. Its key may be known from the first.
+abbrev pub with_node : Core → ℕ → OptionalDataKey → List ArcRef → Core
+with_node w node_type key references =
+    record w {
+      rows = moved (is_named_by references) (owner_value (w.last.node + 1)) w.rows;
+      cells = updated (w.last.node + 1) (Some (record { node_type = node_type; key = key })) w.cells;
+      last = record w.last { node = w.last.node + 1 };
+    }
 
--- a handle is given up
-abbrev pub Released : World → HandleNumber → Result (Unit {0}) Error → World → Type 0
-Released w h r w' =
-    ((e : Error) × (r ≡ Err e) × RefusesOwn w h e × (w' ≡ w)) ⊎ ((i : ℕ) × (row : HandleRow) × IsOwn w h i row × ReleasedAt w i row r w')
+-- the answer is the next number, which is there
+pub record IsNext (k : HandleNumber) (w : Core) : Type 0 where
+  pub above : k.0 ≡ w.last.handle + 1
+  pub is_left : w.last.handle < greatest
 
--- A look-up takes any live handle, and is refused for no other cause than that there is none. Holds is what is true of
--- the handle's row and its node's cell.
-abbrev pub Looks : World → HandleNumber → {X : Type 0} → (X → HandleRow → Cell → Type 0) → Result X Error → Type 0
-Looks w h holds (Ok x) = (i : ℕ) × (row : HandleRow) × (cell : Cell) × HasRow w h i row × HasCell w row.node cell × holds x row cell
-Looks w h holds (Err e) = IsUnknown w h × (e ≡ errors.NoSuchHandle)
+-- why a node with a handle can't be made
+abbrev pub birth_fault : Core → Option Error
+birth_fault w = earlier (spent w.last.node) (spent w.last.handle)
 
--- how many handles pin the handle's node
-abbrev pub Counts : World → HandleNumber → Result ℕ Error → Type 0
-Counts w h r = Looks w h (λ n row cell. n ≡ pins row.node.0 w.rows) r
+-- A new node of a value x that is handed in, with one handle. A refusal gives the value back. Memory may be wanting before the references are known.
+pub record BirthCall {N : Type 0} (w : Core) (me : Owner) (x : N) (node_type : ℕ) (references : List ArcRef) (mode : Mode) (r : Result HandleNumber (Error × N)) (w' : Core) : Type 0 where
+  pub made : IfOk r (λ k. (references_fault w me [] references ≡ None) × (w.last.node < greatest) × IsNext k w × Alike (with_handle (with_node w node_type optional.None references) (next_node w) mode me) w')
+  pub refused : IfErr r (λ e. (e.1 ≡ x) × Refused (earlier (references_fault w me [] references) (birth_fault w)) None (Unit {0}) w e.0 w')
 
--- the key of the handle's node
-abbrev pub KeyIs : World → HandleNumber → Result OptionalDataKey Error → Type 0
-KeyIs w h r = Looks w h (λ key row cell. key ≡ cell.key) r
+-- a new cell that has a key and no value, with one unpinned handle
+pub record AwayBirthCall (w : Core) (me : Owner) (node_type key : ℕ) (r : Result HandleNumber Error) (w' : Core) : Type 0 where
+  pub made : IfOk r (λ k. (w.last.node < greatest) × IsNext k w × Alike (with_handle (with_node w node_type (optional.Some key) []) (next_node w) modes.LooseUnpinned me) w')
+  pub refused : IfErr r (λ e. Refused (birth_fault w) None (Unit {0}) w e w')
 
--- whether the value of the handle's node has to be read first
-abbrev pub AwayIs : World → HandleNumber → Result Bool Error → Type 0
-AwayIs w h r = Looks w h (λ b row cell. b ≡ (nat_eq (pins row.node.0 w.rows) 0 && has_key cell.key)) r
+-- why a clone is refused before anything grows
+abbrev pub clone_fault : Core → HandleNumber → Option Error
+clone_fault w h = earlier (live_fault (row_at w h)) (spent w.last.handle)
 
--- the handle's node
-abbrev pub NodeIs : World → HandleNumber → Result NodeNumber Error → Type 0
-NodeIs w h r = Looks w h (λ node row cell. node ≡ row.node) r
+-- A second handle of the same mode, of any live handle. While numbers and places are left it succeeds.
+pub record CloneCall (w : Core) (me : Owner) (h : HandleNumber) (r : Result HandleNumber Error) (w' : Core) : Type 0 where
+  pub made : IfOk r (λ k. (row : HandleRow) × (row_at w h ≡ Some row) × IsNext k w × Alike (with_handle w row.node row.mode me) w')
+  pub refused : IfErr r (λ e. Refused (clone_fault w h) (clone_fault w h) (AreHandlesFull w) w e w')
 
--- the handle's node, if the handle pins it
-abbrev pub PinsNode : World → HandleNumber → Result (Option NodeNumber) Error → Type 0
-PinsNode w h (Ok (Some node)) = (i : ℕ) × (row : HandleRow) × HasRow w h i row × (is_pinning row.mode ≡ true) × (node ≡ row.node)
-PinsNode w h (Ok None) = (i : ℕ) × (row : HandleRow) × HasRow w h i row × (is_pinning row.mode ≡ false)
-PinsNode w h (Err e) = IsUnknown w h × (e ≡ errors.NoSuchHandle)
+-- whether the value of a live handle's node is in memory; whether it has to be read first
+abbrev pub is_handle_here : Core → HandleNumber → Bool
+is_handle_here w h = if_there (λ (row : HandleRow). is_here w row.node.0) false (row_at w h)
 
--- The entry at this place of the list moves to the caller, or there is none.
-abbrev pub Took : World → ℕ → Option HandleNumber → World → Type 0
-Took w i (Some h) w' =
-    (slice_get w.list i ≡ Some h)
-    × ((p : ℕ) × (row : HandleRow) × HasRow w h p row × (row.owner ≡ owners.List) × (row.mode ≡ modes.LooseUnpinned) × (w' ≡ record w { rows = slice_set w.rows p (record row { owner = owners.Caller }); list = remove w.list i }))
-Took w i None w' = (length w.list ≤ i) × (w' ≡ w)
+-- The loose handle is pinned from now on, and a Pinned one is made. Or the value has to be read first under this key, and nothing changes.
+abbrev pub Pins : Core → Owner → HandleNumber → HandleRow → Pinning → Core → Type 0
+Pins w me h row (pinnings.Pinned k) w' = (is_here w row.node.0 ≡ true) × IsNext k w × Alike (with_handle (with_mode w h modes.LoosePinned) row.node modes.Pinned me) w'
+Pins w me h row (pinnings.NeedsLoad key) w' = (is_here w row.node.0 ≡ false) × (key_at w row.node.0 ≡ optional.Some key) × Alike w w'
 
--- A key is set through a loose handle. Through another nothing happens.
-abbrev pub KeySet : World → HandleNumber → ℕ → Result (Unit {0}) Error → World → Type 0
-KeySet w h key (Ok u) w' =
-    (i : ℕ)
-    × (row : HandleRow)
-    × IsOwn w h i row
-    × (((is_loose row.mode ≡ false) × (w' ≡ w)) ⊎ ((is_loose row.mode ≡ true) × ((j : ℕ) × (cell : Cell) × (slice_get w.cells j ≡ Some cell) × (cell.number ≡ row.node.0) × (w' ≡ rekeyed w j cell key))))
-KeySet w h key (Err e) w' = RefusesOwn w h e × (w' ≡ w)
+abbrev pub pin_fault : Core → Owner → HandleNumber → Option Error
+pin_fault w me h = earlier (handle_fault w me h is_loose) (where_so (is_handle_here w h) (spent w.last.handle))
 
--- A load is opened for a loose handle's cell, or its value is in memory and nothing changes.
-abbrev pub Begun : World → HandleNumber → Result Beginning Error → World → Type 0
-Begun w h (Ok beginnings.InMemory) w' = (i : ℕ) × (row : HandleRow) × IsOwn w h i row × (is_loose row.mode ≡ true) × IsHere w row.node × (w' ≡ w)
-Begun w h (Ok (beginnings.Load l key)) w' =
-    (i : ℕ) × (row : HandleRow) × IsOwn w h i row × (is_loose row.mode ≡ true) × IsAway w row.node key × (l.0 ≡ w.last_load + 1) × (w' ≡ opened w row key)
-Begun w h (Err e) w' = (RefusesLoose w h e ⊎ ((i : ℕ) × (row : HandleRow) × (key : ℕ) × IsOwn w h i row × (is_loose row.mode ≡ true) × IsAway w row.node key × CannotOpen w e)) × (w' ≡ w)
+-- a pin of a loose handle. Of a cell in memory it succeeds while numbers and places are left.
+pub record PinCall (w : Core) (me : Owner) (h : HandleNumber) (r : Result Pinning Error) (w' : Core) : Type 0 where
+  pub pins : IfOk r (λ p. (row : HandleRow) × Owns w me h is_loose row × Pins w me h row p w')
+  pub refused : IfErr r (λ e. Refused (pin_fault w me h) (pin_fault w me h) ((is_handle_here w h ≡ true) × AreHandlesFull w) w e w')
 
--- the load isn't open
-abbrev pub IsNoLoad : World → LoadNumber → Type 0
-IsNoLoad w l = sum_by (is_load l.0) w.loads ≡ 0
+-- a Pinned handle becomes a loose pinned one, under its own number
+pub record LoosenCall (w : Core) (me : Owner) (h : HandleNumber) (r : Result HandleNumber Error) (w' : Core) : Type 0 where
+  pub turned : IfOk r (λ k. (row : HandleRow) × Owns w me h is_pinned row × (k ≡ h) × Alike (with_mode w h modes.LoosePinned) w')
+  pub refused : IfErr r (λ e. (handle_fault w me h is_pinned ≡ Some e) × Alike w w')
 
--- the load is open, with this row at this place
-abbrev pub HasLoad : World → LoadNumber → ℕ → LoadRow → Type 0
-HasLoad w l p load = (slice_get w.loads p ≡ Some load) × (load.number ≡ l)
+-- A call on an own handle is refused by this cause, and nothing changes.
+pub record IsRefused (cause : Option Error) (w : Core) (r : Result (Unit {0}) Error) (w' : Core) : Type 0 where
+  pub e : Error
+  pub why : cause ≡ Some e
+  pub told : r ≡ Err e
+  pub stays : Alike w w'
 
--- what is known of an open load, or that there is none
-abbrev pub LooksLoad : World → LoadNumber → {X : Type 0} → (X → LoadRow → Type 0) → Result X Error → Type 0
-LooksLoad w l holds (Ok x) = (p : ℕ) × (load : LoadRow) × HasLoad w l p load × holds x load
-LooksLoad w l holds (Err e) = IsNoLoad w l × (e ≡ errors.NoSuchHandle)
+-- The handle of this row lets its pin go and stays; or it is unpinned already.
+abbrev pub LetsGo : Core → HandleNumber → HandleRow → Result (Unit {0}) Error → Core → Type 0
+LetsGo w h row r w' = ((row.mode ≡ modes.LooseUnpinned) × (r ≡ Ok tt) × Alike w w') ⊎ ((row.mode ≡ modes.LoosePinned) × Falls w (with_mode w h modes.LooseUnpinned) nobody r w')
 
--- the type of the node whose value an open load reads
-abbrev pub LoadTypeIs : World → LoadNumber → Result ℕ Error → Type 0
-LoadTypeIs w l r = LooksLoad w l (λ t load. (cell : Cell) × HasCell w load.node cell × (t ≡ cell.node_type)) r
+pub record UnpinCall (w : Core) (me : Owner) (h : HandleNumber) (r : Result (Unit {0}) Error) (w' : Core) : Type 0 where
+  pub does : IsRefused (handle_fault w me h is_loose) w r w' ⊎ ((row : HandleRow) × Owns w me h is_loose row × LetsGo w h row r w')
 
--- A load ends: its caller's handle is pinned from now on, one more handle that pins is made, and the load is closed.
--- Where the caller's handle is gone or another's, the load is closed and no more; every other refusal changes nothing.
-abbrev pub Ended : World → LoadNumber → Result HandleNumber EndRefusal → World → Type 0
-Ended w l (Ok k) w' =
-    (p : ℕ)
-    × (load : LoadRow)
-    × (i : ℕ)
-    × (row : HandleRow)
-    × HasLoad w l p load
-    × IsOwn w load.handle i row
-    × (row.node ≡ load.node)
-    × (k.0 ≡ w.last_handle + 1)
-    × Closes (turned (joined w row.node modes.Pinned owners.Caller) i row modes.LoosePinned) p load w'
-Ended w l (Err refusal) w' =
-    ((refusal.closed ≡ false) × (w' ≡ w) × ((IsNoLoad w l × (refusal.error ≡ errors.NoSuchHandle)) ⊎ ((p : ℕ) × (load : LoadRow) × (i : ℕ) × (row : HandleRow) × HasLoad w l p load × IsOwn w load.handle i row × CannotMake w.last_handle refusal.error)))
-    ⊎ ((refusal.closed ≡ true) × ((p : ℕ) × (load : LoadRow) × HasLoad w l p load × RefusesOwn w load.handle refusal.error × Closes w p load w'))
+pub record ReleaseCall (w : Core) (me : Owner) (h : HandleNumber) (r : Result (Unit {0}) Error) (w' : Core) : Type 0 where
+  pub does : IsRefused (handle_fault w me h any_mode) w r w' ⊎ ((row : HandleRow) × Owns w me h any_mode row × Falls w w (only_handle h) r w')
 
--- a load is given up
-abbrev pub Dropped : World → LoadNumber → Result (Unit {0}) Error → World → Type 0
-Dropped w l (Ok u) w' = (p : ℕ) × (load : LoadRow) × HasLoad w l p load × Closes w p load w'
-Dropped w l (Err e) w' = IsNoLoad w l × (e ≡ errors.NoSuchHandle) × (w' ≡ w)
+-- The cell of a loose handle gets a key, and its value goes if nothing pins it. Through a handle of another mode nothing happens.
+abbrev pub SetsKey : Core → HandleRow → ℕ → Result (Unit {0}) Error → Core → Type 0
+SetsKey w row key r w' = ((is_loose row.mode ≡ false) × (r ≡ Ok tt) × Alike w w') ⊎ ((is_loose row.mode ≡ true) × Falls w (with_key w row.node key) nobody r w')
+
+pub record SetKeyCall (w : Core) (me : Owner) (h : HandleNumber) (key : ℕ) (r : Result (Unit {0}) Error) (w' : Core) : Type 0 where
+  pub does : IsRefused (handle_fault w me h any_mode) w r w' ⊎ ((row : HandleRow) × Owns w me h any_mode row × SetsKey w row key r w')
+
+-- a look-up is refused only where there is no such handle
+pub record Looks {X : Type 0} (w : Core) (h : HandleNumber) (holds : X → HandleRow → Type 0) (r : Result X Error) : Type 0 where
+  pub found : IfOk r (λ x. (row : HandleRow) × (row_at w h ≡ Some row) × holds x row)
+  pub refused : IfErr r (λ e. live_fault (row_at w h) ≡ Some e)
+
+-- how many handles pin the node; its key; whether its value has to be read first; and which it is
+abbrev pub CountCall : Core → HandleNumber → Result ℕ Error → Type 0
+CountCall w h r = Looks w h (λ n row. n ≡ pins row.node.0 w.rows) r
+
+abbrev pub KeyCall : Core → HandleNumber → Result OptionalDataKey Error → Type 0
+KeyCall w h r = Looks w h (λ key row. key ≡ key_at w row.node.0) r
+
+abbrev pub AwayCall : Core → HandleNumber → Result Bool Error → Type 0
+AwayCall w h r = Looks w h (λ b row. b ≡ not (is_here w row.node.0)) r
+
+abbrev pub NodeCall : Core → HandleNumber → Result NodeNumber Error → Type 0
+NodeCall w h r = Looks w h (λ n row. n ≡ row.node) r
+
+-- the type of a live node, or None where the node is gone
+abbrev pub TypeCall : Core → NodeNumber → Option ℕ → Type 0
+TypeCall w n found = found ≡ type_at w n.0
+
+-- a loose unpinned handle moves to the list's end; once the storage is closed it is given up
+abbrev pub Schedules : Core → HandleNumber → Core → Type 0
+Schedules w h w' =
+    ((w.closed ≡ false) × Alike (record w { rows = moved (only_handle h) owners.List w.rows; list = w.list ++ h ∷ [] }) w') ⊎ ((w.closed ≡ true) × FallsAnyhow w w (only_handle h) w')
+
+pub record ScheduleCall (w : Core) (me : Owner) (h : HandleNumber) (r : Result (Unit {0}) Error) (w' : Core) : Type 0 where
+  pub moves : IfOk r (λ u. (row : HandleRow) × Owns w me h is_unpinned row × Schedules w h w')
+  pub refused : IfErr r (λ e. Refused (handle_fault w me h is_unpinned) (handle_fault w me h is_unpinned) ((w.closed ≡ false) × IsListFull w) w e w')
+
+-- the entry at this place of the list moves to the one who asks, or there is none
+abbrev pub TakeCall : Core → Owner → ℕ → Option HandleNumber → Core → Type 0
+TakeCall w me i (Some h) w' = (slice_get w.list i ≡ Some h) × Alike (record w { rows = moved (only_handle h) me w.rows; list = remove w.list i }) w'
+TakeCall w me i None w' = (length w.list ≤ i) × Alike w w'
+
+-- how many handles and list entries can still be added while nothing grows
+abbrev pub room_of : Core → ℕ
+room_of w = min (w.places.handles - length w.rows) (w.places.entries - length w.list)
+
+-- places are made ready: as many as are asked for, or the call is refused
+pub record ReserveCall (w : Core) (n : ℕ) (r : Result (Unit {0}) Error) (w' : Core) : Type 0 where
+  pub stays : Alike w w'
+  pub enough : IfOk r (λ u. n ≤ room_of w')
+  pub wanting : IfErr r (λ e. (e ≡ errors.OutOfMemory) × (room_of w' < n))
+
+-- whether the cache gives a node for the kind and key
+abbrev pub is_usable : Core → Kind → ℕ → Bool
+is_usable w kind key = is_some (usable w kind.0 key)
+
+-- a new handle of a node that the cache gives, in the kind's mode
+abbrev pub with_known : Core → Kind → ℕ → Owner → Core
+with_known w kind n owner = with_handle w (record { 0 = n }) (mode_of kind.0) owner
+
+-- a handle of the node that the cache gives, or None where it gives none
+abbrev pub Recalls : Core → Owner → Kind → ℕ → Option HandleNumber → Core → Type 0
+Recalls w me kind key (Some k) w' = (n : ℕ) × (usable w kind.0 key ≡ Some n) × IsNext k w × Alike (with_known w kind n me) w'
+Recalls w me kind key None w' = (usable w kind.0 key ≡ None) × Alike w w'
+
+abbrev pub recall_fault : Core → Kind → ℕ → Option Error
+recall_fault w kind key = where_so (is_usable w kind key) (spent w.last.handle)
+
+pub record RecallCall (w : Core) (me : Owner) (kind : Kind) (key : ℕ) (r : Result (Option HandleNumber) Error) (w' : Core) : Type 0 where
+  pub answers : IfOk r (λ found. Recalls w me kind key found w')
+  pub refused : IfErr r (λ e. Refused (recall_fault w kind key) (recall_fault w kind key) ((is_usable w kind key ≡ true) × AreHandlesFull w) w e w')
+
+-- the cache knows this node under the kind and key from now on
+abbrev pub with_cached : Core → Kind → ℕ → NodeNumber → Core
+with_cached w kind key n = record w { cache = λ k q. if k == kind.0 && q == key then Some n.0 else w.cache k q }
+
+-- unless the storage is closed
+abbrev pub with_cached_if_open : Core → Kind → ℕ → NodeNumber → Core
+with_cached_if_open w kind key n = if w.closed then w else with_cached w kind key n
+
+abbrev pub offer_fault : Core → Owner → Kind → ℕ → HandleNumber → Option Error
+offer_fault w me kind key h =
+    earlier (handle_fault w me h (fits_mode kind.0)) (earlier (refused_if (not (is_type (type_of kind.0) (if_there (λ (row : HandleRow). type_at w row.node.0) None (row_at w h)))) errors.WrongKind) (where_so (not w.closed && is_usable w kind key) (spent w.last.handle)))
+
+-- The cache learns the handle's node, and the handle stays with its owner. Where it gives a node already, a handle of that node is made first, and
+-- then the one that was offered is given up. Once the storage is closed, the handle is answered itself.
+abbrev pub Offers : Core → Owner → Kind → ℕ → HandleNumber → HandleRow → Option HandleNumber → Core → Type 0
+Offers w me kind key h row None w' = (w.closed ≡ false) × (usable w kind.0 key ≡ None) × Alike (with_cached w kind key row.node) w'
+Offers w me kind key h row (Some k) w' =
+    ((w.closed ≡ true) × (k ≡ h) × Alike w w') ⊎ ((w.closed ≡ false) × ((n : ℕ) × (usable w kind.0 key ≡ Some n) × IsNext k w × FallsAnyhow w (with_known w kind n me) (only_handle h) w'))
+
+pub record OfferCall (w : Core) (me : Owner) (kind : Kind) (key : ℕ) (h : HandleNumber) (r : Result (Option HandleNumber) Error) (w' : Core) : Type 0 where
+  pub answers : IfOk r (λ found. (row : HandleRow) × Owns w me h (fits_mode kind.0) row × (type_at w row.node.0 ≡ Some (type_of kind.0)) × Offers w me kind key h row found w')
+  pub refused : IfErr r (λ e. Refused (offer_fault w me kind key h) (offer_fault w me kind key h) ((w.closed ≡ false) × ((usable w kind.0 key ≡ None) ⊎ AreHandlesFull w)) w e w')
+
+-- the cache forgets all
+pub record ClearCall (w : Core) (r : Result (Unit {0}) Error) (w' : Core) : Type 0 where
+  pub told : r ≡ Ok tt
+  pub leaves : Alike (record w { cache = λ kind key. None }) w'
+
+-- the storage was asked: at most it failed
+pub record Asked (w w' : Core) : Type 0 where
+  pub fails : w.failures ≤ w'.failures
+  pub leaves : Alike (record w { failures = w'.failures }) w'
+
+-- the blob that stands under a key
+pub record FetchCall (w : Core) (key : ℕ) (r : Result Blob Error) (w' : Core) : Type 0 where
+  pub asked : Asked w w'
+  pub found : IfOk r (λ blob. w.stored key ≡ Some blob)
+  pub refused : IfErr r (λ e. RefusesFetch key (w.stored key) w.failures w'.failures e)
+
+-- a blob stands under its key from now on, where it may have stood already and no other did
+pub record Stores (w : Core) (key : ℕ) (blob : Blob) (w' : Core) : Type 0 where
+  pub stands_open : w.closed ≡ false
+  pub adds : Adds key blob w.stored w'.stored
+  pub fails : w.failures ≤ w'.failures
+  pub leaves : Alike (record w { stored = w'.stored; failures = w'.failures }) w'
+
+-- a blob is stored under its digest
+pub record StoreCall (digest : Blob → ℕ) (w : Core) (blob : Blob) (r : Result ℕ Error) (w' : Core) : Type 0 where
+  pub stores : IfOk r (λ key. (key ≡ digest blob) × Stores w key blob w')
+  pub refused : IfErr r (λ e. Asked w w' × RefusesStore blob (w.stored (digest blob)) w.closed w.failures w'.failures e)
+
+-- the storage writes what it has held back
+pub record FlushCall (w : Core) (r : Result (Unit {0}) Error) (w' : Core) : Type 0 where
+  pub asked : Asked w w'
+  pub refused : IfErr r (λ e. RefusesFlush w.failures w'.failures e)
+
+-- whether the list owns the handle
+abbrev pub is_listed : Core → ℕ → Bool
+is_listed w q = nat_lt 0 (times (λ (h : HandleNumber). h.0 == q) w.list)
+
+-- nothing is stored, known or listed any more
+abbrev pub shut : Core → ℕ → Core
+shut w failures = record w { stored = λ key. None; cache = λ kind key. None; list = []; closed = true; failures = failures }
+
+-- the storage is closed, and the list gives up what it owns; the storage may have failed then
+pub record CloseCall (w : Core) (r : Result (Unit {0}) Error) (w' : Core) : Type 0 where
+  pub told : r ≡ Ok tt
+  pub fails : w.failures ≤ w'.failures
+  pub falls : FallsAnyhow w (shut w w'.failures) (is_listed w) w'

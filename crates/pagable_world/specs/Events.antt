@@ -1,32 +1,95 @@
--- One event: a call, a load's step, or a worker's. Runs of events.
-use Rattle.std.specs.Prelude.{ℕ, ◌≡◌, ◌+◌, ◌^◌, ◌<◌, ◌≤◌, ◌⊎◌, List, [], ◌∷◌, ◌++◌, length, Some, None, Result, Ok, Err, slice_get}
+-- One call of the pager: the step of its plain world that it is, by the call alone, with a reply of the call's type. One event: a call, a load's step, or a worker's.
+use Rattle.std.specs.Prelude.{◌≡◌, length, ℕ, Bool, Option, Result, ◌+◌, ◌<◌, ◌≤◌, ◌⊎◌, if◌then◌else◌, true, List, Some, None, is_some, IfOk, IfErr, slice_get, is_none}
 use Rattle.std.specs.List.{remove}
-use Rattle.pagable_model.specs.declared.error.Error.{Error}
-use Rattle.pagable_model.specs.declared.error.Error.TheVariants as errors
-use Rattle.pagable_model.specs.declared.numbers.HandleNumber.{HandleNumber}
-use Rattle.pagable_model.specs.declared.numbers.WorkerNumber.{WorkerNumber}
-use Rattle.pagable_world.specs.declared.rows.Owner.TheVariants as owners
-use Rattle.pagable_world.specs.declared.answers.Beginning.{Beginning}
-use Rattle.pagable_world.specs.declared.calls.Reply.{Reply}
-use Rattle.pagable_world.specs.declared.events.TableNumber.{TableNumber}
-use Rattle.pagable_world.specs.declared.events.LoadReply.{LoadReply}
-use Rattle.pagable_world.specs.declared.events.WorkerReply.{WorkerReply}
-use Rattle.pagable_world.specs.declared.events.Event.{Event}
-use Rattle.pagable_world.specs.declared.events.Event.TheVariants as events
-use Rattle.pagable_world.specs.declared.events.EventReply.{EventReply}
+use Rattle.pagable_world.specs.Plain.{Blob, Error, OptionalDataKey, HandleNumber, NodeNumber, WorkerNumber, Owner, Call, Found, Reply, Pinning, Beginning, TableNumber, LoadReply, WorkerReply, EventReply, LoadNumber, HandleRow, LoadAnswer, WorkerAnswer, Event, SameAt, updated, if_there, or_else}
+use Rattle.pagable_world.specs.declared.rows.Mode.TheVariants as modes
+use Rattle.pagable_world.specs.declared.calls.Call.TheVariants as calls
+use Rattle.pagable_world.specs.declared.calls.Found.TheVariants as founds
+use Rattle.pagable_world.specs.declared.calls.Reply.TheVariants as replies
 use Rattle.pagable_world.specs.declared.events.EventReply.TheVariants as answers
-use Rattle.pagable_world.specs.Kinds.{loose_kind}
-use Rattle.pagable_world.specs.Whole.{Whole, Task, of_item, of_entry, of_type, RowIs, HasType, Stays}
-use Rattle.pagable_world.specs.Seen.{Seen}
-use Rattle.pagable_world.specs.Causes.{Refuses, IsFull}
-use Rattle.pagable_world.specs.Falls.{only_handle}
-use Rattle.pagable_world.specs.Handles.{moved}
-use Rattle.pagable_world.specs.Loads.{BeginCall, BeginKeyCall}
-use Rattle.pagable_world.specs.Steps.{CallStep}
-use Rattle.pagable_world.specs.LoadSteps.{LoadStepped}
-use Rattle.pagable_world.specs.WorkerSteps.{WorkerStepped}
+use Rattle.pagable_model.specs.declared.error.Error.TheVariants as errors
+use Rattle.pagable_world.specs.declared.handles.Owner.TheVariants as owners
+use Rattle.pagable_world.specs.declared.answers.Beginning.TheVariants as beginnings
+use Rattle.pagable_world.specs.declared.events.Event.TheVariants as events
+use Rattle.pagable_world.specs.Kinds.{loose_kind, HasKinds, HasNoKinds}
+use Rattle.pagable_world.specs.World.{Core, Alike, Seen, digest, seen_as, OpenLoad, of_cell, of_key, Root, Shelf, Frame, Reading, Task, of_item, of_entry, Walking, Work, World, row_at, type_at, one_more, SameShelf, Values}
+use Rattle.pagable_world.specs.Cascade.{only_handle}
+use Rattle.pagable_world.specs.Refusals.{earlier, load_fault, refused_if}
+use Rattle.pagable_world.specs.Calls.{BirthCall, AwayBirthCall, CloneCall, PinCall, UnpinCall, ReleaseCall, LoosenCall, SetKeyCall, CountCall, KeyCall, AwayCall, NodeCall, TypeCall, ScheduleCall, TakeCall, room_of, ReserveCall, RecallCall, OfferCall, ClearCall, FetchCall, StoreCall, FlushCall, CloseCall, moved}
+use Rattle.pagable_world.specs.LoadCalls.{BeginCall, BeginKeyCall, Given, from_cache, from_store, AskCall, AdoptCall, LazyCall, EndCall, HandOverCall, DropCall}
+use Rattle.pagable_world.specs.Loads.{ReadingDoes, gone_on}
+use Rattle.pagable_world.specs.Workers.{Site, WalkDoes, WorkerEnds, first_todo, fresh, answer_after, is_counted}
 
--- the reply is of this type, and P of its answer
+-- of a call: P of its answer
+abbrev pub AnswersMade : {N B : Type 0} → Reply N B → (Result HandleNumber (Error × N) → Type 0) → Type 0
+AnswersMade (replies.Made r) P = P r
+AnswersMade _ P = ⊥
+
+abbrev pub AnswersHandle : {N B : Type 0} → Reply N B → (Result HandleNumber Error → Type 0) → Type 0
+AnswersHandle (replies.Handle r) P = P r
+AnswersHandle _ P = ⊥
+
+abbrev pub AnswersPin : {N B : Type 0} → Reply N B → (Result Pinning Error → Type 0) → Type 0
+AnswersPin (replies.Pin r) P = P r
+AnswersPin _ P = ⊥
+
+abbrev pub AnswersDone : {N B : Type 0} → Reply N B → (Result (Unit {0}) Error → Type 0) → Type 0
+AnswersDone (replies.Done r) P = P r
+AnswersDone _ P = ⊥
+
+abbrev pub AnswersCount : {N B : Type 0} → Reply N B → (Result ℕ Error → Type 0) → Type 0
+AnswersCount (replies.Count r) P = P r
+AnswersCount _ P = ⊥
+
+abbrev pub AnswersKey : {N B : Type 0} → Reply N B → (Result OptionalDataKey Error → Type 0) → Type 0
+AnswersKey (replies.KeyFound r) P = P r
+AnswersKey _ P = ⊥
+
+abbrev pub AnswersAway : {N B : Type 0} → Reply N B → (Result Bool Error → Type 0) → Type 0
+AnswersAway (replies.Away r) P = P r
+AnswersAway _ P = ⊥
+
+abbrev pub AnswersNode : {N B : Type 0} → Reply N B → (Result NodeNumber Error → Type 0) → Type 0
+AnswersNode (replies.Node r) P = P r
+AnswersNode _ P = ⊥
+
+abbrev pub AnswersType : {N B : Type 0} → Reply N B → (Option ℕ → Type 0) → Type 0
+AnswersType (replies.NodeType t) P = P t
+AnswersType _ P = ⊥
+
+abbrev pub AnswersLength : {N B : Type 0} → Reply N B → (ℕ → Type 0) → Type 0
+AnswersLength (replies.Length n) P = P n
+AnswersLength _ P = ⊥
+
+abbrev pub AnswersTaken : {N B : Type 0} → Reply N B → (Option HandleNumber → Type 0) → Type 0
+AnswersTaken (replies.Taken h) P = P h
+AnswersTaken _ P = ⊥
+
+abbrev pub AnswersCache : {N B : Type 0} → Reply N B → (Result (Option HandleNumber) Error → Type 0) → Type 0
+AnswersCache (replies.FromCache r) P = P r
+AnswersCache _ P = ⊥
+
+abbrev pub AnswersBlob : {N B : Type 0} → Reply N B → (Result B Error → Type 0) → Type 0
+AnswersBlob (replies.Fetched r) P = P r
+AnswersBlob _ P = ⊥
+
+abbrev pub AnswersStored : {N B : Type 0} → Reply N B → (Result ℕ Error → Type 0) → Type 0
+AnswersStored (replies.Stored r) P = P r
+AnswersStored _ P = ⊥
+
+abbrev pub AnswersBegun : {N B : Type 0} → Reply N B → (Result Beginning Error → Type 0) → Type 0
+AnswersBegun (replies.Begun r) P = P r
+AnswersBegun _ P = ⊥
+
+abbrev pub AnswersFound : {N B : Type 0} → Reply N B → (Result (Found B) Error → Type 0) → Type 0
+AnswersFound (replies.LoadFound r) P = P r
+AnswersFound _ P = ⊥
+
+abbrev pub AnswersEnded : {N B : Type 0} → Reply N B → (Result HandleNumber (Error × Option N) → Type 0) → Type 0
+AnswersEnded (replies.LoadEnded r) P = P r
+AnswersEnded _ P = ⊥
+
+-- of an event: P of its answer
 abbrev pub RepliesCall : {N B W : Type 0} → EventReply N B W → (Reply N B → Type 0) → Type 0
 RepliesCall (answers.CallReply r) P = P r
 RepliesCall _ P = ⊥
@@ -51,79 +114,219 @@ abbrev pub RepliesWorker : {N B W : Type 0} → EventReply N B W → (Result (Wo
 RepliesWorker (answers.WorkerMoved r) P = P r
 RepliesWorker _ P = ⊥
 
--- A new table, under the next number. Numbers of tables and workers are never wanting.
-abbrev pub Tabled : Whole → Result TableNumber Error → Whole → Type 0
-Tabled w (Ok t) w' = (t.0 ≡ w.last.table + 1) × (w' ≡ record w { last = record w.last { table = w.last.table + 1 } })
-Tabled w (Err e) w' = Stays w w' × (e ≡ errors.OutOfMemory) × IsFull w w'
+-- what was found, with the blob as it is seen
+abbrev pub given_of : {B : Type 0} → (B → Blob) → Found B → Given
+given_of f (founds.Cached k) = from_cache k
+given_of f (founds.Blob b) = from_store (f b)
+
+-- what the call does, by the call
+abbrev pub Does : {N B W : Type 0} → Seen N B W → Core → Owner → Call N B → Reply N B → Core → Type 0
+Does m w me (calls.NewPinned x) reply w' = AnswersMade reply (λ r. BirthCall w me x (m.values.node_type x) (m.values.references x) modes.Pinned r w')
+Does m w me (calls.NewLoose x) reply w' = AnswersMade reply (λ r. BirthCall w me x (m.values.node_type x) (m.values.references x) modes.LoosePinned r w')
+Does m w me (calls.NewShared x) reply w' = AnswersMade reply (λ r. BirthCall w me x (m.values.node_type x) (m.values.references x) modes.Shared r w')
+Does m w me (calls.NewPagedOut t key) reply w' = AnswersHandle reply (λ r. AwayBirthCall w me t key r w')
+Does m w me (calls.Clone h) reply w' = AnswersHandle reply (λ r. CloneCall w me h r w')
+Does m w me (calls.Pin h) reply w' = AnswersPin reply (λ r. PinCall w me h r w')
+Does m w me (calls.Unpin h) reply w' = AnswersDone reply (λ r. UnpinCall w me h r w')
+Does m w me (calls.Release h) reply w' = AnswersDone reply (λ r. ReleaseCall w me h r w')
+Does m w me (calls.IntoPagable h) reply w' = AnswersHandle reply (λ r. LoosenCall w me h r w')
+Does m w me (calls.SetDataKey h key) reply w' = AnswersDone reply (λ r. SetKeyCall w me h key r w')
+Does m w me (calls.Count h) reply w' = AnswersCount reply (λ r. CountCall w h r × Alike w w')
+Does m w me (calls.Key h) reply w' = AnswersKey reply (λ r. KeyCall w h r × Alike w w')
+Does m w me (calls.IsPagedOut h) reply w' = AnswersAway reply (λ r. AwayCall w h r × Alike w w')
+Does m w me (calls.NodeOf h) reply w' = AnswersNode reply (λ r. NodeCall w h r × Alike w w')
+Does m w me (calls.NodeLive n) reply w' = AnswersType reply (λ t. TypeCall w n t × Alike w w')
+Does m w me (calls.ScheduleForPaging h) reply w' = AnswersDone reply (λ r. ScheduleCall w me h r w')
+Does m w me calls.Pending reply w' = AnswersLength reply (λ n. (n ≡ length w.list) × Alike w w')
+Does m w me (calls.TakePending i) reply w' = AnswersTaken reply (λ h. TakeCall w me i h w')
+Does m w me (calls.CacheGet kind key) reply w' = AnswersCache reply (λ r. RecallCall w me kind key r w')
+Does m w me (calls.OnArcDeserialized kind key h) reply w' = AnswersCache reply (λ r. OfferCall w me kind key h r w')
+Does m w me calls.CacheClear reply w' = AnswersDone reply (λ r. ClearCall w r w')
+Does m w me (calls.Fetch key) reply w' = AnswersBlob reply (λ r. FetchCall w key (seen_as m.blob_of r) w')
+Does m w me (calls.Store b) reply w' = AnswersStored reply (λ r. StoreCall (digest m.values) w (m.blob_of b) r w')
+Does m w me calls.Flush reply w' = AnswersDone reply (λ r. FlushCall w r w')
+Does m w me (calls.LoadBegin h) reply w' = AnswersBegun reply (λ r. BeginCall w me h r w')
+Does m w me (calls.LoadKey key) reply w' = AnswersBegun reply (λ r. BeginKeyCall w me key r w')
+Does m w me (calls.LoadFetch l want) reply w' = AnswersFound reply (λ r. AskCall w me l want (seen_as (given_of m.blob_of) r) w')
+Does m w me (calls.LoadAdopt l kind key x) reply w' = AnswersMade reply (λ r. AdoptCall w me l kind key x (m.values.node_type x) (m.values.references x) r w')
+Does m w me (calls.LoadLazy l kind key) reply w' = AnswersHandle reply (λ r. LazyCall w me l kind key r w')
+Does m w me (calls.LoadEnd l x) reply w' = AnswersEnded reply (λ r. EndCall w me l x (m.values.node_type x) (m.values.references x) r w')
+Does m w me (calls.LoadTake l hs) reply w' = AnswersDone reply (λ r. HandOverCall w me l hs.items r w')
+Does m w me (calls.LoadDrop l) reply w' = AnswersDone reply (λ r. DropCall w me l r w')
+Does m w me (calls.Reserve n) reply w' = AnswersDone reply (λ r. ReserveCall w n r w')
+Does m w me calls.Room reply w' = AnswersLength reply (λ n. (n ≡ room_of w) × Alike w w')
+Does m w me calls.Close reply w' = AnswersDone reply (λ r. CloseCall w r w')
+
+-- The world may give this reply to the call of this one who asks, and go on to the new world.
+pub record CallStep {N B W : Type 0} (m : Seen N B W) (w : Core) (me : Owner) (call : Call N B) (reply : Reply N B) (w' : Core) : Type 0 where
+  pub does : Does m w me call reply w'
+
+-- the readings of open loads are these, and a load that was closed has none
+abbrev pub ReadingsAre : (ℕ → Option Reading) → World → Type 0
+ReadingsAre readings u' = (l : ℕ) → u'.work.readings l ≡ if_there (λ load. readings l) None (u'.core.loads l)
+
+-- tables and workers stay
+pub record WorkStays (work work' : Work) : Type 0 where
+  pub shelves : (t : ℕ) → SameShelf (work.shelves t) (work'.shelves t)
+  pub last_table : work'.last_table ≡ work.last_table
+  pub walkings : SameAt work.walkings work'.walkings
+
+-- nothing changes
+pub record Stays (u u' : World) : Type 0 where
+  pub core : Alike u.core u'.core
+  pub readings : ReadingsAre u.work.readings u'
+  pub work : WorkStays u.work u'.work
+
+-- what is done to the pager, and no more
+pub record OnlyCore (u : World) (does : Core → Type 0) (u' : World) : Type 0 where
+  pub step : does u'.core
+  pub readings : ReadingsAre u.work.readings u'
+  pub work : WorkStays u.work u'.work
+
+abbrev pub reading_of_root : LoadNumber → Root → Option Reading
+reading_of_root l (of_cell node t h) = Some (fresh l t)
+reading_of_root l of_key = None
+
+abbrev pub reading_of_load : LoadNumber → Option OpenLoad → Option Reading
+reading_of_load l load = if_there (λ (load : OpenLoad). reading_of_root l load.root) None load
+
+-- how far the load is: at its first step a load of a cell has just begun; a load of a key that a call began is read by nobody
+abbrev pub reading_at : World → LoadNumber → Option Reading
+reading_at u l = or_else (u.work.readings l.0) (reading_of_load l (u.core.loads l.0))
+
+abbrev pub step_fault : World → LoadNumber → Option Error
+step_fault u l = earlier (load_fault u.core owners.Caller l) (refused_if (is_none (reading_at u l)) errors.WrongMode)
+
+-- the load's reading after a step: with its frames, or gone
+abbrev pub reading_after : {N : Type 0} → Option (LoadAnswer N) → Reading → List Frame → Option Reading
+reading_after None reading frames = Some (gone_on reading frames)
+reading_after (Some answer) reading frames = None
+
+-- a load that the caller began makes a step, and counts it
+pub record LoadSteps {N : Type 0} (v : Values N) (u : World) (l : LoadNumber) (reply : LoadReply N) (u' : World) : Type 0 where
+  pub reading : Reading
+  pub frames : List Frame
+  pub may : load_fault u.core owners.Caller l ≡ None
+  pub at : reading_at u l ≡ Some reading
+  pub does : ReadingDoes v u.core owners.Caller reading reply.ended frames u'.core
+  pub counts : reply.steps ≡ one_more reading.steps
+  pub readings : ReadingsAre (updated l.0 (reading_after reply.ended reading frames) u.work.readings) u'
+  pub work : WorkStays u.work u'.work
+
+pub record LoadStepped {N : Type 0} (v : Values N) (u : World) (l : LoadNumber) (r : Result (LoadReply N) Error) (u' : World) : Type 0 where
+  pub moves : IfOk r (λ reply. LoadSteps v u l reply u')
+  pub refused : IfErr r (λ e. (step_fault u l ≡ Some e) × Stays u u')
+
+abbrev pub begun_readings : Beginning → ℕ → (ℕ → Option Reading) → ℕ → Option Reading
+begun_readings beginnings.InMemory t readings = readings
+begun_readings (beginnings.Load l key) t readings = updated l.0 (Some (fresh l t)) readings
+
+-- a load of a key begins, which is read as a value of this type
+pub record KeyStarted (u : World) (key t : ℕ) (r : Result Beginning Error) (u' : World) : Type 0 where
+  pub step : BeginKeyCall u.core owners.Caller key r u'.core
+  pub begun : IfOk r (λ b. ReadingsAre (begun_readings b t u.work.readings) u')
+  pub refused : IfErr r (λ e. ReadingsAre u.work.readings u')
+  pub work : WorkStays u.work u'.work
+
+abbrev pub no_shelf : Shelf
+no_shelf = record { slots = λ i. None; waits = λ v. None }
+
+-- Tables and workers are these.
+pub record WorkIs (shelves : ℕ → Shelf) (last : ℕ) (walkings : ℕ → Option Walking) (work : Work) : Type 0 where
+  pub same_shelves : (t : ℕ) → SameShelf (shelves t) (work.shelves t)
+  pub last_is : work.last_table ≡ last
+  pub same_walkings : SameAt walkings work.walkings
+
+-- a new table, under the next number; numbers of tables and workers are never wanting
+pub record Tabled (u : World) (r : Result TableNumber Error) (u' : World) : Type 0 where
+  pub made : IfOk r (λ t. (t.0 ≡ u.work.last_table + 1) × Alike u.core u'.core × ReadingsAre u.work.readings u' × WorkIs (updated t.0 no_shelf u.work.shelves) t.0 u.work.walkings u'.work)
+  pub refused : IfErr r (λ e. (e ≡ errors.OutOfMemory) × Stays u u')
 
 -- there is such a table, or none
-abbrev pub IsTable : Whole → TableNumber → Type 0
-IsTable w t = (0 < t.0) × (t.0 ≤ w.last.table)
+abbrev pub IsTable : World → TableNumber → Type 0
+IsTable u t = (0 < t.0) × (t.0 ≤ u.work.last_table)
 
-abbrev pub IsNoTable : Whole → TableNumber → Type 0
-IsNoTable w t = (t.0 ≡ 0) ⊎ (w.last.table < t.0)
+abbrev pub IsNoTable : World → TableNumber → Type 0
+IsNoTable u t = (t.0 ≡ 0) ⊎ (u.work.last_table < t.0)
 
--- one more worker, under the next number
-abbrev pub with_worker : Whole → TableNumber → Task → Whole
-with_worker w t task =
-    record w {
-      workers = w.workers ++ record { number = record { 0 = w.last.worker + 1 }; table = t; task = task; steps = 0; answer = None } ∷ [];
-      last = record w.last { worker = w.last.worker + 1 };
-    }
+-- one more worker is at work, under the next number
+abbrev pub with_worker : Core → Core
+with_worker w = record w { workers = updated (w.last.worker + 1) true w.workers; last = record w.last { worker = w.last.worker + 1 } }
+
+abbrev pub new_walking : TableNumber → Task → Walking
+new_walking t task = record { table = t.0; task = task; todo = first_todo task; steps = 0; answer = None }
+
+-- a worker of this number starts on the table, and the pager becomes this
+pub record Starts (u : World) (t : TableNumber) (task : Task) (core : Core) (v : WorkerNumber) (u' : World) : Type 0 where
+  pub table : IsTable u t
+  pub next : v.0 ≡ u.core.last.worker + 1
+  pub pager : Alike (with_worker core) u'.core
+  pub readings : ReadingsAre u.work.readings u'
+  pub work : WorkIs u.work.shelves u.work.last_table (updated v.0 (Some (new_walking t task)) u.work.walkings) u'.work
 
 -- a worker for an item
-abbrev pub StartedItem : Whole → TableNumber → Task → Result WorkerNumber Error → Whole → Type 0
-StartedItem w t task (Ok v) w' = IsTable w t × (v.0 ≡ w.last.worker + 1) × (w' ≡ with_worker w t task)
-StartedItem w t task (Err e) w' = Stays w w' × Refuses (IsNoTable w t) ⊥ ⊥ ⊥ ⊥ (IsFull w w') e
-
--- the kinds of this type are numbers of 32 bits
-abbrev pub HasKinds : ℕ → Type 0
-HasKinds node_type = loose_kind node_type < 2 ^ 32
+pub record StartedItem (u : World) (t : TableNumber) (task : Task) (r : Result WorkerNumber Error) (u' : World) : Type 0 where
+  pub starts : IfOk r (λ v. Starts u t task u.core v u')
+  pub refused : IfErr r (λ e. (((e ≡ errors.NoSuchHandle) × IsNoTable u t) ⊎ ((e ≡ errors.OutOfMemory) × IsTable u t)) × Stays u u')
 
 -- the entry at this place is of a cell of this type
-abbrev pub IsEntryOf : Whole → ℕ → HandleNumber → ℕ → Type 0
-IsEntryOf w i h node_type = (slice_get w.list i ≡ Some h) × RowIs w h (λ row. HasType w row.node node_type)
+pub record IsEntry (w : Core) (i : ℕ) (h : HandleNumber) (row : HandleRow) (t : ℕ) : Type 0 where
+  pub listed : slice_get w.list i ≡ Some h
+  pub live : row_at w h ≡ Some row
+  pub typed : type_at w row.node.0 ≡ Some t
 
--- A worker for an entry of the list, which moves to it. Its cell is paged out as a loose handle sees it; a cell whose type is
--- too great a number for its kinds is refused.
-abbrev pub StartedListed : Whole → TableNumber → ℕ → Result WorkerNumber Error → Whole → Type 0
-StartedListed w t i (Ok v) w' =
-    (h : HandleNumber)
-    × (node_type : ℕ)
-    × IsTable w t
-    × (v.0 ≡ w.last.worker + 1)
-    × (slice_get w.list i ≡ Some h)
-    × HasKinds node_type
-    × RowIs w h (λ row. HasType w row.node node_type
-    × (w' ≡ with_worker (record w { rows = moved (only_handle h) (owners.Worker v) w.rows; list = remove w.list i }) t (of_entry h (record { kind = record { 0 = loose_kind node_type }; node = row.node }))))
-StartedListed w t i (Err e) w' =
-    Stays w w' × Refuses (IsNoTable w t ⊎ (length w.list ≤ i)) ⊥ ⊥ ((h : HandleNumber) × (node_type : ℕ) × IsEntryOf w i h node_type × (¬ HasKinds node_type)) ⊥ (IsFull w w') e
+-- the entry moves to the worker
+abbrev pub with_entry_taken : Core → ℕ → HandleNumber → WorkerNumber → Core
+with_entry_taken w i h v = record w { rows = moved (only_handle h) (owners.Worker v) w.rows; list = remove w.list i }
 
--- The world may give this reply to the event and go on to the new world.
-abbrev pub Step : {N B W : Type 0} → Seen N B W → Whole → Event N B W → EventReply N B W → Whole → Type 0
-Step m w (events.Call call) reply w' = RepliesCall reply (λ r. CallStep m w owners.Caller call r w')
-Step m w (events.LoadStart h) reply w' = RepliesStart reply (λ r. BeginCall w owners.Caller h r w')
-Step m w (events.LoadKey key t) reply w' = RepliesStart reply (λ r. BeginKeyCall w owners.Caller key (of_type t) r w')
-Step m w (events.LoadStep l) reply w' = RepliesLoad reply (λ r. LoadStepped m w l r w')
-Step m w events.TableNew reply w' = RepliesTable reply (λ r. Tabled w r w')
-Step m w (events.WorkerItem t data_given) reply w' = RepliesMade reply (λ r. StartedItem w t (of_item (m.written_of data_given)) r w')
-Step m w (events.WorkerListed t i) reply w' = RepliesMade reply (λ r. StartedListed w t i r w')
-Step m w (events.WorkerStep v) reply w' = RepliesWorker reply (λ r. WorkerStepped m w v r w')
+-- what a worker for an entry does: the cell is paged out as a loose handle sees it
+abbrev pub entry_task : HandleNumber → HandleRow → ℕ → Task
+entry_task h row t = of_entry h (record { kind = record { 0 = loose_kind t }; node = row.node })
 
--- these replies to these events, one step after another
-abbrev pub Run : {N B W : Type 0} → Seen N B W → Whole → List (Event N B W) → List (EventReply N B W) → Whole → Type 0
-Run m w [] [] w' = w' ≡ w
-Run m w (event ∷ events) (reply ∷ replies) w' = (mid : Whole) × Step m w event reply mid × Run m mid events replies w'
-Run m w [] (reply ∷ replies) w' = ⊥
-Run m w (event ∷ events) [] w' = ⊥
+-- A worker for an entry of the list, which moves to it. A cell whose type is too great a number for its kinds is refused.
+pub record StartedListed (u : World) (t : TableNumber) (i : ℕ) (r : Result WorkerNumber Error) (u' : World) : Type 0 where
+  pub starts : IfOk r (λ v. (h : HandleNumber) × (row : HandleRow) × (type : ℕ) × IsEntry u.core i h row type × HasKinds type × Starts u t (entry_task h row type) (with_entry_taken u.core i h v) v u')
+  pub refused : IfErr r (λ e. (((e ≡ errors.NoSuchHandle) × (IsNoTable u t ⊎ (length u.core.list ≤ i)))
+      ⊎ ((e ≡ errors.WrongKind) × IsTable u t × ((h : HandleNumber) × (row : HandleRow) × (type : ℕ) × IsEntry u.core i h row type × HasNoKinds type))
+      ⊎ ((e ≡ errors.OutOfMemory) × IsTable u t × (i < length u.core.list))) × Stays u u')
 
--- the world of a new pager over a storage: no row, nothing given yet, and whatever stands in the storage
-pub record IsNew (w : Whole) : Type 0 where
-  pub rows : w.rows ≡ []
-  pub cells : w.cells ≡ []
-  pub list : w.list ≡ []
-  pub cache : w.cache ≡ []
-  pub loads : w.loads ≡ []
-  pub workers : w.workers ≡ []
-  pub slots : w.slots ≡ []
-  pub last : w.last ≡ record { node = 0; handle = 0; load = 0; table = 0; worker = 0 }
+-- how many steps the worker has made after this one
+abbrev pub steps_after : ℕ → Bool → ℕ
+steps_after n counted = if counted then one_more n else n
+
+-- with its answer a worker ends
+abbrev pub Ends : Option WorkerAnswer → ℕ → Core → Core → Type 0
+Ends None v w w' = Alike w w'
+Ends (Some answer) v w w' = WorkerEnds w v w'
+
+-- a worker makes its next step, which changes the pager, its table and itself
+pub record WorkerSteps {N B W : Type 0} (m : Seen N B W) (u : World) (v : WorkerNumber) (reply : WorkerReply W) (u' : World) : Type 0 where
+  pub walking : Walking
+  pub after : Site
+  pub at : u.work.walkings v.0 ≡ Some walking
+  pub at_work : walking.answer ≡ None
+  pub does : WalkDoes m v.0 (record { core = u.core; shelf = u.work.shelves walking.table; todo = walking.todo }) reply.took after
+  pub answers : reply.answer ≡ answer_after walking.todo reply.took
+  pub counts : reply.steps ≡ steps_after walking.steps (is_counted walking.todo reply.took)
+  pub ends : Ends reply.answer v.0 after.core u'.core
+  pub readings : ReadingsAre u.work.readings u'
+  pub work : WorkIs (updated walking.table after.shelf u.work.shelves) u.work.last_table (updated v.0 (Some (record walking { todo = after.todo; steps = reply.steps; answer = reply.answer })) u.work.walkings) u'.work
+
+-- a worker's next step; or there is no such worker, or it has answered, and nothing changes
+pub record WorkerStepped {N B W : Type 0} (m : Seen N B W) (u : World) (v : WorkerNumber) (r : Result (WorkerReply W) Error) (u' : World) : Type 0 where
+  pub moves : IfOk r (λ reply. WorkerSteps m u v reply u')
+  pub refused : IfErr r (λ e. (e ≡ errors.NoSuchHandle) × (if_there (λ (walking : Walking). is_some walking.answer) true (u.work.walkings v.0) ≡ true) × Stays u u')
+
+abbrev pub Happens : {N B W : Type 0} → Seen N B W → World → Event N B W → EventReply N B W → World → Type 0
+Happens m u (events.Call call) reply u' = RepliesCall reply (λ r. OnlyCore u (λ w'. CallStep m u.core owners.Caller call r w') u')
+Happens m u (events.LoadStart h) reply u' = RepliesStart reply (λ r. OnlyCore u (λ w'. BeginCall u.core owners.Caller h r w') u')
+Happens m u (events.LoadKey key t) reply u' = RepliesStart reply (λ r. KeyStarted u key t r u')
+Happens m u (events.LoadStep l) reply u' = RepliesLoad reply (λ r. LoadStepped m.values u l r u')
+Happens m u events.TableNew reply u' = RepliesTable reply (λ r. Tabled u r u')
+Happens m u (events.WorkerItem t item) reply u' = RepliesMade reply (λ r. StartedItem u t (of_item (m.written_of item)) r u')
+Happens m u (events.WorkerListed t i) reply u' = RepliesMade reply (λ r. StartedListed u t i r u')
+Happens m u (events.WorkerStep v) reply u' = RepliesWorker reply (λ r. WorkerStepped m u v r u')
+
+-- The world may give this reply to the event, and go on to the new world.
+pub record Step {N B W : Type 0} (m : Seen N B W) (u : World) (event : Event N B W) (reply : EventReply N B W) (u' : World) : Type 0 where
+  pub happens : Happens m u event reply u'

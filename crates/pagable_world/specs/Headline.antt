@@ -1,24 +1,208 @@
--- The main theorem, as a clause for the contract of the machine's run.
-use Rattle.std.specs.Prelude.{List}
-use Rattle.pagable_world.specs.Seen.{Seen, IsLawful}
-use Rattle.pagable_world.specs.Pages.{Pages, WellFormed}
-use Rattle.pagable_world.specs.Stands.{TreeWorld, Represents}
-use Rattle.pagable_world.specs.Events.{IsNew}
-use Rattle.pagable_world.specs.Premises.{ReadsItsTypes}
-use Rattle.pagable_world.specs.Runs.{Moment, AreSteps, ArePremised, Along, TreeStep}
-use Rattle.pagable_world.specs.Interleaved.{IsInterleaved}
+-- The main theorem, a law of chains: what loads and page-outs answer and leave, by trees; and what workers and claims come to.
+use Rattle.std.specs.Prelude.{ℕ, ◌≡◌, ◌≢◌, ◌+◌, ◌≤◌, ◌==◌, true, false, List, [], ◌∷◌, Option, Some, Ok, is_some, Bool, ◌&&◌}
+use Rattle.pagable_model.specs.Merkle.{KeyOf, KeyOfItem, TreeForm, IsCanonicalItem}
+use Rattle.pagable_model.specs.Canonical.{IsCanonicalTree}
+use Rattle.pagable_world.specs.Plain.{ArcRef, HandleNumber, Identity, Blob, Tree, ReadsTree, Shape, HandleRow, Took, WorkerAnswer, Event, EventReply, Among, times, is_loose_kind, if_there, one}
+use Rattle.pagable_model.specs.declared.data_key.OptionalDataKey.TheVariants as optional
+use Rattle.pagable_world.specs.declared.handles.Owner.TheVariants as owners
+use Rattle.pagable_world.specs.declared.answers.Pinning.TheVariants as pinnings
+use Rattle.pagable_world.specs.declared.calls.Call.TheVariants as calls
+use Rattle.pagable_world.specs.declared.calls.Reply.TheVariants as replies
+use Rattle.pagable_world.specs.declared.events.Claim.TheVariants as claims
+use Rattle.pagable_world.specs.declared.events.PinStep.TheVariants as pinsteps
+use Rattle.pagable_world.specs.declared.events.Took.TheVariants as took
+use Rattle.pagable_world.specs.declared.events.WorkerAnswer.TheVariants as finals
+use Rattle.pagable_world.specs.declared.events.LoadAnswer.TheVariants as ends
+use Rattle.pagable_world.specs.declared.events.Event.TheVariants as events
+use Rattle.pagable_world.specs.declared.events.EventReply.TheVariants as answers
+use Rattle.pagable_world.specs.Kinds.{identity_of, is_owned_by, owner_worker}
+use Rattle.pagable_world.specs.World.{OpenLoad, Shelf, Slot, Written, no_result, failed, Reading, Task, of_item, of_entry, Walking, World, row_at, key_at, Values, Seen, IsLawful}
+use Rattle.pagable_world.specs.Refusals.{IsReference}
+use Rattle.pagable_world.specs.Workers.{IsPublished, is_workers_load}
+use Rattle.pagable_world.specs.Events.{reading_at}
+use Rattle.pagable_world.specs.Pager.{PagerState, MachineState, world_of, IsMachineWhole, IsIdle, ValueStands, StandsFor, kids_of}
+use Rattle.pagable_world.specs.Runs.{ReadsItsTypes, HoldsSettled, Moment, AreMoments, state_after, events_of, replies_of, Fact, TreesAlong}
+use Rattle.pagable_world.specs.Order.{steps_of, InOrder, OnceEach, MetError, IsBounded, HasStepLeft, IsWithinBound, is_claim_of}
 
--- worlds with trees, one after each moment, that the pager stands for; and P of all
-abbrev pub HasTrees : {N B W : Type 0} → Seen N B W → (Pages N → TreeWorld → List (Moment N B W) → List TreeWorld → Type 0) → Pages N → List (Moment N B W) → Type 0
-HasTrees m P s moments = (u : TreeWorld) → Represents m s u → (worlds : List TreeWorld) × Along (TreeStep m) s u moments worlds × P s u moments worlds
+-- the node of this handle has a value in memory, which stands for the tree that the node was made with
+pub record GivesTree {N E : Type 0} (v : Values N) (s : PagerState N E) (trees : ℕ → Tree) (k : HandleNumber) : Type 0 where
+  pub row : HandleRow
+  pub x : N
+  pub live : row_at s.core k ≡ Some row
+  pub held : s.values row.node.0 ≡ Some x
+  pub stands : ValueStands v s x (trees row.node.0)
 
--- All that has happened to a pager since it was new is a run of whole states. Where the types are read back from their forms
--- and each event met what is asked of it, each pin that succeeds gives the tree its handle was made with, each count is the
--- number of pinned handles, a cell holds its value exactly while it is pinned or keyless, and each page-out that answers a key
--- claimed every node at most once and answers the key of its item or cell.
--- To be carried by: the machine's run, over its ghost history, which begins with the new pager.
-pub record Headline {N B W : Type 0} (m : Seen N B W) (start : Pages N) (moments : List (Moment N B W)) : Type 0 where
-  pub new : IsNew start.world
-  pub begins : WellFormed m start
-  pub steps : AreSteps m start moments
-  pub trees : IsLawful m → ReadsItsTypes m.types → ArePremised m start moments → HasTrees m (IsInterleaved m) start moments
+-- each pin that succeeds gives the tree that its handle's node was made with
+abbrev pub PinGives : {N E B W : Type 0} → Values N → Fact N E B W
+PinGives v s trees (events.Call (calls.Pin h)) (answers.CallReply (replies.Pin (Ok (pinnings.Pinned k)))) s' trees' = GivesTree v s'.pager trees' k
+PinGives v s trees (events.LoadStep l) (answers.LoadMoved (Ok reply)) s' trees' = (k : HandleNumber) → reply.ended ≡ Some (ends.Pinned k) → GivesTree v s'.pager trees' k
+PinGives v s trees (events.Call (calls.LoadEnd l x)) (answers.CallReply (replies.LoadEnded (Ok k))) s' trees' = GivesTree v s'.pager trees' k
+PinGives v s trees (events.WorkerStep n) (answers.WorkerMoved (Ok reply)) s' trees' = (i : Identity) (k : HandleNumber) → reply.took ≡ took.Pin i (Ok (pinsteps.Held k)) → GivesTree v s'.pager trees' k
+PinGives v s trees event reply s' trees' = Unit {0}
+
+-- A value that a load of a key answers stands for the tree that the key reads as, and the caller has its references.
+pub record ReadIsRight {N E : Type 0} (v : Values N) (s : PagerState N E) (key : ℕ) (x : N) : Type 0 where
+  pub stands : (t : Tree) → t.type ≡ v.node_type x → ReadsTree s.core.stored v.types key t → ValueStands v s x t
+  pub own : (r : ArcRef) → Among (v.references x) r → IsReference s.core owners.Caller r
+
+abbrev pub ReadGives : {N E B W : Type 0} → Values N → Fact N E B W
+ReadGives {N} v s trees (events.LoadStep l) (answers.LoadMoved (Ok reply)) s' trees' = (load : OpenLoad) (x : N) → s.pager.core.loads l.0 ≡ Some load → reply.ended ≡ Some (ends.Read x) → ReadIsRight v s'.pager load.key x
+ReadGives v s trees event reply s' trees' = Unit {0}
+
+-- What a task meets: the references of its item, or its listed cell, and those that were written of what it met. The least such set, since it is made by these cases alone.
+pub data Meets (shelf : Shelf) (task : Task) : Identity → Type 0 where
+  meets-of-item : (written : Written) (r : ArcRef) → task ≡ of_item written → Among written.references r → Meets shelf task (identity_of r)
+  meets-entry : (h : HandleNumber) (i : Identity) → task ≡ of_entry h i → Meets shelf task i
+  meets-below : (i : Identity) (slot : Slot) (written : Written) (r : ArcRef) → Meets shelf task i → shelf.slots i ≡ Some slot → slot.written ≡ Some written → Among written.references r → Meets shelf task (identity_of r)
+
+-- some worker of the table does
+pub record TableMeets (u : World) (t : ℕ) (i : Identity) : Type 0 where
+  pub n : ℕ
+  pub walking : Walking
+  pub there : u.work.walkings n ≡ Some walking
+  pub on_table : walking.table ≡ t
+  pub meets : Meets (u.work.shelves t) walking.task i
+
+-- one key for each reference: the one that is known of its identity
+abbrev pub AreKeysOf : Shelf → List ArcRef → List ℕ → Type 0
+AreKeysOf shelf [] [] = Unit {0}
+AreKeysOf shelf (r ∷ rs) (k ∷ ks) = ((height : ℕ) × IsPublished shelf (identity_of r) k height) × AreKeysOf shelf rs ks
+AreKeysOf shelf [] (k ∷ ks) = ⊥
+AreKeysOf shelf (r ∷ rs) [] = ⊥
+
+-- The identity was paged out: under its key stands a blob, a form of the node's tree over the keys of what was written of it.
+pub record IsLeftPagedOut {N E : Type 0} (v : Values N) (s : PagerState N E) (shelf : Shelf) (trees : ℕ → Tree) (i : Identity) : Type 0 where
+  pub slot : Slot
+  pub written : Written
+  pub blob : Blob
+  pub key : ℕ
+  pub height : ℕ
+  pub shape : Shape
+  pub claimed : shelf.slots i ≡ Some slot
+  pub written_is : slot.written ≡ Some written
+  pub known : IsPublished shelf i key height
+  pub stored : s.core.stored key ≡ Some blob
+  pub keys : AreKeysOf shelf written.references blob.keys
+  pub has_shape : v.types.nodes (trees i.node.0).type ≡ Some shape
+  pub form : TreeForm v.types shape (trees i.node.0).meaning blob.bytes (kids_of trees written.references)
+
+-- the cell has a key that reads as its tree
+pub record HasKeyOf {N E : Type 0} (v : Values N) (s : PagerState N E) (trees : ℕ → Tree) (n : ℕ) : Type 0 where
+  pub key : ℕ
+  pub set : key_at s.core n ≡ optional.Some key
+  pub reads : ReadsTree s.core.stored v.types key (trees n)
+
+-- what a worker leaves when it answers a key: all that it met, and keys of the live cells that it met through a loose reference
+pub record LeavesAll {N E : Type 0} (v : Values N) (s : PagerState N E) (shelf : Shelf) (trees : ℕ → Tree) (task : Task) : Type 0 where
+  pub blobs : (i : Identity) → Meets shelf task i → IsLeftPagedOut v s shelf trees i
+  pub cells : (i : Identity) → Meets shelf task i → is_loose_kind i.kind.0 ≡ true → is_some (s.core.cells i.node.0) ≡ true → HasKeyOf v s trees i.node.0
+
+-- P of a worker that answers this key with its step
+abbrev pub AnswersKey : {N E B W : Type 0} → (MachineState N E → (ℕ → Tree) → Walking → ℕ → Type 0) → Fact N E B W
+AnswersKey P s trees (events.WorkerStep n) (answers.WorkerMoved (Ok reply)) s' trees' = (walking : Walking) (key : ℕ) → s'.work.walkings n.0 ≡ Some walking → reply.answer ≡ Some (finals.Key key) → P s' trees' walking key
+AnswersKey P s trees event reply s' trees' = Unit {0}
+
+abbrev pub AnswerLeavesAll : {N E B W : Type 0} → Values N → Fact N E B W
+AnswerLeavesAll v = AnswersKey (λ s trees walking key. LeavesAll v s.pager (s.work.shelves walking.table) trees walking.task)
+
+-- The key is that of the item or the listed cell; and where that is canonical, it is its only one.
+abbrev pub IsKeyOfTask : {N : Type 0} → Values N → (ℕ → Tree) → Task → ℕ → Type 0
+IsKeyOfTask v trees (of_item written) key =
+    KeyOfItem v.hash v.types written.bytes (kids_of trees written.references) key
+    × (IsCanonicalItem v.types written.bytes (kids_of trees written.references) → (other : ℕ) → KeyOfItem v.hash v.types written.bytes (kids_of trees written.references) other → other ≡ key)
+IsKeyOfTask v trees (of_entry h i) key =
+    KeyOf v.hash v.types (trees i.node.0) key × (IsCanonicalTree v.types (trees i.node.0) → (other : ℕ) → KeyOf v.hash v.types (trees i.node.0) other → other ≡ key)
+
+abbrev pub AnswerIsKey : {N E B W : Type 0} → Values N → Fact N E B W
+AnswerIsKey v = AnswersKey (λ s trees walking key. IsKeyOfTask v trees walking.task key)
+
+-- a key that is published is the tree's, and a cell had one by then
+abbrev pub PublishIsKey : {N E B W : Type 0} → Values N → Fact N E B W
+PublishIsKey v s trees (events.WorkerStep n) (answers.WorkerMoved (Ok reply)) s' trees' =
+    (i : Identity) (key height : ℕ) → reply.took ≡ took.Publish i key height → KeyOf v.hash v.types (trees i.node.0) key × (is_loose_kind i.kind.0 ≡ true → (set : ℕ) × (key_at s.pager.core i.node.0 ≡ optional.Some set))
+PublishIsKey v s trees event reply s' trees' = Unit {0}
+
+-- all that holds of one event by trees
+pub record IsRight {N E B W : Type 0} (v : Values N) (s : MachineState N E) (trees : ℕ → Tree) (event : Event N B W) (reply : EventReply N B W) (s' : MachineState N E) (trees' : ℕ → Tree) : Type 0 where
+  pub pins_give : PinGives v s trees event reply s' trees'
+  pub reads_give : ReadGives v s trees event reply s' trees'
+  pub leaves : AnswerLeavesAll v s trees event reply s' trees'
+  pub publishes : PublishIsKey v s trees event reply s' trees'
+  pub key : AnswerIsKey v s trees event reply s' trees'
+
+-- whether the worker is on the table
+abbrev pub is_on_table : ℕ → Option Walking → Bool
+is_on_table t walking = if_there (λ (w : Walking). w.table == t) false walking
+
+-- how often the identity was claimed in these replies by workers of the table
+unfoldable pub claims_made : {N B W : Type 0} → (ℕ → Option Walking) → ℕ → Identity → List (Event N B W) → List (EventReply N B W) → ℕ
+claims_made walkings t i (events.WorkerStep v ∷ more) (answers.WorkerMoved (Ok reply) ∷ rest) = one (is_on_table t (walkings v.0) && is_claim_of i reply.took) + claims_made walkings t i more rest
+claims_made walkings t i (event ∷ more) (reply ∷ rest) = claims_made walkings t i more rest
+claims_made walkings t i [] rest = 0
+claims_made walkings t i (event ∷ more) [] = 0
+
+-- no identity is claimed twice on a table, and whatever is claimed is met
+pub record ClaimsAreRight {N B W : Type 0} (u : World) (happened : List (Event N B W)) (replied : List (EventReply N B W)) : Type 0 where
+  pub distinct : (t : ℕ) (i : Identity) → claims_made u.work.walkings t i happened replied ≤ 1
+  pub met : (t : ℕ) (i : Identity) → is_some ((u.work.shelves t).slots i) ≡ true → TableMeets u t i
+
+-- another worker's claim of the identity failed
+pub record FailedElsewhere (shelf : Shelf) (n : ℕ) (i : Identity) : Type 0 where
+  pub slot : Slot
+  pub claimed : shelf.slots i ≡ Some slot
+  pub of_another : (slot.worker == n) ≡ false
+  pub is_failed : slot.outcome ≡ failed
+
+-- a worker failed with a refusal that a step of its own met, or since another had failed where its walk came
+abbrev pub IsMetFailure : {W : Type 0} → Shelf → ℕ → List (Took W) → WorkerAnswer → Type 0
+IsMetFailure shelf n steps (finals.Key key) = Unit {0}
+IsMetFailure {W} shelf n steps (finals.Failed e) = (step : Took W) × Among steps step × MetError step e
+IsMetFailure shelf n steps finals.AlreadyFailed = (i : Identity) × Among steps (took.Claim i (Ok claims.AlreadyFailed)) × FailedElsewhere shelf n i
+
+-- a worker that has answered has a result in each slot that it claimed, owns no handle and has no load open
+pub record HasLetGo (u : World) (n : ℕ) (shelf : Shelf) : Type 0 where
+  pub results : (i : Identity) (slot : Slot) → shelf.slots i ≡ Some slot → slot.worker ≡ n → slot.outcome ≢ no_result
+  pub handles : times (is_owned_by (owner_worker n)) u.core.rows ≡ 0
+  pub loads : (l : ℕ) → is_workers_load n (u.core.loads l) ≡ false
+
+-- Of one worker, with all its steps: they are in order, each kind once for an identity, and within their bound; and its answer is one that they led to.
+pub record WorkerIsRight {W : Type 0} (f : W → Written) (u : World) (n : ℕ) (walking : Walking) (steps : List (Took W)) : Type 0 where
+  pub order : InOrder f walking.task steps
+  pub once : OnceEach steps
+  pub bounded : IsBounded f walking steps
+  pub met : (answer : WorkerAnswer) → walking.answer ≡ Some answer → IsMetFailure (u.work.shelves walking.table) n steps answer
+  pub let_go : (answer : WorkerAnswer) → walking.answer ≡ Some answer → HasLetGo u n (u.work.shelves walking.table)
+
+-- an open load whose steps the machine makes has one left
+abbrev pub LoadsHaveStepsLeft : {N : Type 0} → Values N → World → Type 0
+LoadsHaveStepsLeft v u = (l : ℕ) (reading : Reading) (load : OpenLoad) → u.work.readings l ≡ Some reading → u.core.loads l ≡ Some load → HasStepLeft v.types u.core.stored load.key reading
+
+-- what all steps so far come to, without trees
+pub record WorkIsRight {N E B W : Type 0} (m : Seen N B W) (s : MachineState N E) (happened : List (Event N B W)) (replied : List (EventReply N B W)) : Type 0 where
+  pub claims_right : ClaimsAreRight (world_of s) happened replied
+  pub workers : (n : ℕ) (walking : Walking) → s.work.walkings n ≡ Some walking → WorkerIsRight m.written_of (world_of s) n walking (steps_of n happened replied)
+  pub loads : LoadsHaveStepsLeft m.values (world_of s)
+
+-- a load's step is within its bound
+abbrev pub StepIsWithin : {N E B W : Type 0} → Values N → MachineState N E → Event N B W → EventReply N B W → Type 0
+StepIsWithin v s (events.LoadStep l) (answers.LoadMoved (Ok reply)) =
+    (reading : Reading) (load : OpenLoad) → reading_at (world_of s) l ≡ Some reading → s.pager.core.loads l.0 ≡ Some load → IsWithinBound v.types s.pager.core.stored reading.node_type load.key reply
+StepIsWithin v s event reply = Unit {0}
+
+abbrev pub StepsAreWithin : {N E B W : Type 0} → Values N → MachineState N E → List (Moment N E B W) → Type 0
+StepsAreWithin v s [] = Unit {0}
+StepsAreWithin v s (x ∷ xs) = StepIsWithin v s x.event x.reply × StepsAreWithin v x.after xs
+
+-- What holds of a chain. Each event is a step of the plain world that leaves the machine whole: so each count is the number of pinning handles, and a
+-- cell holds its value exactly while it is pinned or has no key. Workers' steps are in order, each identity is claimed at most once on a table, and
+-- all is within its bounds. And where the types are read back from their forms and each event met what is asked of it, each pin that succeeds gives
+-- the tree that its node was made with, and each page-out that answers a key leaves all that it met stored and answers the key of its item or cell.
+pub record Headline {N E B W : Type 0} (m : Seen N B W) (start : MachineState N E) (moments : List (Moment N E B W)) : Type 0 where
+  pub chain : AreMoments m start moments
+  pub work : WorkIsRight m (state_after start moments) (events_of moments) (replies_of moments)
+  pub loads : StepsAreWithin m.values start moments
+  pub trees : (trees : ℕ → Tree) → StandsFor m.values start trees → IsLawful m.values → ReadsItsTypes m.values.types → HoldsSettled m.values start.pager → TreesAlong m (IsRight m.values) start trees moments
+
+-- The law: it holds of every chain that begins at a whole machine for which nobody works yet, over any pager and storage.
+abbrev pub HeadlineLaw : {N B W : Type 0} → (E : Type 0) → Seen N B W → Type 0
+HeadlineLaw {N} {B} {W} E m = (start : MachineState N E) (moments : List (Moment N E B W)) → IsMachineWhole m.values start → IsIdle start → AreMoments m start moments → Headline m start moments

@@ -1,248 +1,257 @@
--- The calls on loads: one reading of a value from the store, from its begin to its end.
-use Rattle.std.specs.Prelude.{ℕ, ◌≡◌, ◌≢◌, ◌+◌, ◌<◌, ◌⊎◌, Bool, true, false, not, ◌&&◌, ◌==◌, List, [], ◌∷◌, ◌++◌, filter, map, Option, Some, None, Result, Ok, Err, nat_lt}
-use Rattle.pagable_model.specs.declared.error.Error.{Error}
+-- A load's steps: a fetch, a lazily read cell or an adoption each, and in the end a pin, an answer or a refusal. What it does next is told by the innermost of its blobs.
+use Rattle.std.specs.Prelude.{ℕ, ◌≡◌, ◌≤◌, ◌<◌, ◌⊎◌, if◌then◌else◌, List, [], ◌∷◌, ◌++◌, length, map, Option, Some, None, Result, Ok, Err, ◌==◌, ◌+◌, slice_get}
+use Rattle.pagable_model.specs.Reading.{Rest, read_typed}
+use Rattle.pagable_model.specs.Standing.{Answer, handles_at}
+use Rattle.pagable_world.specs.Plain.{Error, ArcRef, Kind, HandleNumber, Blob, Types, type_of, Meaning, Owner, HandleRow, LoadAnswer, is_eager, longest_path}
 use Rattle.pagable_model.specs.declared.error.Error.TheVariants as errors
-use Rattle.pagable_model.specs.declared.data_key.OptionalDataKey.TheVariants as optional
-use Rattle.pagable_model.specs.declared.numbers.Kind.{Kind}
-use Rattle.pagable_model.specs.declared.numbers.ArcRef.{ArcRef}
-use Rattle.pagable_model.specs.declared.numbers.HandleNumber.{HandleNumber}
-use Rattle.pagable_model.specs.declared.numbers.LoadNumber.{LoadNumber}
-use Rattle.pagable_model.specs.declared.numbers.NodeNumber.{NodeNumber}
-use Rattle.pagable_model.specs.Blob.{Blob}
-use Rattle.pagable_model.specs.Trees.{type_of}
-use Rattle.pagable_world.specs.declared.rows.Mode.{Mode}
-use Rattle.pagable_world.specs.declared.rows.Mode.TheVariants as modes
-use Rattle.pagable_world.specs.declared.rows.Owner.{Owner}
-use Rattle.pagable_world.specs.declared.rows.Owner.TheVariants as owners
-use Rattle.pagable_world.specs.declared.rows.HandleRow.{HandleRow}
-use Rattle.pagable_world.specs.declared.answers.Beginning.{Beginning}
-use Rattle.pagable_world.specs.declared.answers.Beginning.TheVariants as beginnings
-use Rattle.pagable_world.specs.declared.calls.Want.{Want}
 use Rattle.pagable_world.specs.declared.calls.Want.TheVariants as wants
-use Rattle.pagable_world.specs.World.{greatest}
-use Rattle.pagable_world.specs.Words.{Among, times, is_in}
-use Rattle.pagable_world.specs.Kinds.{IsModeOf}
-use Rattle.pagable_world.specs.Whole.{Whole, Root, of_cell, of_type, of_key, OpenLoad, is_open_load, is_owner, RowIs, IsNotLive, HasType, HasOpenLoad, Stays}
-use Rattle.pagable_world.specs.Causes.{Refuses, RefusesHandle, RefusesReferences, RefusesLoad, AreReferences, IsSpent, IsFull, IsForeign, IsUnfit, AnyMode, LooseMode, Owns, IsNotOpen, IsForeignLoad, OwnsLoad}
-use Rattle.pagable_world.specs.Falls.{Falls, FallsAnyhow}
-use Rattle.pagable_world.specs.Handles.{with_handle, with_mode, with_node, next_node, moved, is_named_by, IsNext, IsInMemory, IsPagedOut, IsRefused}
-use Rattle.pagable_world.specs.Storing.{HasCached, IsUncached, IsCachedAs, with_cached, FetchCall}
+use Rattle.pagable_world.specs.declared.events.LoadAnswer.TheVariants as ends
+use Rattle.pagable_world.specs.World.{Core, Root, of_cell, of_key, OpenLoad, Frame, Reading, row_at, one_more, Alike, Values}
+use Rattle.pagable_world.specs.LoadCalls.{from_cache, from_store, AskCall, AdoptCall, LazyCall, EndCall, HandOverCall, LoadCloses}
 
--- one more load, under the next number
-abbrev pub with_load : Whole → ℕ → Root → Owner → Whole
-with_load w key root me =
-    record w {
-      loads = w.loads ++ record { number = record { 0 = w.last.load + 1 }; owner = me; key = key; root = root; frames = []; steps = 0 } ∷ [];
-      last = record w.last { load = w.last.load + 1 };
-    }
+-- A reference that was got is answered as its own kind. One that wasn't is refused by a name that tells its kind, and that no reader has as a cause of its own.
+abbrev pub answer_of : Option ArcRef → ℕ → Result ArcRef Error
+answer_of None kind = Err (errors.Storage kind)
+answer_of (Some r) kind = if r.kind.0 == kind then Ok r else Err errors.WrongKind
 
--- the answer is the next load's number, which is there
-abbrev pub IsNextLoad : LoadNumber → Whole → Type 0
-IsNextLoad l w = (l.0 ≡ w.last.load + 1) × (w.last.load < greatest)
+-- the answers to a blob's keys, from this place on
+unfoldable pub answers_from : List ArcRef → ℕ → List ℕ → List Answer
+answers_from got place [] = []
+answers_from got place (key ∷ keys) = (λ kind. answer_of (slice_get got place) kind) ∷ answers_from got (place + 1) keys
 
--- the value of the handle's cell has to be read first
-abbrev pub IsHandlePagedOut : Whole → HandleNumber → Type 0
-IsHandlePagedOut w h = RowIs w h (λ row. (key : ℕ) × IsPagedOut w row.node key)
+-- what the blob reads as, as a value of the type, with these references
+abbrev pub read_with : Types → ℕ → Blob → List ArcRef → Result (Meaning ArcRef × Rest Answer) Error
+read_with types t blob got = read_typed (handles_at 0 types.parts) (types.nodes t) (record { bytes = blob.bytes; refs = answers_from got 0 blob.keys })
 
--- A load of a loose handle's cell, with an unpinned clone of its own; or nothing, where the value is in memory.
-abbrev pub BeginCall : Whole → Owner → HandleNumber → Result Beginning Error → Whole → Type 0
-BeginCall w me h (Ok beginnings.InMemory) w' = (row : HandleRow) × Owns w me h LooseMode row × IsInMemory w row.node × (w' ≡ w)
-BeginCall w me h (Ok (beginnings.Load l key)) w' =
-    (row : HandleRow)
-    × (node_type : ℕ)
-    × Owns w me h LooseMode row
-    × IsPagedOut w row.node key
-    × HasType w row.node node_type
-    × IsNextLoad l w
-    × (w.last.handle < greatest)
-    × (w' ≡ with_load (with_handle w row.node modes.LooseUnpinned (owners.Load l)) key (of_cell row.node node_type h (record { 0 = w.last.handle + 1 })) me)
-BeginCall w me h (Err e) w' =
-    Stays w w'
-    × Refuses (IsNotLive w h)
-    (IsForeign w me h)
-    (IsUnfit w h LooseMode)
-    ⊥
-    (IsHandlePagedOut w h × (IsSpent w.last.load 1 ⊎ IsSpent w.last.handle 1))
-    (IsHandlePagedOut w h × IsFull w w')
-    e
+-- what comes next
+pub data Next : Type 0 where
+  -- the blob is read to its end, and means this
+  reads : Meaning ArcRef → Next
+  -- a reference of this kind stands under this key
+  asks : Kind → ℕ → Next
+  -- the blob is refused
+  is_faulty : Error → Next
 
--- a load of a key, for a root of a type or of none
-abbrev pub BeginKeyCall : Whole → Owner → ℕ → Root → Result Beginning Error → Whole → Type 0
-BeginKeyCall w me key root (Ok beginnings.InMemory) w' = ⊥
-BeginKeyCall w me key root (Ok (beginnings.Load l k)) w' = (k ≡ key) × IsNextLoad l w × (w' ≡ with_load w key root me)
-BeginKeyCall w me key root (Err e) w' = Stays w w' × Refuses ⊥ ⊥ ⊥ ⊥ (IsSpent w.last.load 1) (IsFull w w') e
+abbrev pub asks_for : ℕ → Option ℕ → Next
+asks_for kind None = is_faulty errors.NoMoreKeys
+asks_for kind (Some key) = asks (record { 0 = kind }) key
 
--- what a load's asking gives: a clone of a cached handle, or a blob
-pub data Given : Type 0 where
-  from_cache : HandleNumber → Given
-  from_store : Blob → Given
+abbrev pub next_by : Option ℕ → Result (Meaning ArcRef × Rest Answer) Error → Next
+next_by key (Ok (own, rest)) = reads own
+next_by key (Err (errors.Storage kind)) = asks_for kind key
+next_by key (Err e) = is_faulty e
 
--- The blob of the load's own key; of a reference a clone of the cached handle, or else the blob.
-abbrev pub AskCall : Whole → Owner → LoadNumber → Want → Result Given Error → Whole → Type 0
-AskCall w me l wants.Root (Ok (from_store blob)) w' = (load : OpenLoad) × OwnsLoad w me l load × FetchCall w load.key (Ok blob) w'
-AskCall w me l wants.Root (Ok (from_cache k)) w' = ⊥
-AskCall w me l (wants.Nested kind key) (Ok (from_cache k)) w' =
-    (load : OpenLoad) × (row : HandleRow) × OwnsLoad w me l load × HasCached w kind key row × IsNext k w × (w' ≡ with_handle w row.node row.mode (owners.Load l))
-AskCall w me l (wants.Nested kind key) (Ok (from_store blob)) w' = (load : OpenLoad) × OwnsLoad w me l load × IsUncached w kind key × FetchCall w key (Ok blob) w'
-AskCall w me l wants.Root (Err e) w' = (RefusesLoad w me l e × (w' ≡ w)) ⊎ ((load : OpenLoad) × OwnsLoad w me l load × FetchCall w load.key (Err e) w')
-AskCall w me l (wants.Nested kind key) (Err e) w' =
-    (Stays w w' × Refuses (IsNotOpen w l) (IsForeignLoad w me l) ⊥ ⊥ (IsCachedAs w kind key × IsSpent w.last.handle 1) (IsCachedAs w kind key × IsFull w w') e)
-    ⊎ ((load : OpenLoad) × OwnsLoad w me l load × IsUncached w kind key × FetchCall w key (Err e) w')
+abbrev pub next_of : Types → ℕ → Blob → List ArcRef → Next
+next_of types t blob got = next_by (slice_get blob.keys (length got)) (read_with types t blob got)
 
--- a new node with two handles, one of the load's and one of the cache's, which has it under this kind and key
-abbrev pub adopted : Whole → LoadNumber → Kind → ℕ → ℕ → List ArcRef → Mode → Owner → Owner → HandleNumber → Whole
-adopted w l kind key node_type references mode first second cached =
-    record (with_handle (with_handle (with_node w node_type optional.None references) (next_node w) mode first) (next_node w) mode second) { cache = with_cached w kind key cached }
+-- what the innermost blob of a load asks for next
+abbrev pub next_in : Types → Frame → Next
+next_in types frame = next_of types frame.node_type frame.blob frame.got
 
--- either of the two handles may have the smaller number
-abbrev pub Adopts : Whole → LoadNumber → Kind → ℕ → ℕ → List ArcRef → HandleNumber → Whole → Type 0
-Adopts w l kind key node_type references k w' =
-    (mode : Mode)
-    × IsModeOf kind mode
-    × (w.last.handle + 1 < greatest)
-    × (((k.0 ≡ w.last.handle + 1) × (w' ≡ adopted w l kind key node_type references mode (owners.Load l) owners.Cache (record { 0 = w.last.handle + 2 })))
-    ⊎ ((k.0 ≡ w.last.handle + 2) × (w' ≡ adopted w l kind key node_type references mode owners.Cache (owners.Load l) (record { 0 = w.last.handle + 1 }))))
+-- the value was read of the blob: it is of the blob's type, and means what the blob reads as
+pub record IsDecoded {N : Type 0} (v : Values N) (frame : Frame) (x : N) : Type 0 where
+  pub own : Meaning ArcRef
+  pub read : next_in v.types frame ≡ reads own
+  pub typed : v.node_type x ≡ frame.node_type
+  pub means : v.means x own
 
--- the same once the storage is closed: the load alone has a handle
-abbrev pub AdoptsAlone : Whole → LoadNumber → Kind → ℕ → List ArcRef → HandleNumber → Whole → Type 0
-AdoptsAlone w l kind node_type references k w' =
-    (mode : Mode) × IsModeOf kind mode × IsNext k w × (w' ≡ with_handle (with_node w node_type optional.None references) (next_node w) mode (owners.Load l))
+pub data Need : Type 0 where
+  -- the blob of its own key
+  needs_root : Need
+  -- a reference of this kind under this key, which is read together with the value, or isn't
+  needs_nested : Kind → ℕ → Need
+  needs_lazy : Kind → ℕ → Need
+  -- a node of what the innermost blob reads as, for the blob below it
+  to_adopt : Need
+  -- nothing more: the root is read
+  to_end : Need
+  -- the innermost blob is refused
+  is_broken : Error → Need
 
--- how many handles an adoption makes
-abbrev pub handles_made : Bool → ℕ
-handles_made true = 1
-handles_made false = 2
+abbrev pub need_at : List Frame → Next → Need
+need_at below (asks kind key) = if is_eager kind.0 then needs_nested kind key else needs_lazy kind key
+need_at [] (reads own) = to_end
+need_at (frame ∷ frames) (reads own) = to_adopt
+need_at below (is_faulty e) = is_broken e
 
--- What was read becomes a node. Where the cache has one under the kind and key, what was read is dropped, and the load gets
--- a clone of that one. A refusal gives the value x back.
-abbrev pub AdoptCall : {N : Type 0} → Whole → Owner → LoadNumber → Kind → ℕ → N → ℕ → List ArcRef → Result HandleNumber (Error × N) → Whole → Type 0
-AdoptCall w me l kind key x node_type references (Ok k) w' =
-    (load : OpenLoad)
-    × OwnsLoad w me l load
-    × (node_type ≡ type_of kind.0)
-    × AreReferences w (owners.Load l) [] references
-    × (((cached : HandleRow) × HasCached w kind key cached × IsNext k w × FallsAnyhow w (with_handle w cached.node cached.mode (owners.Load l)) (is_named_by references) w')
-    ⊎ (IsUncached w kind key × (w.last.node < greatest) × (w.closed ≡ false) × Adopts w l kind key node_type references k w')
-    ⊎ (IsUncached w kind key × (w.last.node < greatest) × (w.closed ≡ true) × AdoptsAlone w l kind node_type references k w'))
-AdoptCall w me l kind key x node_type references (Err (e, y)) w' =
-    (y ≡ x)
-    × Stays w w'
-    × Refuses (IsNotOpen w l ⊎ RefusesReferences w (owners.Load l) [] references errors.NoSuchHandle)
-    (IsForeignLoad w me l ⊎ RefusesReferences w (owners.Load l) [] references errors.NotYours)
-    (RefusesReferences w (owners.Load l) [] references errors.WrongMode)
-    ((node_type ≢ type_of kind.0) ⊎ RefusesReferences w (owners.Load l) [] references errors.WrongKind)
-    ((IsCachedAs w kind key × IsSpent w.last.handle 1) ⊎ (IsUncached w kind key × (IsSpent w.last.node 1 ⊎ IsSpent w.last.handle (handles_made w.closed))))
-    (IsFull w w')
-    e
+abbrev pub need_of : Types → List Frame → Need
+need_of types [] = needs_root
+need_of types (top ∷ below) = need_at below (next_in types top)
 
--- whether this owner has the handle
-abbrev pub is_owned_in : Whole → Owner → ℕ → Bool
-is_owned_in w owner q = nat_lt 0 (times (λ row. (row.number.0 == q) && is_owner owner row.owner) w.rows)
+-- the root's blob; no node is made of it, so its kind says nothing
+abbrev pub root_frame : ℕ → ℕ → Blob → Frame
+root_frame key t blob = record { kind = record { 0 = 3 }; key = key; node_type = t; blob = blob; got = [] }
 
--- the world without the load
-abbrev pub without_load : Whole → LoadNumber → Whole
-without_load w l = record w { loads = filter (λ load. not (is_open_load l.0 load)) w.loads }
+abbrev pub nested_frame : Kind → ℕ → Blob → Frame
+nested_frame kind key blob = record { kind = kind; key = key; node_type = type_of kind.0; blob = blob; got = [] }
 
--- the load is closed, and gives up what it still owns
-abbrev pub LoadCloses : Whole → LoadNumber → Result (Unit {0}) Error → Whole → Type 0
-LoadCloses w l r w' = Falls w (without_load w l) (is_owned_in w (owners.Load l)) r w'
+-- the innermost frame has got one more reference: this handle, by its row
+abbrev pub with_got : Kind → HandleRow → List Frame → List Frame
+with_got kind row [] = []
+with_got kind row (frame ∷ frames) = record frame { got = frame.got ++ record { kind = kind; node = row.node; handle = row.number } ∷ [] } ∷ frames
 
--- the load is of this cell, of this type, and was begun by this handle
-abbrev pub IsOfCell : OpenLoad → NodeNumber → ℕ → HandleNumber → Type 0
-IsOfCell load node node_type h = (own : HandleNumber) × (load.root ≡ of_cell node node_type h own)
-
--- the load is of a key
-abbrev pub IsKeyRoot : Root → Type 0
-IsKeyRoot (of_cell node node_type h own) = ⊥
-IsKeyRoot (of_type t) = Unit {0}
-IsKeyRoot of_key = Unit {0}
-
--- what the end of a load asks of load and value before it looks at the caller's handle
-pub record MayEnd (w : Whole) (me : Owner) (l : LoadNumber) (node : NodeNumber) (h : HandleNumber) (node_type : ℕ) (references : List ArcRef) : Type 0 where
+-- it has got its root's blob
+pub record GetsRoot (w : Core) (me : Owner) (reading : Reading) (frames : List Frame) (w' : Core) : Type 0 where
   pub load : OpenLoad
-  pub open_load : OwnsLoad w me l load
-  pub of_node : IsOfCell load node node_type h
-  pub good : AreReferences w (owners.Load l) [] references
+  pub blob : Blob
+  pub first : reading.frames ≡ []
+  pub open_load : w.loads reading.load.0 ≡ Some load
+  pub asked : AskCall w me reading.load wants.Root (Ok (from_store blob)) w'
+  pub goes : frames ≡ root_frame load.key reading.node_type blob ∷ []
 
--- The loose handle is pinned, a Pinned one is made and the load is closed. Where the cell has no value, the value comes into
--- it with its references; else it is dropped. In both cases the load gives up what it still owns.
-pub record Installs (w : Whole) (me : Owner) (l : LoadNumber) (node : NodeNumber) (h k : HandleNumber) (references : List ArcRef) (w' : Whole) : Type 0 where
+-- it has got a handle of a node that the cache knows
+pub record GetsCached (types : Types) (w : Core) (me : Owner) (reading : Reading) (frames : List Frame) (w' : Core) : Type 0 where
+  pub kind : Kind
+  pub key : ℕ
+  pub k : HandleNumber
   pub row : HandleRow
-  pub owned : Owns w me h LooseMode row
-  pub at : row.node ≡ node
-  pub next : IsNext k w
-  pub falls :
-      (((key : ℕ) × IsPagedOut w node key)
-      × FallsAnyhow w (with_handle (with_mode (record (without_load w l) { rows = moved (is_named_by references) (owners.Value node) w.rows }) h modes.LoosePinned) node modes.Pinned me) (λ q. is_owned_in w (owners.Load l) q && not (is_named_by references q)) w')
-      ⊎ (IsInMemory w node × FallsAnyhow w (with_handle (with_mode (without_load w l) h modes.LoosePinned) node modes.Pinned me) (is_owned_in w (owners.Load l)) w')
+  pub needs : need_of types reading.frames ≡ needs_nested kind key
+  pub asked : AskCall w me reading.load (wants.Nested kind key) (Ok (from_cache k)) w'
+  pub made : row_at w' k ≡ Some row
+  pub goes : frames ≡ with_got kind row reading.frames
 
--- the load has this number and is open, and P of it
-abbrev pub LoadIs : Whole → LoadNumber → (OpenLoad → Type 0) → Type 0
-LoadIs w l P = (load : OpenLoad) × HasOpenLoad w l load × P load
+-- it has got the reference's blob, and the path isn't too long
+pub record GetsBlob (types : Types) (w : Core) (me : Owner) (reading : Reading) (frames : List Frame) (w' : Core) : Type 0 where
+  pub kind : Kind
+  pub key : ℕ
+  pub blob : Blob
+  pub needs : need_of types reading.frames ≡ needs_nested kind key
+  pub short : length reading.frames ≤ longest_path
+  pub asked : AskCall w me reading.load (wants.Nested kind key) (Ok (from_store blob)) w'
+  pub goes : frames ≡ nested_frame kind key blob ∷ reading.frames
 
--- the load is of a key, or of a cell of another type
-abbrev pub HasNoCell : Whole → LoadNumber → Type 0
-HasNoCell w l = LoadIs w l (λ load. IsKeyRoot load.root)
+-- it has got a handle of a cell of which nothing was read
+pub record GetsLazy (types : Types) (w : Core) (me : Owner) (reading : Reading) (frames : List Frame) (w' : Core) : Type 0 where
+  pub kind : Kind
+  pub key : ℕ
+  pub k : HandleNumber
+  pub row : HandleRow
+  pub needs : need_of types reading.frames ≡ needs_lazy kind key
+  pub asked : LazyCall w me reading.load kind key (Ok k) w'
+  pub made : row_at w' k ≡ Some row
+  pub goes : frames ≡ with_got kind row reading.frames
 
-abbrev pub IsOfOtherType : Whole → LoadNumber → ℕ → Type 0
-IsOfOtherType w l node_type = LoadIs w l (λ load. (node : NodeNumber) × (own_type : ℕ) × (h : HandleNumber) × IsOfCell load node own_type h × (own_type ≢ node_type))
+-- the innermost blob was read as this value, and below it stands another
+pub record ReadsNode {N : Type 0} (v : Values N) (reading : Reading) (x : N) : Type 0 where
+  pub top : Frame
+  pub below : List Frame
+  pub frames : reading.frames ≡ top ∷ below
+  pub needs : need_of v.types reading.frames ≡ to_adopt
+  pub decoded : IsDecoded v top x
 
--- the caller still has the handle that it began the load by
-abbrev pub StillOwns : Whole → Owner → LoadNumber → Type 0
-StillOwns w me l = LoadIs w l (λ load. (node : NodeNumber) × (node_type : ℕ) × (h : HandleNumber) × IsOfCell load node node_type h × RowIs w h (λ row. row.owner ≡ me))
+-- what was read became a node
+pub record MakesNode {N : Type 0} (v : Values N) (w : Core) (me : Owner) (reading : Reading) (frames : List Frame) (w' : Core) : Type 0 where
+  pub x : N
+  pub reads_node : ReadsNode v reading x
+  pub k : HandleNumber
+  pub row : HandleRow
+  pub adopted : AdoptCall w me reading.load reads_node.top.kind reads_node.top.key x (v.node_type x) (v.references x) (Ok k) w'
+  pub made : row_at w' k ≡ Some row
+  pub goes : frames ≡ with_got reads_node.top.kind row reads_node.below
 
--- A load of a cell ends with a pin. Where the caller's handle is gone or moved, it ends in a refusal and the value is
--- dropped; every other refusal leaves it open and gives the value x back.
-abbrev pub EndCall : {N : Type 0} → Whole → Owner → LoadNumber → N → ℕ → List ArcRef → Result HandleNumber (Error × Option N) → Whole → Type 0
-EndCall w me l x node_type references (Ok k) w' =
-    (node : NodeNumber) × (h : HandleNumber) × MayEnd w me l node h node_type references × Installs w me l node h k references w'
-EndCall w me l x node_type references (Err (e, Some y)) w' =
-    (y ≡ x)
-    × Stays w w'
-    × Refuses (IsNotOpen w l ⊎ RefusesReferences w (owners.Load l) [] references errors.NoSuchHandle)
-    (IsForeignLoad w me l ⊎ RefusesReferences w (owners.Load l) [] references errors.NotYours)
-    (HasNoCell w l ⊎ RefusesReferences w (owners.Load l) [] references errors.WrongMode)
-    (IsOfOtherType w l node_type ⊎ RefusesReferences w (owners.Load l) [] references errors.WrongKind)
-    (StillOwns w me l × IsSpent w.last.handle 1)
-    (StillOwns w me l × IsFull w w')
-    e
-EndCall w me l x node_type references (Err (e, None)) w' =
-    (node : NodeNumber)
-    × (h : HandleNumber)
-    × MayEnd w me l node h node_type references
-    × RefusesHandle w me h AnyMode e
-    × ((r : Result (Unit {0}) Error) × LoadCloses w l r w')
+abbrev pub GoesOn : {N : Type 0} → Values N → Core → Owner → Reading → List Frame → Core → Type 0
+GoesOn v w me reading frames w' =
+    GetsRoot w me reading frames w' ⊎ GetsCached v.types w me reading frames w' ⊎ GetsBlob v.types w me reading frames w' ⊎ GetsLazy v.types w me reading frames w' ⊎ MakesNode v w me reading frames w'
 
--- each handle is live, this owner's, and named once
-abbrev pub AreAllOwned : Whole → Owner → List ℕ → List HandleNumber → Type 0
-AreAllOwned w owner seen [] = Unit {0}
-AreAllOwned w owner seen (h ∷ hs) = RowIs w h (λ row. row.owner ≡ owner) × (¬ (is_in seen h.0 ≡ true)) × AreAllOwned w owner (h.0 ∷ seen) hs
+-- the root's blob was read as this value
+pub record ReadsRoot {N : Type 0} (v : Values N) (reading : Reading) (x : N) : Type 0 where
+  pub root : Frame
+  pub frames : reading.frames ≡ root ∷ []
+  pub decoded : IsDecoded v root x
 
--- a handle that is named isn't live; is another's, or is named twice
-abbrev pub NamesUnknown : Whole → List HandleNumber → Type 0
-NamesUnknown w hs = (h : HandleNumber) × Among hs h × IsNotLive w h
+-- the load is of a cell, or of a key
+abbrev pub IsOfCell : Root → Type 0
+IsOfCell (of_cell node t h) = Unit {0}
+IsOfCell of_key = ⊥
 
-abbrev pub NamesForeign : Whole → Owner → List HandleNumber → Type 0
-NamesForeign w owner hs = (h : HandleNumber) × Among hs h × (IsForeign w owner h ⊎ (1 < times (λ (x : HandleNumber). x.0 == h.0) hs))
+abbrev pub IsOfKey : Root → Type 0
+IsOfKey (of_cell node t h) = ⊥
+IsOfKey of_key = Unit {0}
 
--- the load is of a cell
-abbrev pub HasCellRoot : Whole → LoadNumber → Type 0
-HasCellRoot w l = LoadIs w l (λ load. ¬ IsKeyRoot load.root)
+-- the load is open, and is of this sort
+pub record LoadIs (w : Core) (reading : Reading) (P : Root → Type 0) : Type 0 where
+  pub load : OpenLoad
+  pub open_load : w.loads reading.load.0 ≡ Some load
+  pub sort : P load.root
 
-abbrev pub numbers_of : List HandleNumber → List ℕ
-numbers_of hs = map (λ (h : HandleNumber). h.0) hs
+-- the load of a cell ends with a pin of it
+pub record EndsPinned {N : Type 0} (v : Values N) (w : Core) (me : Owner) (reading : Reading) (k : HandleNumber) (w' : Core) : Type 0 where
+  pub x : N
+  pub reads_root : ReadsRoot v reading x
+  pub of_cell_load : LoadIs w reading IsOfCell
+  pub ended : EndCall w me reading.load x (v.node_type x) (v.references x) (Ok k) w'
 
--- a load of a key hands over the handles that are named, gives up the rest and is closed
-abbrev pub HandOverCall : Whole → Owner → LoadNumber → List HandleNumber → Result (Unit {0}) Error → Whole → Type 0
-HandOverCall w me l hs (Ok u) w' =
-    (load : OpenLoad)
-    × OwnsLoad w me l load
-    × IsKeyRoot load.root
-    × AreAllOwned w (owners.Load l) [] hs
-    × FallsAnyhow w (record (without_load w l) { rows = moved (is_in (numbers_of hs)) me w.rows }) (λ q. is_owned_in w (owners.Load l) q && not (is_in (numbers_of hs) q)) w'
-HandOverCall w me l hs (Err e) w' =
-    Refuses (IsNotOpen w l ⊎ NamesUnknown w hs) (IsForeignLoad w me l ⊎ NamesForeign w (owners.Load l) hs) (HasCellRoot w l) ⊥ ⊥ ⊥ e × (w' ≡ w)
+abbrev pub handles_of : List ArcRef → List HandleNumber
+handles_of references = map (λ (r : ArcRef). r.handle) references
 
--- a load is given up
-abbrev pub DropCall : Whole → Owner → LoadNumber → Result (Unit {0}) Error → Whole → Type 0
-DropCall w me l r w' = ((e : Error) × RefusesLoad w me l e × IsRefused w e r w') ⊎ ((load : OpenLoad) × OwnsLoad w me l load × LoadCloses w l r w')
+-- the load of a key hands over the references of the value that was read
+pub record EndsRead {N : Type 0} (v : Values N) (w : Core) (me : Owner) (reading : Reading) (x : N) (w' : Core) : Type 0 where
+  pub reads_root : ReadsRoot v reading x
+  pub of_key_load : LoadIs w reading IsOfKey
+  pub handed : HandOverCall w me reading.load (handles_of (v.references x)) (Ok tt) w'
+
+-- by its blob, or by a cause that the type's own reader has; or since memory is wanting for what is read
+abbrev pub RefusesBlob : {N : Type 0} → Values N → Reading → Error → Type 0
+RefusesBlob v reading e = (need_of v.types reading.frames ≡ is_broken e) ⊎ ((top : Frame) × (below : List Frame) × (reading.frames ≡ top ∷ below) × v.read_causes top.node_type e) ⊎ (e ≡ errors.OutOfMemory)
+
+-- by a fetch; or by the path that is too long, which is seen once the blob was fetched
+abbrev pub RefusesNested : Types → Core → Owner → Reading → Error → Core → Type 0
+RefusesNested types w me reading e w' =
+    (kind : Kind)
+    × (key : ℕ)
+    × (need_of types reading.frames ≡ needs_nested kind key)
+    × (AskCall w me reading.load (wants.Nested kind key) (Err e) w' ⊎ ((blob : Blob) × (e ≡ errors.TooDeep) × (longest_path < length reading.frames) × AskCall w me reading.load (wants.Nested kind key) (Ok (from_store blob)) w'))
+
+-- by an adoption
+pub record RefusesNode {N : Type 0} (v : Values N) (w : Core) (me : Owner) (reading : Reading) (e : Error) (w' : Core) : Type 0 where
+  pub x : N
+  pub reads_node : ReadsNode v reading x
+  pub adopted : AdoptCall w me reading.load reads_node.top.kind reads_node.top.key x (v.node_type x) (v.references x) (Err (e, x)) w'
+
+-- by its end, the load still being open
+pub record RefusesRoot {N : Type 0} (v : Values N) (w : Core) (me : Owner) (reading : Reading) (e : Error) (w' : Core) : Type 0 where
+  pub x : N
+  pub reads_root : ReadsRoot v reading x
+  pub refuses :
+      (LoadIs w reading IsOfCell × EndCall w me reading.load x (v.node_type x) (v.references x) (Err (e, Some x)) w')
+      ⊎ (LoadIs w reading IsOfKey × HandOverCall w me reading.load (handles_of (v.references x)) (Err e) w')
+
+-- a step met this refusal, and the load is still open
+abbrev pub Meets : {N : Type 0} → Values N → Core → Owner → Reading → Error → Core → Type 0
+Meets v w me reading e w' =
+    (RefusesBlob v reading e × Alike w w')
+    ⊎ ((reading.frames ≡ []) × AskCall w me reading.load wants.Root (Err e) w')
+    ⊎ RefusesNested v.types w me reading e w'
+    ⊎ ((kind : Kind) × (key : ℕ) × (need_of v.types reading.frames ≡ needs_lazy kind key) × LazyCall w me reading.load kind key (Err e) w')
+    ⊎ RefusesNode v w me reading e w'
+    ⊎ RefusesRoot v w me reading e w'
+
+-- It met a refusal: it is closed, and all that it owns is given up.
+pub record GivesUp {N : Type 0} (v : Values N) (w : Core) (me : Owner) (reading : Reading) (e : Error) (w' : Core) : Type 0 where
+  pub mid : Core
+  pub meets : Meets v w me reading e mid
+  pub told : Result (Unit {0}) Error
+  pub closes : LoadCloses mid reading.load told w'
+
+-- its end found that the caller's handle is gone, and closed it
+pub record EndsClosed {N : Type 0} (v : Values N) (w : Core) (me : Owner) (reading : Reading) (e : Error) (w' : Core) : Type 0 where
+  pub x : N
+  pub reads_root : ReadsRoot v reading x
+  pub ended : EndCall w me reading.load x (v.node_type x) (v.references x) (Err (e, None)) w'
+
+abbrev pub Fails : {N : Type 0} → Values N → Core → Owner → Reading → Error → Core → Type 0
+Fails v w me reading e w' = GivesUp v w me reading e w' ⊎ EndsClosed v w me reading e w'
+
+abbrev pub Does : {N : Type 0} → Values N → Core → Owner → Reading → Option (LoadAnswer N) → List Frame → Core → Type 0
+Does v w me reading None frames w' = GoesOn v w me reading frames w'
+Does v w me reading (Some (ends.Pinned k)) frames w' = EndsPinned v w me reading k w' × (frames ≡ [])
+Does v w me reading (Some (ends.Read x)) frames w' = EndsRead v w me reading x w' × (frames ≡ [])
+Does v w me reading (Some (ends.Refused e)) frames w' = Fails v w me reading e w' × (frames ≡ [])
+
+-- What a load's step answers, which blobs it reads afterwards, and what it does to the pager. It touches nothing else.
+pub record ReadingDoes {N : Type 0} (v : Values N) (w : Core) (me : Owner) (reading : Reading) (answer : Option (LoadAnswer N)) (frames : List Frame) (w' : Core) : Type 0 where
+  pub does : Does v w me reading answer frames w'
+
+-- the reading after a step, with one step more
+abbrev pub gone_on : Reading → List Frame → Reading
+gone_on reading frames = record reading { frames = frames; steps = one_more reading.steps }

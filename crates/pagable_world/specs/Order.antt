@@ -1,71 +1,85 @@
--- The order of a worker's steps.
-use Rattle.std.specs.Prelude.{ℕ, ◌≡◌, ◌≤◌, ◌==◌, ◌⊎◌, Bool, false, if◌then◌else◌, List, [], ◌∷◌, ◌++◌, Some, None, Ok, Err}
-use Rattle.pagable_model.specs.declared.error.Error.{Error}
-use Rattle.pagable_model.specs.declared.numbers.ArcRef.{ArcRef}
-use Rattle.pagable_model.specs.declared.numbers.Identity.{Identity}
-use Rattle.pagable_model.specs.declared.numbers.HandleNumber.{HandleNumber}
-use Rattle.pagable_model.specs.declared.numbers.LoadNumber.{LoadNumber}
+-- The order of a worker's steps: an automaton over what it has to do, which says nothing of pager and table. And how many steps workers and loads make at most.
+use Rattle.std.specs.Prelude.{ℕ, ◌≡◌, ◌≤◌, ◌==◌, ◌&&◌, if◌then◌else◌, Bool, false, List, [], ◌∷◌, ◌++◌, Some, None, Ok, Err, ◌+◌, ◌*◌, ◌<◌, ◌⊎◌, max, true, map, length, sum_by, Option, IsSome}
+use Rattle.pagable_world.specs.Plain.{Error, HandleNumber, Identity, type_of, Types, ArcRef, Kind, Meaning, Blob, Took, Event, EventReply, LoadReply, times, is_eager, longest_path}
+use Rattle.pagable_model.specs.declared.error.Error.TheVariants as errors
 use Rattle.pagable_world.specs.declared.events.Claim.TheVariants as claims
 use Rattle.pagable_world.specs.declared.events.PinStep.TheVariants as pinsteps
-use Rattle.pagable_world.specs.declared.events.Took.{Took}
 use Rattle.pagable_world.specs.declared.events.Took.TheVariants as took
-use Rattle.pagable_world.specs.declared.events.Event.{Event}
 use Rattle.pagable_world.specs.declared.events.Event.TheVariants as events
-use Rattle.pagable_world.specs.declared.events.EventReply.{EventReply}
 use Rattle.pagable_world.specs.declared.events.EventReply.TheVariants as answers
-use Rattle.pagable_world.specs.Words.{times}
 use Rattle.pagable_world.specs.Kinds.{identity_of}
-use Rattle.pagable_world.specs.Whole.{Task, of_item, of_entry, is_identity}
-use Rattle.pagable_world.specs.Seen.{Seen}
+use Rattle.pagable_world.specs.World.{Written, Frame, was_failed, Todo, to_start, to_pin, to_load, to_write, to_finish, to_item, to_set, to_publish, to_release, to_fail, Task, is_identity, Reading, of_item, of_entry, Walking}
+use Rattle.pagable_world.specs.Loads.{gone_on, Next, reads, asks, is_faulty, next_of}
+use Rattle.pagable_world.specs.Workers.{give, give_known, open_node, first_todo, failing, failing_by, fresh}
 
--- the step that this reply tells of the worker v
+-- the step that this reply tells of the worker
 abbrev pub step_of : {N B W : Type 0} → ℕ → Event N B W → EventReply N B W → List (Took W)
 step_of v (events.WorkerStep u) (answers.WorkerMoved (Ok reply)) = if u.0 == v then reply.took ∷ [] else []
 step_of v event reply = []
 
 -- the worker's steps, in order
-abbrev pub steps_of : {N B W : Type 0} → ℕ → List (Event N B W) → List (EventReply N B W) → List (Took W)
+unfoldable pub steps_of : {N B W : Type 0} → ℕ → List (Event N B W) → List (EventReply N B W) → List (Took W)
 steps_of v (event ∷ more) (reply ∷ rest) = step_of v event reply ++ steps_of v more rest
 steps_of v [] rest = []
 steps_of v (event ∷ more) [] = []
 
--- it waits for another worker, any number of times
-pub data Waits {W : Type 0} (i : Identity) : List (Took W) → Type 0 where
-  no-wait : Waits i []
-  more-waits : (xs : List (Took W)) → Waits i xs → Waits i (took.Claim i (Ok claims.Waiting) ∷ xs)
+-- the step may follow where this is to be done, and this is to be done then
+abbrev pub Follows : {W : Type 0} → (W → Written) → List Todo → Took W → List Todo → Type 0
+Follows f (to_start r place ∷ below) (took.Claim i (Ok claims.Claimed)) next = (i ≡ identity_of r) × (next ≡ to_pin r place ∷ below)
+Follows f (to_start r place ∷ below) (took.Claim i (Ok (claims.Known key height))) next = (i ≡ identity_of r) × (next ≡ give_known r key height below)
+Follows f (to_start r place ∷ below) (took.Claim i (Ok claims.Waiting)) next = (i ≡ identity_of r) × (next ≡ to_start r place ∷ below)
+Follows f (to_start r place ∷ below) (took.Claim i (Ok claims.AlreadyFailed)) next = (i ≡ identity_of r) × (next ≡ failing was_failed (to_start r place ∷ below))
+Follows f (to_start r place ∷ below) (took.Claim i (Err e)) next = (i ≡ identity_of r) × (next ≡ failing_by e (to_start r place ∷ below))
+Follows f (to_pin r place ∷ below) (took.Pin i (Ok (pinsteps.Held k))) next = (i ≡ identity_of r) × ((through : HandleNumber) × (next ≡ to_write r place through ∷ below))
+Follows f (to_pin r place ∷ below) (took.Pin i (Ok (pinsteps.LoadBegun l))) next = (i ≡ identity_of r) × ((through : HandleNumber) × (next ≡ to_load r place through (fresh l (type_of r.kind.0)) ∷ below))
+Follows f (to_pin r place ∷ below) (took.Pin i (Err e)) next = (i ≡ identity_of r) × (next ≡ failing_by e (to_pin r place ∷ below))
+Follows f (to_load r place through reading ∷ below) (took.Pin i (Ok pinsteps.LoadWent)) next = (i ≡ identity_of r) × ((frames : List Frame) × (next ≡ to_load r place through (gone_on reading frames) ∷ below))
+Follows f (to_load r place through reading ∷ below) (took.Pin i (Ok (pinsteps.Held k))) next = (i ≡ identity_of r) × (next ≡ to_write r place through ∷ below)
+Follows f (to_load r place through reading ∷ below) (took.Pin i (Err e)) next = (i ≡ identity_of r) × (next ≡ failing_by e (to_load r place through reading ∷ below))
+Follows f (to_write r place through ∷ below) (took.Write i (Ok out)) next = (i ≡ identity_of r) × (next ≡ open_node r place through (f out) below)
+Follows f (to_write r place through ∷ below) (took.Write i (Err e)) next = (i ≡ identity_of r) × (next ≡ failing_by e (to_write r place through ∷ below))
+Follows f (to_finish o ∷ below) (took.Store (Some i) (Ok key)) next = (i ≡ identity_of o.reference) × (next ≡ to_set o.reference o.through key o.height ∷ below)
+Follows f (to_finish o ∷ below) (took.Store (Some i) (Err e)) next = (i ≡ identity_of o.reference) × (next ≡ failing_by e (to_finish o ∷ below))
+Follows f (to_item written keys ∷ below) (took.Store None (Ok key)) next = next ≡ []
+Follows f (to_item written keys ∷ below) (took.Store None (Err e)) next = next ≡ failing_by e (to_item written keys ∷ below)
+Follows f (to_set r through key height ∷ below) (took.SetKey i (Ok u)) next = (i ≡ identity_of r) × (next ≡ to_publish r key height ∷ below)
+Follows f (to_set r through key height ∷ below) (took.SetKey i (Err e)) next = (i ≡ identity_of r) × (next ≡ failing_by e (to_set r through key height ∷ below))
+Follows f (to_publish r key height ∷ below) (took.Publish i k h) next = (i ≡ identity_of r) × (k ≡ key) × (h ≡ height) × (next ≡ to_release r key height ∷ below)
+Follows f (to_release r key height ∷ below) (took.Release i) next = (i ≡ identity_of r) × (next ≡ give r key height below)
+Follows f (to_fail fault back ∷ below) took.Fail next = next ≡ []
+Follows f todo step next = ⊥
 
--- a load goes on, any number of times, and gives the pin
-pub data LoadRuns {W : Type 0} (i : Identity) : List (Took W) → Type 0 where
-  load-pins : (k : HandleNumber) → LoadRuns i (took.Pin i (Ok (pinsteps.Held k)) ∷ [])
-  load-goes : (xs : List (Took W)) → LoadRuns i xs → LoadRuns i (took.Pin i (Ok pinsteps.LoadWent) ∷ xs)
+-- one after another
+abbrev pub Leads : {W : Type 0} → (W → Written) → List Todo → List (Took W) → List Todo → Type 0
+Leads f todo [] last = last ≡ todo
+Leads f todo (step ∷ steps) last = (mid : List Todo) × Follows f todo step mid × Leads f mid steps last
 
--- it gets a pin: at once, or by one load
-pub data PinsFirst {W : Type 0} (i : Identity) : List (Took W) → Type 0 where
-  at-once : (k : HandleNumber) → PinsFirst i (took.Pin i (Ok (pinsteps.Held k)) ∷ [])
-  by-load : (l : LoadNumber) (xs : List (Took W)) → LoadRuns i xs → PinsFirst i (took.Pin i (Ok (pinsteps.LoadBegun l)) ∷ xs)
+-- the steps of a worker are in order if they lead from what its task has to do to something
+pub record InOrder {W : Type 0} (f : W → Written) (task : Task) (steps : List (Took W)) : Type 0 where
+  pub left : List Todo
+  pub leads : Leads f (first_todo task) steps left
 
-mutual
-  -- a whole walk of a reference: its key is known; or it is claimed, pinned and written, then what was written is walked in
-  -- its order, then its blob is stored, its key set and published, and its handles are released
-  pub data Walk {N B W : Type 0} (m : Seen N B W) : ArcRef → List (Took W) → Type 0 where
-    finds : (r : ArcRef) (i : Identity) (key height : ℕ) (waits xs : List (Took W)) → i ≡ identity_of r → Waits i waits → xs ≡ waits ++ took.Claim i (Ok (claims.Known key height)) ∷ [] → Walk m r xs
-    does : (r : ArcRef) (i : Identity) (key other height : ℕ) (out : W) (waits pins below xs : List (Took W)) → i ≡ identity_of r → Waits i waits → PinsFirst i pins → Walks m (m.written_of out).references below
-        → xs ≡ waits ++ took.Claim i (Ok claims.Claimed) ∷ (pins ++ took.Write i (Ok out) ∷ (below ++ took.Store (Some i) (Ok key) ∷ took.SetKey i (Ok tt) ∷ took.Publish i other height ∷ took.Release i ∷ [])) → Walk m r xs
+-- whether the step claims the identity
+abbrev pub is_claim_of : {W : Type 0} → Identity → Took W → Bool
+is_claim_of i (took.Claim j (Ok claims.Claimed)) = is_identity i j
+is_claim_of i step = false
 
-  -- whole walks of references, one after another
-  pub data Walks {N B W : Type 0} (m : Seen N B W) : List ArcRef → List (Took W) → Type 0 where
-    no-walk : Walks m [] []
-    more-walks : (r : ArcRef) (rs : List ArcRef) (first rest xs : List (Took W)) → Walk m r first → Walks m rs rest → xs ≡ first ++ rest → Walks m (r ∷ rs) xs
+-- Whether the step is of this stage after a claim of the identity: 0 that a load begins, 1 that the node is pinned, 2 that it is written, 3 that it is stored, 4 that its key is set, 5 that it is
+-- published, 6 that it is released.
+abbrev pub is_later_of : {W : Type 0} → ℕ → Identity → Took W → Bool
+is_later_of stage i (took.Pin j (Ok (pinsteps.LoadBegun l))) = stage == 0 && is_identity i j
+is_later_of stage i (took.Pin j (Ok (pinsteps.Held k))) = stage == 1 && is_identity i j
+is_later_of stage i (took.Write j r) = stage == 2 && is_identity i j
+is_later_of stage i (took.Store (Some j) r) = stage == 3 && is_identity i j
+is_later_of stage i (took.SetKey j r) = stage == 4 && is_identity i j
+is_later_of stage i (took.Publish j key height) = stage == 5 && is_identity i j
+is_later_of stage i (took.Release j) = stage == 6 && is_identity i j
+is_later_of stage i step = false
 
--- all steps of a worker that answers a key
-abbrev pub AllSteps : {N B W : Type 0} → Seen N B W → Task → List (Took W) → Type 0
-AllSteps {N} {B} {W} m (of_item written) xs = (walks : List (Took W)) × (key : ℕ) × Walks m written.references walks × (xs ≡ walks ++ took.Store None (Ok key) ∷ [])
-AllSteps {N} {B} {W} m (of_entry h i) xs =
-    (r : ArcRef)
-    × (walk : List (Took W))
-    × (r ≡ record { kind = i.kind; node = i.node; handle = h })
-    × Walk m r walk
-    × ((xs ≡ walk) ⊎ ((key height : ℕ) × (waits : List (Took W)) × Waits i waits × (walk ≡ waits ++ took.Claim i (Ok (claims.Known key height)) ∷ []) × (xs ≡ walk ++ took.Release i ∷ [])))
+-- an identity is claimed at most once, and after that each stage comes at most once
+pub record OnceEach {W : Type 0} (steps : List (Took W)) : Type 0 where
+  pub claim : (i : Identity) → times (is_claim_of i) steps ≤ 1
+  pub later : (stage : ℕ) (i : Identity) → times (is_later_of stage i) steps ≤ 1
 
 -- the step was refused with this
 abbrev pub MetError : {W : Type 0} → Took W → Error → Type 0
@@ -74,69 +88,70 @@ MetError (took.Pin i (Err e)) f = e ≡ f
 MetError (took.Write i (Err e)) f = e ≡ f
 MetError (took.Store i (Err e)) f = e ≡ f
 MetError (took.SetKey i (Err e)) f = e ≡ f
-MetError _ f = ⊥
+MetError step f = ⊥
 
--- another worker had failed there
-abbrev pub MetFailure : {W : Type 0} → Took W → Type 0
-MetFailure (took.Claim i (Ok claims.AlreadyFailed)) = Unit {0}
-MetFailure _ = ⊥
+-- whether the step claims something
+abbrev pub is_claim : {W : Type 0} → Took W → Bool
+is_claim (took.Claim i (Ok claims.Claimed)) = true
+is_claim step = false
 
--- the step ends the walk
-abbrev pub IsBroken : {W : Type 0} → Took W → Type 0
-IsBroken taken = MetFailure taken ⊎ ((e : Error) × MetError taken e)
+-- how many references the step wrote
+abbrev pub references_written : {W : Type 0} → (W → Written) → Took W → ℕ
+references_written f (took.Write i (Ok out)) = length (f out).references
+references_written f step = 0
 
--- the one is a step of the other's kind, about the same identity
-abbrev pub IsSameKind : {W : Type 0} → Took W → Took W → Type 0
-IsSameKind (took.Claim i r) (took.Claim j s) = i ≡ j
-IsSameKind (took.Pin i r) (took.Pin j s) = i ≡ j
-IsSameKind (took.Write i r) (took.Write j s) = i ≡ j
-IsSameKind (took.Store i r) (took.Store j s) = i ≡ j
-IsSameKind (took.SetKey i r) (took.SetKey j s) = i ≡ j
-IsSameKind _ _ = ⊥
+-- how many references the task has itself
+abbrev pub own_references : Task → ℕ
+own_references (of_item written) = length written.references
+own_references (of_entry h i) = 0
 
--- The steps so far are the front of all; or at some place one was refused, and then the worker fails.
-abbrev pub InOrder : {N B W : Type 0} → Seen N B W → Task → List (Took W) → Type 0
-InOrder {N} {B} {W} m task xs =
-    ((all rest : List (Took W)) × AllSteps m task all × (all ≡ xs ++ rest))
-    ⊎ ((all front rest : List (Took W))
-    × (next taken : Took W)
-    × AllSteps m task all
-    × (all ≡ front ++ next ∷ rest)
-    × IsSameKind next taken
-    × IsBroken taken
-    × ((xs ≡ front ++ taken ∷ []) ⊎ (xs ≡ front ++ taken ∷ took.Fail ∷ [])))
+-- with all its steps so far: no worker has made more than its claims and references allow
+abbrev pub IsBounded : {W : Type 0} → (W → Written) → Walking → List (Took W) → Type 0
+IsBounded f walking steps = walking.steps ≤ 8 * times is_claim steps + (own_references walking.task + sum_by (references_written f) steps) + 4
 
--- whether the step claims the identity
-abbrev pub is_claim_of : {W : Type 0} → Identity → Took W → Bool
-is_claim_of i (took.Claim j (Ok claims.Claimed)) = is_identity i j
-is_claim_of i _ = false
+-- Some references of these kinds. What a blob asks for next depends on no more of those that were got.
+abbrev pub some_of : List ℕ → List ArcRef
+some_of kinds = map (λ kind. record { kind = record { 0 = kind }; node = record { 0 = 0 }; handle = record { 0 = 0 } }) kinds
 
--- whether it begins a load for it
-abbrev pub is_load_of : {W : Type 0} → Identity → Took W → Bool
-is_load_of i (took.Pin j (Ok (pinsteps.LoadBegun l))) = is_identity i j
-is_load_of i _ = false
+-- what a blob asks for next, where references of these kinds were got
+abbrev pub after_kinds : Types → ℕ → Blob → List ℕ → Next
+after_kinds types t blob kinds = next_of types t blob (some_of kinds)
 
--- the kinds of step that follow a claim, load steps apart
-pub data LaterKind : Type 0 where
-  pins : LaterKind
-  writes : LaterKind
-  stores : LaterKind
-  sets_key : LaterKind
-  publishes : LaterKind
-  releases : LaterKind
+mutual
+  -- The reading of a key, as a value of a type, takes so many references, all unfolded, and its longest path has so many. It counts what the reading
+  -- takes: a repeated key of a map drops a reference that was read, which the tree doesn't have.
+  pub data Unfolds (types : Types) (store : ℕ → Option Blob) : ℕ → ℕ → ℕ → ℕ → Type 0 where
+    unfolds : (t key many longest : ℕ) (blob : Blob) → store key ≡ Some blob → UnfoldsFrom types store t blob [] many longest → Unfolds types store t key many longest
 
--- whether it is a step of this kind, about the identity
-abbrev pub is_later_of : {W : Type 0} → LaterKind → Identity → Took W → Bool
-is_later_of pins i (took.Pin j (Ok (pinsteps.Held k))) = is_identity i j
-is_later_of writes i (took.Write j r) = is_identity i j
-is_later_of stores i (took.Store (Some j) r) = is_identity i j
-is_later_of sets_key i (took.SetKey j r) = is_identity i j
-is_later_of publishes i (took.Publish j key height) = is_identity i j
-is_later_of releases i (took.Release j) = is_identity i j
-is_later_of kind i _ = false
+  -- the same where references of these kinds were got: the blob is read; or it takes one more, with all that it leads to; or one of which nothing is read
+  pub data UnfoldsFrom (types : Types) (store : ℕ → Option Blob) : ℕ → Blob → List ℕ → ℕ → ℕ → Type 0 where
+    ends-here : (t : ℕ) (blob : Blob) (kinds : List ℕ) (own : Meaning ArcRef) → after_kinds types t blob kinds ≡ reads own → UnfoldsFrom types store t blob kinds 0 0
+    takes-next : (t child below rest deep longest : ℕ) (blob : Blob) (kinds : List ℕ) (kind : Kind) → after_kinds types t blob kinds ≡ asks kind child → is_eager kind.0 ≡ true → Unfolds types store (type_of kind.0) child below deep
+        → UnfoldsFrom types store t blob (kinds ++ kind.0 ∷ []) rest longest → UnfoldsFrom types store t blob kinds (1 + below + rest) (max (1 + deep) longest)
+    leaves-next : (t child rest longest : ℕ) (blob : Blob) (kinds : List ℕ) (kind : Kind) → after_kinds types t blob kinds ≡ asks kind child → is_eager kind.0 ≡ false
+        → UnfoldsFrom types store t blob (kinds ++ kind.0 ∷ []) rest longest → UnfoldsFrom types store t blob kinds (1 + rest) longest
 
--- for each identity each kind comes at most once, and at most one load is begun
-pub record OnceEach {W : Type 0} (xs : List (Took W)) : Type 0 where
-  pub claim : (i : Identity) → times (is_claim_of i) xs ≤ 1
-  pub load : (i : Identity) → times (is_load_of i) xs ≤ 1
-  pub later : (kind : LaterKind) (i : Identity) → times (is_later_of kind i) xs ≤ 1
+-- A path of so many references leads from the reading of a key, as a value of a type, to that of another: the first takes a reference, where all
+-- before it were got, the second reads what stands under its key, and so on.
+pub data LeadsDown (types : Types) (store : ℕ → Option Blob) : ℕ → ℕ → ℕ → ℕ → ℕ → Type 0 where
+  is-there : (t key : ℕ) → LeadsDown types store t key 0 t key
+  goes-down : (t key child n longer last_type last : ℕ) (blob : Blob) (kinds : List ℕ) (kind : Kind) → longer ≡ n + 1 → store key ≡ Some blob → after_kinds types t blob kinds ≡ asks kind child → is_eager kind.0 ≡ true
+      → LeadsDown types store (type_of kind.0) child n last_type last → LeadsDown types store t key longer last_type last
+
+-- the reading of the key comes to a blob that lies too deep, or one that enters a level too many
+pub record ReadsTooDeep (types : Types) (store : ℕ → Option Blob) (t key : ℕ) : Type 0 where
+  pub n : ℕ
+  pub last_type : ℕ
+  pub last : ℕ
+  pub blob : Blob
+  pub down : LeadsDown types store t key n last_type last
+  pub is : store last ≡ Some blob
+  pub deep : (longest_path < n) ⊎ ((kinds : List ℕ) × (after_kinds types last_type blob kinds ≡ is_faulty errors.TooDeep))
+
+-- an open load whose reading takes n references has a step left of 2n + 2
+abbrev pub HasStepLeft : Types → (ℕ → Option Blob) → ℕ → Reading → Type 0
+HasStepLeft types store key reading = (many longest : ℕ) → Unfolds types store reading.node_type key many longest → reading.steps ≤ 2 * many + 1
+
+-- a load's step is within the bound, and the last that is within it ends the load
+abbrev pub IsWithinBound : {N : Type 0} → Types → (ℕ → Option Blob) → ℕ → ℕ → LoadReply N → Type 0
+IsWithinBound types store t key reply = (many longest : ℕ) → Unfolds types store t key many longest → (reply.steps ≤ 2 * many + 2) × (reply.steps ≡ 2 * many + 2 → IsSome reply.ended)

@@ -1,45 +1,105 @@
--- Which row a handle has, and why a call on a handle is refused. Where several causes hold, the first of these is
--- answered: the handle isn't live, it is another's, its mode doesn't fit.
-use Rattle.std.specs.Prelude.{ℕ, ◌≡◌, ◌≢◌, sum_by, false, Some, slice_get}
-use Rattle.pagable_model.specs.declared.error.Error.{Error}
+-- Why a call is refused: a function of the world. Where several causes hold, the first of this order is answered: nothing has the number; it is
+-- another's; its mode doesn't fit; its type doesn't; no number is left; memory is wanting.
+use Rattle.std.specs.Prelude.{ℕ, ◌≡◌, ◌≤◌, ◌==◌, ◌||◌, ◌⊎◌, Bool, true, false, not, if◌then◌else◌, List, [], ◌∷◌, length, Option, Some, None, nat_lt, nat_le}
+use Rattle.pagable_world.specs.Plain.{Error, ArcRef, HandleNumber, LoadNumber, type_of, Mode, Owner, HandleRow, is_in, or_else, if_there}
 use Rattle.pagable_model.specs.declared.error.Error.TheVariants as errors
-use Rattle.pagable_model.specs.declared.numbers.HandleNumber.{HandleNumber}
-use Rattle.pagable_world.specs.declared.rows.Mode.TheVariants as modes
-use Rattle.pagable_world.specs.declared.rows.Owner.TheVariants as owners
-use Rattle.pagable_world.specs.State.{is_number, is_loose}
-use Rattle.pagable_world.specs.World.{World}
-use Rattle.pagable_world.specs.declared.rows.HandleRow.{HandleRow}
+use Rattle.pagable_world.specs.Kinds.{fits_mode, is_owner}
+use Rattle.pagable_world.specs.World.{Core, OpenLoad, greatest, row_at, type_at, Alike}
 
--- the handle has this row, at this place
-abbrev pub HasRow : World → HandleNumber → ℕ → HandleRow → Type 0
-HasRow w h i row = (slice_get w.rows i ≡ Some row) × (row.number ≡ h)
+-- the places of refusals in the order
+abbrev pub rank : Error → ℕ
+rank errors.NoSuchHandle = 0
+rank errors.NotYours = 1
+rank errors.WrongMode = 2
+rank errors.WrongKind = 3
+rank errors.NumbersSpent = 4
+rank _ = 5
 
--- the handle isn't live
-abbrev pub IsUnknown : World → HandleNumber → Type 0
-IsUnknown w h = sum_by (is_number h.0) w.rows ≡ 0
+-- of two causes that there may be the one that comes first in the order
+abbrev pub earlier : Option Error → Option Error → Option Error
+earlier None b = b
+earlier (Some e) None = Some e
+earlier (Some e) (Some f) = if nat_lt (rank f) (rank e) then Some f else Some e
 
--- the caller's own handle, with its row and place
-pub record IsOwn (w : World) (h : HandleNumber) (i : ℕ) (row : HandleRow) : Type 0 where
-  pub there : slice_get w.rows i ≡ Some row
-  pub number : row.number ≡ h
-  pub owner : row.owner ≡ owners.Caller
+-- a cause that holds only where this is so
+abbrev pub where_so : Bool → Option Error → Option Error
+where_so true e = e
+where_so false e = None
 
--- why a call that asks for the caller's own handle refuses it
-abbrev pub RefusesOwn : World → HandleNumber → Error → Type 0
-RefusesOwn w h errors.NoSuchHandle = IsUnknown w h
-RefusesOwn w h errors.NotYours = (i : ℕ) × (row : HandleRow) × HasRow w h i row × (row.owner ≢ owners.Caller)
-RefusesOwn w h _ = ⊥
+-- this refusal, if it is so
+abbrev pub refused_if : Bool → Error → Option Error
+refused_if b e = if b then Some e else None
 
--- why a call that asks for the caller's own loose handle refuses it
-abbrev pub RefusesLoose : World → HandleNumber → Error → Type 0
-RefusesLoose w h errors.NoSuchHandle = IsUnknown w h
-RefusesLoose w h errors.NotYours = (i : ℕ) × (row : HandleRow) × HasRow w h i row × (row.owner ≢ owners.Caller)
-RefusesLoose w h errors.WrongMode = (i : ℕ) × (row : HandleRow) × IsOwn w h i row × (is_loose row.mode ≡ false)
-RefusesLoose w h _ = ⊥
+-- no number is left after this one
+abbrev pub spent : ℕ → Option Error
+spent last = refused_if (nat_le greatest last) errors.NumbersSpent
 
--- why a call that asks for the caller's own Pinned handle refuses it
-abbrev pub RefusesPinned : World → HandleNumber → Error → Type 0
-RefusesPinned w h errors.NoSuchHandle = IsUnknown w h
-RefusesPinned w h errors.NotYours = (i : ℕ) × (row : HandleRow) × HasRow w h i row × (row.owner ≢ owners.Caller)
-RefusesPinned w h errors.WrongMode = (i : ℕ) × (row : HandleRow) × IsOwn w h i row × (row.mode ≢ modes.Pinned)
-RefusesPinned w h _ = ⊥
+-- the vector of handles has no place left, or the list has none
+abbrev pub AreHandlesFull : Core → Type 0
+AreHandlesFull w = w.places.handles ≤ length w.rows
+
+abbrev pub IsListFull : Core → Type 0
+IsListFull w = w.places.entries ≤ length w.list
+
+-- an own handle whose mode is as asked
+pub record Owns (w : Core) (me : Owner) (h : HandleNumber) (fits : Mode → Bool) (row : HandleRow) : Type 0 where
+  pub live : row_at w h ≡ Some row
+  pub own : row.owner ≡ me
+  pub as_asked : fits row.mode ≡ true
+
+-- why a handle can't be looked at
+abbrev pub live_fault : Option HandleRow → Option Error
+live_fault row = if_there (λ (h : HandleRow). None) (Some errors.NoSuchHandle) row
+
+-- why an own handle can't be used
+abbrev pub handle_fault : Core → Owner → HandleNumber → (Mode → Bool) → Option Error
+handle_fault w me h fits =
+    if_there (λ (row : HandleRow). if not (is_owner me row.owner) then Some errors.NotYours else refused_if (not (fits row.mode)) errors.WrongMode) (Some errors.NoSuchHandle) (row_at w h)
+
+-- whether there is a type, and it is this one
+abbrev pub is_type : ℕ → Option ℕ → Bool
+is_type t found = if_there (λ u. u == t) false found
+
+-- The reference names a live handle of this owner at its node, and mode and type fit its kind.
+pub record IsReference (w : Core) (owner : Owner) (r : ArcRef) : Type 0 where
+  pub row : HandleRow
+  pub live : row_at w r.handle ≡ Some row
+  pub at : row.node ≡ r.node
+  pub owned : row.owner ≡ owner
+  pub fits : fits_mode r.kind.0 row.mode ≡ true
+  pub typed : type_at w r.node.0 ≡ Some (type_of r.kind.0)
+
+-- why a reference is refused whose handle has this row, where others may be asked of it first
+abbrev pub row_fault : Core → ArcRef → Option Error → HandleRow → Option Error
+row_fault w r first row =
+    if not (row.node.0 == r.node.0) then Some errors.NoSuchHandle else
+    or_else first (if not (fits_mode r.kind.0 row.mode) then Some errors.WrongMode else refused_if (not (is_type (type_of r.kind.0) (type_at w r.node.0))) errors.WrongKind)
+
+-- why one reference of a value that is handed in is refused; seen are the handles that earlier ones named
+abbrev pub reference_fault : Core → Owner → List ℕ → ArcRef → Option Error
+reference_fault w owner seen r = if_there (λ (row : HandleRow). row_fault w r (refused_if (not (is_owner owner row.owner) || is_in seen r.handle.0) errors.NotYours) row) (Some errors.NoSuchHandle) (row_at w r.handle)
+
+-- the cause of the first reference that has one
+unfoldable pub references_fault : Core → Owner → List ℕ → List ArcRef → Option Error
+references_fault w owner seen [] = None
+references_fault w owner seen (r ∷ rs) = or_else (reference_fault w owner seen r) (references_fault w owner (r.handle.0 ∷ seen) rs)
+
+-- why handles that are named can't all be handed over: one isn't live; one is another's, or is named twice
+unfoldable pub named_fault : Core → Owner → List ℕ → List HandleNumber → Option Error
+named_fault w owner seen [] = None
+named_fault w owner seen (h ∷ hs) =
+    earlier (if_there (λ (row : HandleRow). refused_if (not (is_owner owner row.owner) || is_in seen h.0) errors.NotYours) (Some errors.NoSuchHandle) (row_at w h)) (named_fault w owner (h.0 ∷ seen) hs)
+
+-- an open load that the asker began
+pub record OwnsLoad (w : Core) (me : Owner) (l : LoadNumber) (load : OpenLoad) : Type 0 where
+  pub stands_open : w.loads l.0 ≡ Some load
+  pub own : load.owner ≡ me
+
+-- why an own load can't be used
+abbrev pub load_fault : Core → Owner → LoadNumber → Option Error
+load_fault w me l = if_there (λ (load : OpenLoad). refused_if (not (is_owner me load.owner)) errors.NotYours) (Some errors.NoSuchHandle) (w.loads l.0)
+
+-- The call is refused by its cause; or memory is wanting, where that may be, and no cause of those that are looked at before it holds. Nothing changes.
+pub record Refused (cause before : Option Error) (full : Type 0) (w : Core) (e : Error) (w' : Core) : Type 0 where
+  pub why : (cause ≡ Some e) ⊎ ((e ≡ errors.OutOfMemory) × (before ≡ None) × full)
+  pub stays : Alike w w'

@@ -1,86 +1,141 @@
--- All that has happened since the pager was new: its states, and worlds with trees beside them.
-use Rattle.std.specs.Prelude.{ℕ, ◌≡◌, ◌<◌, ◌≤◌, List, [], ◌∷◌, map}
-use Rattle.pagable_model.specs.Trees.{ReadsTree}
+-- Chains of moments: what events do to a machine, one after another; trees along them; and what these ask of values and callers, by name. That the storage gives back what was stored, loses
+-- nothing and keeps no two blobs under one key is asked nowhere here: these are laws of every storage, so they stand in the steps.
+use Rattle.std.specs.Prelude.{ℕ, ◌≡◌, List, [], ◌∷◌, map, Option, Some, None, Ok}
+use Rattle.pagable_model.specs.Canonical.{IsReadableType}
+use Rattle.pagable_world.specs.Plain.{Tree, Types, ReadsTree, type_of, Kind, Event, EventReply, HandleRow, Call, Reply, LoadAnswer}
+use Rattle.pagable_world.specs.declared.handles.Owner.TheVariants as owners
 use Rattle.pagable_world.specs.declared.calls.Call.TheVariants as calls
-use Rattle.pagable_world.specs.declared.events.Event.{Event}
+use Rattle.pagable_world.specs.declared.calls.Reply.TheVariants as replies
+use Rattle.pagable_world.specs.declared.events.LoadAnswer.TheVariants as ends
 use Rattle.pagable_world.specs.declared.events.Event.TheVariants as events
-use Rattle.pagable_world.specs.declared.events.EventReply.{EventReply}
-use Rattle.pagable_world.specs.declared.rows.Owner.TheVariants as owners
-use Rattle.pagable_world.specs.Words.{Among}
-use Rattle.pagable_world.specs.Whole.{Frame, OpenLoad}
-use Rattle.pagable_world.specs.Seen.{Seen}
-use Rattle.pagable_world.specs.Pages.{Pages, HasValue, WellFormed}
-use Rattle.pagable_world.specs.Stands.{ValueStands, TreeWorld, Represents, KeepsTrees}
-use Rattle.pagable_world.specs.Events.{Step}
-use Rattle.pagable_world.specs.Premises.{IsPremised}
+use Rattle.pagable_world.specs.declared.events.EventReply.TheVariants as answers
+use Rattle.pagable_world.specs.Kinds.{is_loose, any_mode}
+use Rattle.pagable_world.specs.World.{Seen, Values, IsSettled, Reading, Todo, to_load, Walking}
+use Rattle.pagable_world.specs.Refusals.{Owns}
+use Rattle.pagable_world.specs.Loads.{needs_lazy, need_of}
+use Rattle.pagable_world.specs.Events.{Step, reading_at}
+use Rattle.pagable_world.specs.Pager.{MachineState, world_of, Moves, EventBrings, ReplyWrites, IsMachineWhole, PagerState, IsCellOf, StandsFor, SameTrees, ValueStands}
 
--- an event, its reply and the pager after it
-pub record Moment (N B W : Type 0) : Type 0 where
+-- Each type of the environment is read back from its forms. Where types have tags, this is the registry of distinct tags: each tag that a value writes has a reader of that tag's body.
+abbrev pub ReadsItsTypes : Types → Type 0
+ReadsItsTypes types = (n : ℕ) → IsReadableType types n
+
+-- no value in memory holds anything that is written after the value was made
+abbrev pub HoldsSettled : {N E : Type 0} → Values N → PagerState N E → Type 0
+HoldsSettled {N} v s = (n : ℕ) (x : N) → s.values n ≡ Some x → IsSettled v x
+
+-- the value that a load of a key answers
+abbrev pub read_by : {N : Type 0} → Option (LoadAnswer N) → Option N
+read_by (Some (ends.Read x)) = Some x
+read_by answer = None
+
+abbrev pub read_out : {N B W : Type 0} → EventReply N B W → Option N
+read_out (answers.LoadMoved (Ok reply)) = read_by reply.ended
+read_out reply = None
+
+-- nor does one that is read out
+abbrev pub ReadsSettled : {N B W : Type 0} → Values N → EventReply N B W → Type 0
+ReadsSettled {N} v reply = (x : N) → read_out reply ≡ Some x → IsSettled v x
+
+-- the storage isn't closed
+abbrev pub KeepsOpen : {N B W : Type 0} → Event N B W → Type 0
+KeepsOpen (events.Call calls.Close) = ⊥
+KeepsOpen event = Unit {0}
+
+-- the key reads as some value of the type
+pub record ReadsAsType {N E : Type 0} (v : Values N) (s : PagerState N E) (t key : ℕ) : Type 0 where
+  pub read : Tree
+  pub typed : read.type ≡ t
+  pub reads : ReadsTree s.core.stored v.types key read
+
+-- the key reads as what the value stands for
+pub record ReadsAsValue {N E : Type 0} (v : Values N) (s : PagerState N E) (x : N) (key : ℕ) : Type 0 where
+  pub read : Tree
+  pub stands : ValueStands v s x read
+  pub reads : ReadsTree s.core.stored v.types key read
+
+-- Keys that a caller sets or gives, references that it puts into the cache and values that it gives to a load by itself read as the value in the
+-- store. It is asked of calls that do something, and of a key only through a loose handle.
+abbrev pub AsksWell : {N E B : Type 0} → Values N → PagerState N E → (ℕ → Tree) → Call N B → Reply N B → Type 0
+AsksWell v s trees (calls.NewPagedOut t key) (replies.Handle (Ok k)) = ReadsAsType v s t key
+AsksWell v s trees (calls.SetDataKey h key) reply = (row : HandleRow) → Owns s.core owners.Caller h is_loose row → ReadsTree s.core.stored v.types key (trees row.node.0)
+AsksWell v s trees (calls.OnArcDeserialized kind key h) (replies.FromCache (Ok None)) = (row : HandleRow) → Owns s.core owners.Caller h any_mode row → ReadsTree s.core.stored v.types key (trees row.node.0)
+AsksWell v s trees (calls.LoadAdopt l kind key x) (replies.Made (Ok k)) = ReadsAsValue v s x key
+AsksWell v s trees (calls.LoadLazy l kind key) (replies.Handle (Ok k)) = ReadsAsType v s (type_of kind.0) key
+AsksWell v s trees (calls.LoadEnd l x) (replies.LoadEnded (Ok k)) = (n : ℕ) → IsCellOf s.core l n → ValueStands v s x (trees n)
+AsksWell v s trees call reply = Unit {0}
+
+-- a key that a load takes through a loose reference, of which nothing is read, reads as some value of the kind's type
+abbrev pub TakesWell : {N E : Type 0} → Values N → PagerState N E → Reading → Type 0
+TakesWell v s reading = (kind : Kind) (key : ℕ) → need_of v.types reading.frames ≡ needs_lazy kind key → ReadsAsType v s (type_of kind.0) key
+
+abbrev pub TodoTakesWell : {N E : Type 0} → Values N → PagerState N E → List Todo → Type 0
+TodoTakesWell v s (to_load r place through reading ∷ below) = TakesWell v s reading
+TodoTakesWell v s todo = Unit {0}
+
+abbrev pub IsWellAsked : {N E B W : Type 0} → Values N → MachineState N E → (ℕ → Tree) → Event N B W → EventReply N B W → Type 0
+IsWellAsked v s trees (events.Call call) (answers.CallReply reply) = AsksWell v s.pager trees call reply
+IsWellAsked v s trees (events.LoadStep l) reply = (reading : Reading) → reading_at (world_of s) l ≡ Some reading → TakesWell v s.pager reading
+IsWellAsked v s trees (events.WorkerStep n) reply = (walking : Walking) → s.work.walkings n.0 ≡ Some walking → TodoTakesWell v s.pager walking.todo
+IsWellAsked v s trees event reply = Unit {0}
+
+-- all that is asked of an event at the state that it finds, and of what it leaves
+pub record IsPremised {N E B W : Type 0} (v : Values N) (s : MachineState N E) (trees : ℕ → Tree) (event : Event N B W) (reply : EventReply N B W) (s' : MachineState N E) : Type 0 where
+  pub settled : HoldsSettled v s'.pager
+  pub reads_settled : ReadsSettled v reply
+  pub stays_open : KeepsOpen event
+  pub well : IsWellAsked v s trees event reply
+
+-- an event, its reply and the machine after it
+pub record Moment (N E B W : Type 0) : Type 0 where
   pub event : Event N B W
   pub reply : EventReply N B W
-  pub after : Pages N
+  pub after : MachineState N E
 
--- each moment is a step of the plain world, and leaves the pager whole
-abbrev pub AreSteps : {N B W : Type 0} → Seen N B W → Pages N → List (Moment N B W) → Type 0
-AreSteps m s [] = Unit {0}
-AreSteps m s (x ∷ xs) = Step m s.world x.event x.reply x.after.world × WellFormed m x.after × AreSteps m x.after xs
+-- One event: the step of the plain world that it is, what it does to values, and that the machine is whole afterwards. Trees are no part of it: that nodes keep them is a law of chains.
+pub record Does {N E B W : Type 0} (m : Seen N B W) (s : MachineState N E) (event : Event N B W) (reply : EventReply N B W) (s' : MachineState N E) : Type 0 where
+  pub step : Step m (world_of s) event reply (world_of s')
+  pub moves : Moves (EventBrings m.values (world_of s) event) s.pager s'.pager
+  pub writes : ReplyWrites m s.pager reply
+  pub whole : IsMachineWhole m.values s'
 
--- each met what is asked of it
-abbrev pub ArePremised : {N B W : Type 0} → Seen N B W → Pages N → List (Moment N B W) → Type 0
-ArePremised m s [] = Unit {0}
-ArePremised m s (x ∷ xs) = IsPremised m s x.event x.reply × ArePremised m x.after xs
+-- each moment does so
+abbrev pub AreMoments : {N E B W : Type 0} → Seen N B W → MachineState N E → List (Moment N E B W) → Type 0
+AreMoments m s [] = Unit {0}
+AreMoments m s (x ∷ xs) = Does m s x.event x.reply x.after × AreMoments m x.after xs
 
--- what one event does to pager and world, as a fact
-abbrev pub Fact : (N B W : Type 0) → Type 1
-Fact N B W = Pages N → TreeWorld → Event N B W → EventReply N B W → Pages N → TreeWorld → Type 0
+-- the machine after these moments
+unfoldable pub state_after : {N E B W : Type 0} → MachineState N E → List (Moment N E B W) → MachineState N E
+state_after s [] = s
+state_after s (x ∷ xs) = state_after x.after xs
 
--- the fact holds of each moment, with the worlds beside
-abbrev pub Along : {N B W : Type 0} → Fact N B W → Pages N → TreeWorld → List (Moment N B W) → List TreeWorld → Type 0
-Along P s u [] [] = Unit {0}
-Along P s u (x ∷ xs) (v ∷ vs) = P s u x.event x.reply x.after v × Along P x.after v xs vs
-Along P s u [] (v ∷ vs) = ⊥
-Along P s u (x ∷ xs) [] = ⊥
-
--- a node that wasn't there before
-abbrev pub IsNewNode : TreeWorld → TreeWorld → ℕ → Type 0
-IsNewNode u u' n = (u.plain.last.node < n) × (n ≤ u'.plain.last.node)
-
--- a new node has this value, which stands for the node's tree
-abbrev pub IsMadeOf : {N B W : Type 0} → Seen N B W → Pages N → TreeWorld → ℕ → N → Type 0
-IsMadeOf m s' u' n x = HasValue s' n x × ValueStands m s' x (u'.tree n)
-
--- a new node's tree is what this key reads as, as a value of this type
-abbrev pub IsReadOf : {N B W : Type 0} → Seen N B W → Pages N → TreeWorld → ℕ → ℕ → ℕ → Type 0
-IsReadOf m s u' n t key = ((u'.tree n).type ≡ t) × ReadsTree s.world.stored m.types key (u'.tree n)
-
--- the node was made of the innermost blob of such a load
-abbrev pub IsReadByLoad : {N B W : Type 0} → (OpenLoad → Type 0) → Seen N B W → Pages N → TreeWorld → ℕ → Type 0
-IsReadByLoad P m s u' n = (load : OpenLoad) × P load × (top : Frame) × (rest : List Frame) × Among s.world.loads load × (load.frames ≡ top ∷ rest) × IsReadOf m s u' n top.node_type top.key
-
--- What a new node's tree is: that of the value that was handed in, and the node has this value; or what its key reads as.
-abbrev pub FixesTree : {N B W : Type 0} → Seen N B W → Fact N B W
-FixesTree m s u (events.Call (calls.NewPinned x)) reply s' u' = (n : ℕ) → IsNewNode u u' n → IsMadeOf m s' u' n x
-FixesTree m s u (events.Call (calls.NewLoose x)) reply s' u' = (n : ℕ) → IsNewNode u u' n → IsMadeOf m s' u' n x
-FixesTree m s u (events.Call (calls.NewShared x)) reply s' u' = (n : ℕ) → IsNewNode u u' n → IsMadeOf m s' u' n x
-FixesTree m s u (events.Call (calls.NewPagedOut t key)) reply s' u' = (n : ℕ) → IsNewNode u u' n → IsReadOf m s u' n t key
-FixesTree m s u (events.Call (calls.LoadAdopt l kind key x)) reply s' u' = (n : ℕ) → IsNewNode u u' n → IsMadeOf m s' u' n x
-FixesTree m s u (events.LoadStep l) reply s' u' = (n : ℕ) → IsNewNode u u' n → IsReadByLoad (λ load. load.number ≡ l) m s u' n
-FixesTree m s u (events.WorkerStep v) reply s' u' = (n : ℕ) → IsNewNode u u' n → IsReadByLoad (λ load. load.owner ≡ owners.Worker v) m s u' n
-FixesTree m s u event reply s' u' = (n : ℕ) → ¬ IsNewNode u u' n
-
--- a step of the world with trees, to one that the pager stands for
-pub record TreeStep {N B W : Type 0} (m : Seen N B W) (s : Pages N) (u : TreeWorld) (event : Event N B W) (reply : EventReply N B W) (s' : Pages N) (u' : TreeWorld) : Type 0 where
-  pub keeps : KeepsTrees u u'
-  pub fixes : FixesTree m s u event reply s' u'
-  pub stands : Represents m s' u'
-
--- the last world
-abbrev pub last_world : TreeWorld → List TreeWorld → TreeWorld
-last_world u [] = u
-last_world u (v ∷ vs) = last_world v vs
-
-abbrev pub events_of : {N B W : Type 0} → List (Moment N B W) → List (Event N B W)
+abbrev pub events_of : {N E B W : Type 0} → List (Moment N E B W) → List (Event N B W)
 events_of xs = map (λ x. x.event) xs
 
-abbrev pub replies_of : {N B W : Type 0} → List (Moment N B W) → List (EventReply N B W)
+abbrev pub replies_of : {N E B W : Type 0} → List (Moment N E B W) → List (EventReply N B W)
 replies_of xs = map (λ x. x.reply) xs
+
+-- These events, with these replies, led from the old machine to the new one.
+-- To be carried by: the machine's run.
+pub record HasRun {N E B W : Type 0} (m : Seen N B W) (old : MachineState N E) (happened : List (Event N B W)) (replied : List (EventReply N B W)) (new : MachineState N E) : Type 0 where
+  pub moments : List (Moment N E B W)
+  pub events_are : events_of moments ≡ happened
+  pub replies_are : replies_of moments ≡ replied
+  pub ends : state_after old moments ≡ new
+  pub chain : AreMoments m old moments
+
+-- what one event does to machine and trees, as a fact
+abbrev pub Fact : (N E B W : Type 0) → Type 1
+Fact N E B W = MachineState N E → (ℕ → Tree) → Event N B W → EventReply N B W → MachineState N E → (ℕ → Tree) → Type 0
+
+-- trees after an event, for which the machine stands: each node that was made keeps its tree, and the fact holds
+pub record TreesAfter {N E B W : Type 0} (m : Seen N B W) (P : Fact N E B W) (s : MachineState N E) (trees : ℕ → Tree) (event : Event N B W) (reply : EventReply N B W) (s' : MachineState N E) (trees' : ℕ → Tree) : Type 0 where
+  pub keeps : SameTrees s.pager.core.last.node trees trees'
+  pub stands : StandsFor m.values s' trees'
+  pub so : P s trees event reply s' trees'
+
+-- trees one after another, and the fact with them, as long as what the events ask is so
+abbrev pub TreesAlong : {N E B W : Type 0} → Seen N B W → Fact N E B W → MachineState N E → (ℕ → Tree) → List (Moment N E B W) → Type 0
+TreesAlong m P s trees [] = Unit {0}
+TreesAlong m P s trees (x ∷ xs) =
+    IsPremised m.values s trees x.event x.reply x.after → (trees' : ℕ → Tree) × TreesAfter m P s trees x.event x.reply x.after trees' × TreesAlong m P x.after trees' xs

@@ -51,11 +51,11 @@ pub enum Call<N: Drop, B: Drop> {
     Pending,
     /// The entry at this place of the list, counted from 0, moves to the caller.
     TakePending(u64),
-    /// A clone of the handle that the cache has.
+    /// A handle of the node that the cache knows under a kind and a key.
     CacheGet(Kind, DataKey),
-    /// A handle moves to the cache, or is exchanged for a clone of the one that is there.
+    /// The cache learns a handle's node, or the handle is exchanged for one of the node that it knows.
     OnArcDeserialized(Kind, DataKey, HandleNumber),
-    /// Every cached handle is given up.
+    /// The cache forgets all.
     CacheClear,
     /// The blob under a key.
     Fetch(DataKey),
@@ -67,10 +67,12 @@ pub enum Call<N: Drop, B: Drop> {
     LoadBegin(HandleNumber),
     /// A load of a key begins.
     LoadKey(DataKey),
-    /// A load asks for a blob, or for a cached handle.
+    /// A load asks for a blob, or for a handle of a node that the cache knows.
     LoadFetch(LoadNumber, Want),
     /// A load makes a node of what it read, under this kind and key.
     LoadAdopt(LoadNumber, Kind, DataKey, N),
+    /// A load makes a cell of this kind and key that is read when it is pinned, or gets a handle of the one that the cache knows.
+    LoadLazy(LoadNumber, Kind, DataKey),
     /// A load installs its root's value, pins it and ends.
     LoadEnd(LoadNumber, N),
     /// A load of a key hands these handles to the caller and ends.
@@ -88,7 +90,7 @@ pub enum Call<N: Drop, B: Drop> {
 /// What a load's asking gives.
 #[derive(Drop)]
 pub enum Found<B: Drop> {
-    /// A clone of the cached handle, which the load owns.
+    /// A handle of the node that the cache knows, which the load owns.
     Cached(HandleNumber),
     /// The blob.
     Blob(B),

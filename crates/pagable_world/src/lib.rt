@@ -3,14 +3,13 @@
 #![tactic(auto)]
 
 pub mod answers;
-pub mod cached;
 pub mod calls;
 pub mod events;
+pub mod handles;
 pub mod machine;
 pub mod rows;
 
 pub use answers::{Beginning, EndRefusal, Pinning};
-pub use cached::CacheRow;
 pub use calls::{Call, Found, Reply, Want};
 pub use events::{
     Claim, Event, EventReply, LoadAnswer, LoadReply, PinStep, TableNumber, Took, WorkerAnswer,

@@ -5,21 +5,21 @@ ghost use Rattle.std.specs.Arc.{arc_value};
 ghost use Rattle.pagable_model.specs.Blob.{key_of};
 ghost use Rattle.pagable_core.specs.Data.{blob_of};
 ghost use Rattle.pagable_model.specs.Stored.{Adds, RefusesFetch, RefusesStore};
-ghost use Rattle.pagable_world.specs.State.{WellFormed};
-ghost use Rattle.pagable_world.specs.Cells.{Cell};
-ghost use Rattle.pagable_world.specs.World.{plain, born, HasCell};
-ghost use Rattle.pagable_world.specs.Refusals.{IsOwn, IsUnknown};
-ghost use Rattle.pagable_world.specs.Calls.{BornAway, Cloned, Loosened, PinnedBy, Unpinned, Released, Counts, KeyIs, AwayIs, NodeIs, Took, KeySet, Begun, LoadTypeIs, Ended, Dropped};
-ghost use Rattle.pagable_world.specs.Values.{value_of_node};
-ghost use Rattle.pagable_world.specs.Shown.{OnlyBook, SameStore, OnlyStore, Unchanged};
-ghost use Rattle.pagable_world.specs.InStep.{InStep, kept};
-ghost use Rattle.pagable_world.specs.Lending.{IsLent, PinsNothing};
-ghost use Rattle.pagable_world.specs.LoadEnds.{ClosedBy, EndedAs, FitsLoad, InstallsValue, LoadFetched, StaysOpen};
-ghost use Rattle.pagable_world.specs.Births.{RefusesNew};
+ghost use Rattle.pagable_world.specs.today.State.{WellFormed};
+ghost use Rattle.pagable_world.specs.today.Cells.{Cell};
+ghost use Rattle.pagable_world.specs.today.World.{plain, born, HasCell};
+ghost use Rattle.pagable_world.specs.today.Refusals.{IsOwn, IsUnknown};
+ghost use Rattle.pagable_world.specs.today.Calls.{BornAway, Cloned, Loosened, PinnedBy, Unpinned, Released, Counts, KeyIs, AwayIs, NodeIs, Took, KeySet, Begun, LoadTypeIs, Ended, Dropped};
+ghost use Rattle.pagable_world.specs.today.Values.{value_of_node};
+ghost use Rattle.pagable_world.specs.today.Shown.{OnlyBook, SameStore, OnlyStore, Unchanged};
+ghost use Rattle.pagable_world.specs.today.InStep.{InStep, kept};
+ghost use Rattle.pagable_world.specs.today.Lending.{IsLent, PinsNothing};
+ghost use Rattle.pagable_world.specs.today.LoadEnds.{ClosedBy, EndedAs, FitsLoad, InstallsValue, LoadFetched, StaysOpen};
+ghost use Rattle.pagable_world.specs.today.Births.{RefusesNew};
 ghost use Rattle.pagable_pager.specs.Ends.{MayEnd};
 ghost use Rattle.pagable_world.specs.declared.rows.HandleRow.{HandleRow};
-ghost use Rattle.pagable_world.specs.TodayTrees.{Always, AwayBirthOf, BirthOf, EachWorld, SetKeyFits, LendsTree, ReadFits, Sight, StandsEmpty};
-ghost use Rattle.pagable_world.specs.Sights.{values_by};
+ghost use Rattle.pagable_world.specs.today.TodayTrees.{Always, AwayBirthOf, BirthOf, EachWorld, SetKeyFits, LendsTree, ReadFits, Sight, StandsEmpty};
+ghost use Rattle.pagable_world.specs.today.Sights.{values_by};
 
 use crate::pagable_arc::values;
 use crate::pagable_arc::values::ValueRow;
@@ -58,8 +58,8 @@ impl<E: Env, S: PagableStorage<E>> Model for Pager<E, S>
 where
     E::Node: NodeSet<E>,
 {
-    ghost use Rattle.pagable_world.specs.Shown.{Shown};
-    ghost use Rattle.pagable_world.specs.InStep.{InStep};
+    ghost use Rattle.pagable_world.specs.today.Shown.{Shown};
+    ghost use Rattle.pagable_world.specs.today.InStep.{InStep};
     ghost use Rattle.pagable_pager.specs.Rows.{value_of};
     ghost use Rattle.std.specs.Prelude.{map};
 

@@ -1,8 +1,8 @@
 //! The values in memory, by node.
 
 ghost use Rattle.std.specs.Prelude.{◌≡◌, ◌<◌, ◌==◌, IfNone, IfSome, IfOk, All, length, map, nat_lt, slice_index_or, sum_by};
-ghost use Rattle.pagable_world.specs.State.{one};
-ghost use Rattle.pagable_world.specs.InStep.{kept};
+ghost use Rattle.pagable_world.specs.today.State.{one};
+ghost use Rattle.pagable_world.specs.today.InStep.{kept};
 ghost use Rattle.pagable_pager.specs.Rows.{value_of, StaysBut};
 ghost use Rattle.pagable_pager.specs.declared.pagable_arc.values.ValueRow.{ValueRow};
 

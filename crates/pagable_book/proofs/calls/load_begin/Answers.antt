@@ -1,7 +1,7 @@
 use Rattle.std.proofs.Common.{inr, refl, sym, ◌∙◌, ap}
 use Rattle.std.proofs.lemmas.Result.{err_from_is_err_and}
 use Rattle.pagable_book.specs.Shape.{state_of}
-use Rattle.pagable_world.specs.World.{plain, IsHere, IsAway}
+use Rattle.pagable_world.specs.today.World.{plain, IsHere, IsAway}
 use Rattle.pagable_book.proofs.Known.{row-held}
 use Rattle.pagable_book.proofs.Outcomes.{is-here, is-away}
 use Rattle.pagable_book.proofs.calls.load_begin.Goals as goal

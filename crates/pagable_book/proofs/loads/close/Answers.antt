@@ -1,6 +1,6 @@
 use Rattle.std.proofs.Common.{rules, ap, sym, subst}
 use Rattle.std.proofs.lemmas.Option.{slice_get_within}
-use Rattle.pagable_world.specs.State.{WellFormed}
+use Rattle.pagable_world.specs.today.State.{WellFormed}
 use Rattle.pagable_book.specs.Shape.{state_of}
 use Rattle.pagable_book.proofs.Known.{row-held}
 use Rattle.pagable_book.proofs.Settling.{before-leave}

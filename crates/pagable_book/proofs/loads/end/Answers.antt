@@ -1,6 +1,6 @@
 use Rattle.std.proofs.Common.{subst}
 use Rattle.pagable_book.specs.Shape.{state_of}
-use Rattle.pagable_world.specs.World.{World, plain, Closes}
+use Rattle.pagable_world.specs.today.World.{World, plain, Closes}
 use Rattle.pagable_book.proofs.Known.{begun-loose, begun-node}
 use Rattle.pagable_book.proofs.loads.end.Goals as goal
 

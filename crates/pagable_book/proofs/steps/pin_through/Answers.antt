@@ -1,6 +1,6 @@
 use Rattle.std.proofs.Common.{rules}
 use Rattle.std.proofs.Common.{ap, ◌∙◌, slice_get}
-use Rattle.pagable_world.specs.World.{World}
+use Rattle.pagable_world.specs.today.World.{World}
 use Rattle.pagable_book.proofs.Sums.{push-there}
 use Rattle.pagable_book.specs.Shape.{state_of}
 use Rattle.pagable_book.proofs.Known.{row-held}

@@ -1,6 +1,6 @@
 use Rattle.std.proofs.Common.{rules}
 use Rattle.std.proofs.lemmas.Option.{slice_get_within}
-use Rattle.pagable_world.specs.State.{is_pinning}
+use Rattle.pagable_world.specs.today.State.{is_pinning}
 use Rattle.pagable_book.proofs.Settling.{settle-some, settle-nodes, settle-cells, none-held}
 use Rattle.pagable_book.proofs.steps.settle.Goals as goal
 

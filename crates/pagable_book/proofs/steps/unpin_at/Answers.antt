@@ -1,6 +1,6 @@
 use Rattle.std.proofs.Common.{rules, ap, arith}
 use Rattle.std.proofs.lemmas.Option.{slice_get_within}
-use Rattle.pagable_world.specs.State.{is_pinning}
+use Rattle.pagable_world.specs.today.State.{is_pinning}
 use Rattle.pagable_book.specs.Shape.{state_of}
 use Rattle.pagable_book.proofs.Known.{row-held, row-pins}
 use Rattle.pagable_book.proofs.Settling.{whole-unpin}

@@ -1,5 +1,5 @@
 use Rattle.std.proofs.Common.{◌∙◌, sym}
-use Rattle.pagable_world.specs.State.{is_pinning}
+use Rattle.pagable_world.specs.today.State.{is_pinning}
 use Rattle.pagable_book.proofs.Parts.{recounted-gain}
 use Rattle.pagable_book.proofs.tables.gain.Goals as goal
 

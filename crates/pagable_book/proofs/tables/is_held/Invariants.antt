@@ -1,5 +1,5 @@
 use Rattle.std.proofs.Common.{◌≡◌, take, sum_by}
-use Rattle.pagable_world.specs.State.{handle_of}
+use Rattle.pagable_world.specs.today.State.{handle_of}
 use Rattle.pagable_book.proofs.tables.is_held.Given as goal
 
 abbrev pub invariant-loop-row : goal.invariant-loop-row

@@ -1,4 +1,4 @@
-use Rattle.pagable_world.specs.Sights.{values_by}
+use Rattle.pagable_world.specs.today.Sights.{values_by}
 use Rattle.pagable_machine.specs.Sights.{machine_by, events_by}
 use Rattle.pagable_machine.specs.Rows.{driven_by}
 use Rattle.pagable_machine.proofs.Fits.{fits-after}

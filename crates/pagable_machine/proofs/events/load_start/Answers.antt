@@ -1,8 +1,8 @@
-use Rattle.pagable_world.specs.Sights.{values_by}
+use Rattle.pagable_world.specs.today.Sights.{values_by}
 use Rattle.pagable_machine.specs.Sights.{machine_by, events_by}
 use Rattle.pagable_machine.specs.Rows.{driven_by}
 use Rattle.pagable_machine.proofs.Moving.{start-leads}
-use Rattle.pagable_world.specs.Calls.{Begun}
+use Rattle.pagable_world.specs.today.Calls.{Begun}
 use Rattle.pagable_machine.proofs.events.load_start.Goals as goal
 
 pub returns-clause-leads : goal.returns-clause-leads

@@ -1,6 +1,6 @@
 use Rattle.pagable_machine.proofs.Closing.{load-ends}
 use Rattle.pagable_machine.proofs.Leading.{end-leads}
-use Rattle.pagable_world.specs.Sights.{values_by}
+use Rattle.pagable_world.specs.today.Sights.{values_by}
 use Rattle.pagable_machine.specs.Sights.{machine_by}
 use Rattle.pagable_machine.proofs.single.end_load.Goals as goal
 

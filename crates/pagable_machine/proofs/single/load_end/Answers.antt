@@ -2,7 +2,7 @@ use Rattle.std.proofs.Common.{map, ap, ◌∙◌, if◌then◌else◌, Bool, Glo
 use Rattle.std.specs.declared.sync.Arc.{Arc}
 use Rattle.pagable_core.specs.declared.storage.data.PagableData.{PagableData}
 use Rattle.pagable_machine.specs.Rows.{fetched_of}
-use Rattle.pagable_world.specs.LoadMoves.{without_load}
+use Rattle.pagable_world.specs.today.LoadMoves.{without_load}
 use Rattle.pagable_machine.proofs.Moving.{end-forgets}
 use Rattle.pagable_machine.proofs.single.load_end.Goals as goal
 

@@ -1,8 +1,8 @@
-use Rattle.pagable_world.specs.Sights.{values_by}
+use Rattle.pagable_world.specs.today.Sights.{values_by}
 use Rattle.pagable_machine.specs.Sights.{machine_by}
 use Rattle.pagable_machine.proofs.Closing.{drop-closes, leads}
-use Rattle.pagable_world.specs.TodayTrees.{Always}
-use Rattle.pagable_world.specs.Calls.{Dropped}
+use Rattle.pagable_world.specs.today.TodayTrees.{Always}
+use Rattle.pagable_world.specs.today.Calls.{Dropped}
 use Rattle.pagable_machine.proofs.steps.close.Goals as goal
 
 pub returns-clause-closes : goal.returns-clause-closes

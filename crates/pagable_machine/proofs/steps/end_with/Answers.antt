@@ -1,9 +1,9 @@
-use Rattle.pagable_world.specs.Sights.{values_by}
+use Rattle.pagable_world.specs.today.Sights.{values_by}
 use Rattle.pagable_machine.specs.Sights.{machine_by}
 use Rattle.pagable_machine.proofs.Closing.{closed-ends, open-ends, leads-where-ok}
-use Rattle.pagable_world.specs.TodayTrees.{ReadFits}
+use Rattle.pagable_world.specs.today.TodayTrees.{ReadFits}
 use Rattle.std.proofs.Common.{rules}
-use Rattle.pagable_world.specs.LoadEnds.{EndedAs}
+use Rattle.pagable_world.specs.today.LoadEnds.{EndedAs}
 use Rattle.pagable_machine.proofs.steps.end_with.Goals as goal
 
 pub returns-in-Err-default-None-clause-does : goal.returns-in-Err-default-None-clause-does

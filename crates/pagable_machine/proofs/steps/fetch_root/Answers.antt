@@ -1,8 +1,8 @@
 use Rattle.std.proofs.Common.{◌≡◌}
-use Rattle.pagable_world.specs.Sights.{values_by}
+use Rattle.pagable_world.specs.today.Sights.{values_by}
 use Rattle.pagable_machine.specs.Sights.{machine_by}
 use Rattle.pagable_machine.proofs.Closing.{fetch-gives, fetch-closes, leads, leads-on}
-use Rattle.pagable_world.specs.TodayTrees.{Always}
+use Rattle.pagable_world.specs.today.TodayTrees.{Always}
 use Rattle.pagable_machine.proofs.steps.fetch_root.Goals as goal
 
 pub returns-in-Ok-clause-does : goal.returns-in-Ok-clause-does

@@ -1,4 +1,4 @@
-use Rattle.pagable_world.specs.Sights.{values_by}
+use Rattle.pagable_world.specs.today.Sights.{values_by}
 use Rattle.pagable_machine.specs.Sights.{machine_by, events_by}
 use Rattle.pagable_machine.proofs.Closing.{full-closes, fetch-refused, root-kept, kept-more}
 use Rattle.std.proofs.Common.{map, ap}

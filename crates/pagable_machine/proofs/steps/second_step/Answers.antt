@@ -1,9 +1,9 @@
-use Rattle.pagable_world.specs.Sights.{values_by}
+use Rattle.pagable_world.specs.today.Sights.{values_by}
 use Rattle.pagable_machine.specs.Sights.{machine_by, events_by}
 use Rattle.std.proofs.Common.{map, IfOk}
 use Rattle.pagable_machine.specs.Rows.{fetched_of}
 use Rattle.pagable_machine.proofs.Closing.{leads-anyway}
-use Rattle.pagable_world.specs.TodayTrees.{ReadFits}
+use Rattle.pagable_world.specs.today.TodayTrees.{ReadFits}
 use Rattle.pagable_pager.proofs.Kept.{same_number}
 use Rattle.pagable_machine.proofs.Ending.{kept-at, row-number, fits-here, second-does, read-means}
 use Rattle.pagable_machine.proofs.steps.second_step.Goals as goal

@@ -1,4 +1,4 @@
-use Rattle.pagable_world.specs.Cells.{cell_of}
+use Rattle.pagable_world.specs.today.Cells.{cell_of}
 use Rattle.pagable_book.proofs.book.Book.count.Goals as goal
 
 pub returns : goal.returns

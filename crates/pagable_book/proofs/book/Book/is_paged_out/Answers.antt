@@ -1,6 +1,6 @@
 use Rattle.std.proofs.Common.{◌∙◌, ap, ◌==◌, ◌&&◌}
-use Rattle.pagable_world.specs.State.{has_key}
-use Rattle.pagable_world.specs.Cells.{cell_of}
+use Rattle.pagable_world.specs.today.State.{has_key}
+use Rattle.pagable_world.specs.today.Cells.{cell_of}
 use Rattle.pagable_book.proofs.book.Book.is_paged_out.Goals as goal
 
 pub returns : goal.returns

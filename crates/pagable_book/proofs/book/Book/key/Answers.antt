@@ -1,5 +1,5 @@
 use Rattle.std.proofs.Common.{refl}
-use Rattle.pagable_world.specs.Cells.{cell_of}
+use Rattle.pagable_world.specs.today.Cells.{cell_of}
 use Rattle.pagable_book.proofs.book.Book.key.Goals as goal
 
 pub returns : goal.returns

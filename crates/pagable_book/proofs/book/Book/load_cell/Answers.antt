@@ -1,6 +1,6 @@
 use Rattle.std.proofs.Common.{refl, ap, ◌∙◌}
 use Rattle.pagable_book.specs.Shape.{state_of}
-use Rattle.pagable_world.specs.Cells.{cell_of}
+use Rattle.pagable_world.specs.today.Cells.{cell_of}
 use Rattle.pagable_book.proofs.Known.{row-held}
 use Rattle.pagable_book.proofs.Settling.{cell-at}
 use Rattle.pagable_book.proofs.book.Book.load_cell.Goals as goal

@@ -1,6 +1,6 @@
 use Rattle.std.proofs.Common.{rules, refl, ap, ◌≡◌, ◌≢◌, ◌∙◌, All, sum_by}
-use Rattle.pagable_world.specs.State.{is_node}
-use Rattle.pagable_world.specs.Cells.{Cell, cell_of, cells_of}
+use Rattle.pagable_world.specs.today.State.{is_node}
+use Rattle.pagable_world.specs.today.Cells.{Cell, cell_of, cells_of}
 use Rattle.pagable_book.proofs.Here.{all-apart, cells-nodes}
 use Rattle.pagable_book.proofs.Settling.{cell-at}
 use Rattle.pagable_book.proofs.book.Book.node_type.Goals as goal

@@ -1,6 +1,6 @@
 use Rattle.std.proofs.Common.{sym, ◌∙◌, refl}
 use Rattle.pagable_book.specs.Shape.{state_of}
-use Rattle.pagable_world.specs.Cells.{cell_of}
+use Rattle.pagable_world.specs.today.Cells.{cell_of}
 use Rattle.pagable_book.proofs.Here.{pinned-value}
 use Rattle.pagable_book.proofs.book.Book.pinned_node.Goals as goal
 

@@ -2,9 +2,9 @@ use Rattle.std.proofs.Common.{◌≡◌, ◌+◌, ◌≤◌, length, List, ◌++
 use Rattle.std.specs.Vec.{vec_capacity}
 use Rattle.pagable_core.specs.declared.storage.data.PagableData.{PagableData}
 use Rattle.pagable_world.specs.declared.machine.MachineEvent.{MachineEvent}
-use Rattle.pagable_world.specs.MachineRuns.{FetchedFits, HasRun}
+use Rattle.pagable_world.specs.today.MachineRuns.{FetchedFits, HasRun}
 use Rattle.pagable_machine.specs.Rows.{driven_by, fetched_of}
-use Rattle.pagable_world.specs.Sights.{values_by}
+use Rattle.pagable_world.specs.today.Sights.{values_by}
 use Rattle.pagable_machine.specs.Sights.{machine_by, events_by}
 use Rattle.pagable_machine.proofs.machine.Machine.run.Given as goal
 

@@ -1,5 +1,5 @@
 use Rattle.std.proofs.Common.{◌≡◌, ◌==◌, take, sum_by}
-use Rattle.pagable_world.specs.State.{one}
+use Rattle.pagable_world.specs.today.State.{one}
 use Rattle.pagable_pager.proofs.pagable_arc.values.place_of.Given as goal
 
 abbrev pub invariant-loop-place : goal.invariant-loop-place

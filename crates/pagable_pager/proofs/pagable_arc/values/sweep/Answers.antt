@@ -1,7 +1,7 @@
 use Rattle.std.proofs.Common.{sum_by, map, rules, ap, ◌∙◌}
 use Rattle.std.specs.Prelude.{nat_lt}
 use Rattle.std.proofs.lemmas.Fn.{filter_same}
-use Rattle.pagable_world.specs.State.{value_at}
+use Rattle.pagable_world.specs.today.State.{value_at}
 use Rattle.pagable_pager.specs.Rows.{value_of}
 use Rattle.pagable_pager.proofs.Keeping.{kept-rows}
 use Rattle.pagable_pager.proofs.pagable_arc.values.sweep.Goals as goal

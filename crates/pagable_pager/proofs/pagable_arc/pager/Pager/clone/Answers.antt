@@ -1,5 +1,5 @@
 use Rattle.std.proofs.Common.{refl}
-use Rattle.pagable_world.specs.Calls.{Cloned}
+use Rattle.pagable_world.specs.today.Calls.{Cloned}
 use Rattle.pagable_pager.proofs.Kept.{keeps-book, clone-keeps}
 use Rattle.pagable_pager.proofs.pagable_arc.pager.Pager.clone.Goals as goal
 

@@ -1,5 +1,5 @@
 use Rattle.std.proofs.Common.{map, inr, refl}
-use Rattle.pagable_world.specs.World.{plain}
+use Rattle.pagable_world.specs.today.World.{plain}
 use Rattle.pagable_pager.specs.Rows.{value_of}
 use Rattle.pagable_pager.proofs.Keeping.{in-kept, in-same}
 use Rattle.pagable_pager.proofs.Ending.{beside, closed-step, open-step, still-open}

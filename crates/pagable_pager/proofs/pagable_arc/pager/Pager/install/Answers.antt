@@ -1,6 +1,6 @@
 use Rattle.std.proofs.Common.{◌≡◌, ◌++◌, ◌∷◌, [], ap, map, arith, inl, refl}
 use Rattle.std.proofs.lemmas.Grind.{common_steps}
-use Rattle.pagable_world.specs.World.{plain}
+use Rattle.pagable_world.specs.today.World.{plain}
 use Rattle.pagable_pager.specs.Rows.{value_of}
 use Rattle.pagable_pager.proofs.Keeping.{in-kept, in-comes, values-push}
 use Rattle.pagable_pager.proofs.Ending.{installed, closed-step, open-step, still-open}

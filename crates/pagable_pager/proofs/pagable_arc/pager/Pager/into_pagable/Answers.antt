@@ -1,5 +1,5 @@
 use Rattle.std.proofs.Common.{refl}
-use Rattle.pagable_world.specs.Calls.{Loosened}
+use Rattle.pagable_world.specs.today.Calls.{Loosened}
 use Rattle.pagable_pager.proofs.Kept.{keeps-book, loosen-keeps}
 use Rattle.pagable_pager.proofs.pagable_arc.pager.Pager.into_pagable.Goals as goal
 

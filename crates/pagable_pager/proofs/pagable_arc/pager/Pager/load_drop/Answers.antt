@@ -1,7 +1,7 @@
 use Rattle.std.proofs.Common.{map, refl}
 use Rattle.pagable_pager.specs.Rows.{value_of}
 use Rattle.pagable_pager.proofs.Keeping.{in-kept}
-use Rattle.pagable_world.specs.Calls.{Dropped}
+use Rattle.pagable_world.specs.today.Calls.{Dropped}
 use Rattle.pagable_pager.proofs.Kept.{keeps-kept, drop-keeps}
 use Rattle.pagable_pager.proofs.pagable_arc.pager.Pager.load_drop.Goals as goal
 

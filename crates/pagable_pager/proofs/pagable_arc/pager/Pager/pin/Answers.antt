@@ -1,5 +1,5 @@
 use Rattle.std.proofs.Common.{refl}
-use Rattle.pagable_world.specs.Calls.{PinnedBy}
+use Rattle.pagable_world.specs.today.Calls.{PinnedBy}
 use Rattle.pagable_pager.proofs.Kept.{keeps-book, pin-keeps}
 use Rattle.pagable_pager.proofs.pagable_arc.pager.Pager.pin.Goals as goal
 

@@ -1,7 +1,7 @@
 use Rattle.std.proofs.Common.{map, refl}
 use Rattle.pagable_pager.specs.Rows.{value_of}
 use Rattle.pagable_pager.proofs.Keeping.{in-kept}
-use Rattle.pagable_world.specs.Calls.{Released}
+use Rattle.pagable_world.specs.today.Calls.{Released}
 use Rattle.pagable_pager.proofs.Kept.{keeps-kept, release-keeps}
 use Rattle.pagable_pager.proofs.Sweeping.{others-found}
 use Rattle.pagable_pager.proofs.pagable_arc.pager.Pager.release.Goals as goal

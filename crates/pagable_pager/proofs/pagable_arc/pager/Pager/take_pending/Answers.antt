@@ -1,5 +1,5 @@
 use Rattle.std.proofs.Common.{refl}
-use Rattle.pagable_world.specs.Calls.{Took}
+use Rattle.pagable_world.specs.today.Calls.{Took}
 use Rattle.pagable_pager.proofs.Kept.{keeps-book, take-keeps}
 use Rattle.pagable_pager.proofs.pagable_arc.pager.Pager.take_pending.Goals as goal
 

@@ -1,5 +1,5 @@
 use Rattle.std.proofs.Common.{map}
-use Rattle.pagable_world.specs.Shown.{Shown}
+use Rattle.pagable_world.specs.today.Shown.{Shown}
 use Rattle.pagable_pager.specs.Rows.{value_of}
 use Rattle.pagable_pager.proofs.Kept.{lends, value-there}
 use Rattle.pagable_pager.proofs.pagable_arc.pager.Pager.value.Goals as goal

@@ -1,0 +1,301 @@
+-- What running threads share: results with a finite tree of results below each. Whole operations over an access to a pager and a table, which may
+-- tell its state: a pin, a reading, a page-out of an item and of the list. Each is a run of the steps of one load or of one worker, up to its answer.
+use Rattle.std.specs.Prelude.{◌≡◌, ℕ, List, [], ◌∷◌, ◌+◌, ◌==◌, ◌&&◌, Bool, true, false, if◌then◌else◌, length, Option, Some, None, Result, Ok, IfOk, IfErr, slice_get, ◌⊎◌, Err}
+use Rattle.pagable_model.specs.Merkle.{blob_of, KeyOf}
+use Rattle.pagable_world.specs.Plain.{ArcRef, Identity, Blob, type_of, Error, OptionalDataKey, HandleNumber, LoadNumber, Tree, ReadsTree, Owner, HandleRow, LoadAnswer, Took, WorkerAnswer}
+use Rattle.pagable_model.specs.declared.error.Error.TheVariants as errors
+use Rattle.pagable_model.specs.declared.data_key.OptionalDataKey.TheVariants as optional
+use Rattle.pagable_world.specs.declared.rows.Mode.TheVariants as modes
+use Rattle.pagable_world.specs.declared.handles.Owner.TheVariants as owners
+use Rattle.pagable_world.specs.declared.answers.Pinning.TheVariants as pinnings
+use Rattle.pagable_world.specs.declared.answers.Beginning.TheVariants as beginnings
+use Rattle.pagable_world.specs.declared.events.LoadAnswer.TheVariants as ends
+use Rattle.pagable_world.specs.declared.events.WorkerAnswer.TheVariants as finals
+use Rattle.pagable_world.specs.Kinds.{identity_of, HasKinds, HasNoKinds}
+use Rattle.pagable_world.specs.World.{Written, Frame, Outcome, is_identity, Values, digest, HasForm, Core, Shelf, Slot, Reading, Todo, of_item, row_at, key_at, Alike, SameShelf, Seen, IsLawful, IsSettled}
+use Rattle.pagable_world.specs.Calls.{PinCall, UnpinCall, ReleaseCall, TakeCall}
+use Rattle.pagable_world.specs.LoadCalls.{BeginCall, BeginKeyCall}
+use Rattle.pagable_world.specs.Loads.{IsDecoded, ReadingDoes, gone_on}
+use Rattle.pagable_world.specs.Workers.{is_open_outcome, Site, WalkDoes, IsPublished, is_open_slot, first_todo, fresh, answer_after}
+use Rattle.pagable_world.specs.Events.{Ends, IsEntry, entry_task, with_entry_taken, with_worker, reading_of_load, no_shelf}
+use Rattle.pagable_world.specs.Pager.{PagerState, WellFormed, Moves, ReadingBrings, TodoBrings, TookWrites, ValueStands, Represents, SameTrees}
+use Rattle.pagable_world.specs.Runs.{ReadsItsTypes, HoldsSettled, TakesWell, TodoTakesWell}
+use Rattle.pagable_world.specs.Headline.{ReadIsRight, IsKeyOfTask}
+
+mutual
+  -- Below the identity, with this value and key, stands a finite tree of results: the value is of the identity's type and has a form, and the key is
+  -- that of the form over the keys of one result for each of its references.
+  pub data ResultStands {N : Type 0} (v : Values N) : Identity → N → ℕ → Type 0 where
+    stands-over : (i : Identity) (x : N) (written : Written) (keys : List ℕ) → v.node_type x ≡ type_of i.kind.0 → HasForm v x written → ResultsStand v written.references keys → ResultStands v i x (digest v (blob_of written.bytes keys))
+
+  -- one such tree for each of these references, of its identity
+  pub data ResultsStand {N : Type 0} (v : Values N) : List ArcRef → List ℕ → Type 0 where
+    no-results : ResultsStand v [] []
+    more-results : (r : ArcRef) (x : N) (key : ℕ) (references : List ArcRef) (keys : List ℕ) → ResultStands v (identity_of r) x key → ResultsStand v references keys → ResultsStand v (r ∷ references) (key ∷ keys)
+
+-- some value with such a tree below it; so that a table keeps no value in memory
+pub record HasResult {N : Type 0} (v : Values N) (i : Identity) (key : ℕ) : Type 0 where
+  pub x : N
+  pub stands : ResultStands v i x key
+
+-- The key of an item is the digest of its bytes over the keys of such results, one for each reference.
+-- To be carried by: `page_out_item` and `page_out_all`.
+pub record IsOverResults {N : Type 0} (v : Values N) (item : Written) (key : ℕ) : Type 0 where
+  pub keys : List ℕ
+  pub each : ResultsStand v item.references keys
+  pub is : key ≡ digest v (blob_of item.bytes keys)
+
+-- What a future of a pin installs is what the blob that it fetched at its key reads as.
+-- To be carried by: the step of `PinFuture` that ends its load.
+pub record IsReadAt {N : Type 0} (v : Values N) (key : ℕ) (blob : Blob) (x : N) : Type 0 where
+  pub frame : Frame
+  pub under : frame.key ≡ key
+  pub fetched : frame.blob ≡ blob
+  pub decoded : IsDecoded v frame x
+
+-- which identities are claimed on a table, and how many claims its book counts
+pub record Claimed : Type 0 where
+  pub is_claimed : Identity → Bool
+  pub counted : ℕ
+
+-- one more claim, of this identity
+pub record TakesClaim (old : Claimed) (share : ℕ) (i : Identity) (new : Claimed) (share' : ℕ) : Type 0 where
+  pub was_free : old.is_claimed i ≡ false
+  pub each : (j : Identity) → new.is_claimed j ≡ (if is_identity i j then true else old.is_claimed j)
+  pub counts : new.counted ≡ old.counted + 1
+  pub shares : share' ≡ share + 1
+
+-- nothing was claimed
+pub record TakesNone (old : Claimed) (share : ℕ) (new : Claimed) (share' : ℕ) : Type 0 where
+  pub each : (j : Identity) → new.is_claimed j ≡ old.is_claimed j
+  pub counts : new.counted ≡ old.counted
+  pub shares : share' ≡ share
+
+abbrev pub Tries : Claimed → ℕ → Identity → Bool → Claimed → ℕ → Type 0
+Tries old share i true new share' = TakesClaim old share i new share'
+Tries old share i false new share' = (old.is_claimed i ≡ true) × TakesNone old share new share'
+
+-- An identity goes from free to claimed by one call that answers true, which adds one to the caller's share and to the book, and nothing else does.
+-- To be carried by: `try_claim`.
+pub record TryClaim (old : Claimed) (share : ℕ) (i : Identity) (r : Result Bool Error) (new : Claimed) (share' : ℕ) : Type 0 where
+  pub tries : IfOk r (λ taken. Tries old share i taken new share')
+  pub refused : IfErr r (λ e. (e ≡ errors.OutOfMemory) × TakesNone old share new share')
+
+-- a share that is split or merged keeps its sum
+-- To be carried by: `split_off` and `merge`.
+abbrev pub KeepsSum : ℕ → ℕ → ℕ → Type 0
+KeepsSum whole part other = whole ≡ part + other
+
+-- A lent slot takes one result, which never changes.
+-- To be carried by: `set_success` and `set_failed`.
+abbrev pub TakesResult : Outcome → Outcome → Outcome → Type 0
+TakesResult old outcome new = new ≡ (if is_open_outcome old then outcome else old)
+
+-- What a page-out of all items reports: an answer for each in order, each key over results, and as many claims as the book counts.
+-- To be carried by: `page_out_all`.
+pub record IsReport {N F : Type 0} (v : Values N) (items : List Written) (keys : List (Result ℕ F)) (claims counted : ℕ) : Type 0 where
+  pub each : length keys ≡ length items
+  pub over : (place key : ℕ) (item : Written) → slice_get items place ≡ Some item → slice_get keys place ≡ Some (Ok key) → IsOverResults v item key
+  pub claims_are : claims ≡ counted
+
+-- a cell for a kind and key, with the reference that stands there or none yet
+abbrev pub Cells : Type 0
+Cells = ℕ → ℕ → Option (Option ArcRef)
+
+-- the map with this at one kind and key
+pub record CellIs (old : Cells) (kind key : ℕ) (cell : Option (Option ArcRef)) (new : Cells) : Type 0 where
+  pub each : (k q : ℕ) → new k q ≡ (if k == kind && q == key then cell else old k q)
+
+-- all cells are gone
+abbrev pub NoCells : Cells → Type 0
+NoCells new = (kind key : ℕ) → new kind key ≡ None
+
+-- the pager and the one table of an access
+pub record AccessState (N E : Type 0) : Type 0 where
+  pub pager : PagerState N E
+  pub shelf : Shelf
+
+abbrev pub tells : {S : Type 0} → Option S → Option S → (S → S → Type 0) → Type 0
+tells None t R = Unit {0}
+tells (Some s) None R = ⊥
+tells (Some s) (Some t) R = R s t
+
+-- R holds between two states, where they are told: a state that is told once is told always
+pub record Told {S : Type 0} (s t : Option S) (R : S → S → Type 0) : Type 0 where
+  pub holds : tells s t R
+
+-- A call of the pager: what it does to the plain world, and that no value comes by it.
+pub record Called {N E : Type 0} (v : Values N) (does : Core → Type 0) (s s' : PagerState N E) : Type 0 where
+  pub step : does s'.core
+  pub moves : Moves (λ n x. ⊥) s s'
+  pub whole : WellFormed v s'
+
+-- a load's step
+pub record ReadingStep {N E : Type 0} (v : Values N) (me : Owner) (reading : Reading) (s : PagerState N E) (answer : Option (LoadAnswer N)) (frames : List Frame) (s' : PagerState N E) : Type 0 where
+  pub does : ReadingDoes v s.core me reading answer frames s'.core
+  pub moves : Moves (ReadingBrings v s.core reading) s s'
+  pub whole : WellFormed v s'
+
+-- a worker's step, from what it has to do to what it has to do then
+pub record WalkStep {N E B W : Type 0} (m : Seen N B W) (n : ℕ) (todo : List Todo) (s : AccessState N E) (step : Took W) (next : List Todo) (s' : AccessState N E) : Type 0 where
+  pub after : Site
+  pub does : WalkDoes m n (record { core = s.pager.core; shelf = s.shelf; todo = todo }) step after
+  pub goes_on : next ≡ after.todo
+  pub shelf_is : SameShelf after.shelf s'.shelf
+  pub ends : Ends (answer_after todo step) n after.core s'.pager.core
+  pub moves : Moves (TodoBrings m.values s.pager.core todo) s.pager s'.pager
+  pub writes : TookWrites m.values m.written_of s.pager step
+  pub whole : WellFormed m.values s'.pager
+
+-- a load's steps up to its end, which is this
+pub data LoadRun {N E : Type 0} (v : Values N) (me : Owner) : Reading → PagerState N E → LoadAnswer N → PagerState N E → Type 0 where
+  load-ends : (reading : Reading) (answer : LoadAnswer N) (s s' : PagerState N E) → ReadingStep v me reading s (Some answer) [] s' → LoadRun v me reading s answer s'
+  load-goes-on : (reading : Reading) (frames : List Frame) (answer : LoadAnswer N) (s mid s' : PagerState N E) → ReadingStep v me reading s None frames mid → LoadRun v me (gone_on reading frames) mid answer s' → LoadRun v me reading s answer s'
+
+-- a worker's steps up to its answer, which is this
+pub data WorkerRun {N E B W : Type 0} (m : Seen N B W) (n : ℕ) : List Todo → AccessState N E → List (Took W) → WorkerAnswer → AccessState N E → Type 0 where
+  worker-ends : (todo next : List Todo) (step : Took W) (answer : WorkerAnswer) (s s' : AccessState N E) → WalkStep m n todo s step next s' → answer_after todo step ≡ Some answer → WorkerRun m n todo s (step ∷ []) answer s'
+  worker-goes-on : (todo next : List Todo) (step : Took W) (steps : List (Took W)) (answer : WorkerAnswer) (s mid s' : AccessState N E) → WalkStep m n todo s step next mid → answer_after todo step ≡ None → WorkerRun m n next mid steps answer s'
+      → WorkerRun m n todo s (step ∷ steps) answer s'
+
+-- what is asked of each step of a run: no value in memory is written later, and keys that are taken without being read read as some value
+unfoldable pub LoadAsksWell : {N E : Type 0} {v : Values N} {me : Owner} {reading : Reading} {s s' : PagerState N E} {answer : LoadAnswer N} → LoadRun v me reading s answer s' → Type 0
+LoadAsksWell {v = v} (load-ends reading answer s s' step) = HoldsSettled v s' × TakesWell v s reading
+LoadAsksWell {v = v} (load-goes-on reading frames answer s mid s' step more) = HoldsSettled v mid × TakesWell v s reading × LoadAsksWell more
+
+unfoldable pub WorkerAsksWell : {N E B W : Type 0} {m : Seen N B W} {n : ℕ} {todo : List Todo} {s s' : AccessState N E} {steps : List (Took W)} {answer : WorkerAnswer} → WorkerRun m n todo s steps answer s' → Type 0
+WorkerAsksWell {m = m} (worker-ends todo next step answer s s' does is) = HoldsSettled m.values s'.pager × TodoTakesWell m.values s.pager todo
+WorkerAsksWell {m = m} (worker-goes-on todo next step steps answer s mid s' does is more) = HoldsSettled m.values mid.pager × TodoTakesWell m.values s.pager todo × WorkerAsksWell more
+
+-- a load of the handle's cell begins, and this is its reading
+pub record LoadStarts {N E : Type 0} (v : Values N) (s : PagerState N E) (h : HandleNumber) (reading : Reading) (s' : PagerState N E) : Type 0 where
+  pub key : ℕ
+  pub begins : Called v (λ w'. BeginCall s.core owners.Caller h (Ok (beginnings.Load reading.load key)) w') s s'
+  pub is : reading_of_load reading.load (s'.core.loads reading.load.0) ≡ Some reading
+
+-- a pin: at once, or by a load up to its end
+pub data PinRun {N E : Type 0} (v : Values N) (s : PagerState N E) (h : HandleNumber) : Result HandleNumber Error → PagerState N E → Type 0 where
+  pins-at-once : (k : HandleNumber) (s' : PagerState N E) → Called v (λ w'. PinCall s.core owners.Caller h (Ok (pinnings.Pinned k)) w') s s' → PinRun v s h (Ok k) s'
+  pin-is-refused : (e : Error) (s' : PagerState N E) → Called v (λ w'. PinCall s.core owners.Caller h (Err e) w') s s' → PinRun v s h (Err e) s'
+  load-is-refused : (e : Error) (s' : PagerState N E) → Called v (λ w'. BeginCall s.core owners.Caller h (Err e) w') s s' → PinRun v s h (Err e) s'
+  load-pins : (k : HandleNumber) (reading : Reading) (mid s' : PagerState N E) → LoadStarts v s h reading mid → LoadRun v owners.Caller reading mid (ends.Pinned k) s' → PinRun v s h (Ok k) s'
+  load-fails : (e : Error) (reading : Reading) (mid s' : PagerState N E) → LoadStarts v s h reading mid → LoadRun v owners.Caller reading mid (ends.Refused e) s' → PinRun v s h (Err e) s'
+
+-- the value of the handle's node, which the pin shares
+pub record IsValueOf {N E : Type 0} (s : PagerState N E) (k : HandleNumber) (x : N) : Type 0 where
+  pub row : HandleRow
+  pub live : row_at s.core k ≡ Some row
+  pub held : s.values row.node.0 ≡ Some x
+
+-- The handle was unpinned before, and its pin is let go again; or it was pinned, and stays so.
+abbrev pub IsUnpinnedBack : {N E : Type 0} → Values N → Core → HandleNumber → PagerState N E → PagerState N E → Type 0
+IsUnpinnedBack v before h s s' =
+    ((row : HandleRow) × (told : Result (Unit {0}) Error) × (row_at before h ≡ Some row) × (row.mode ≡ modes.LooseUnpinned) × Called v (λ w'. UnpinCall s.core owners.Caller h told w') s s')
+    ⊎ ((row : HandleRow) × (row_at before h ≡ Some row) × (row.mode ≡ modes.LoosePinned) × Called v (λ w'. Alike s.core w') s s')
+
+-- a pin whose value couldn't be shared for want of memory is taken back
+pub record PinTakenBack {N E : Type 0} (v : Values N) (s : PagerState N E) (h : HandleNumber) (s' : PagerState N E) : Type 0 where
+  pub k : HandleNumber
+  pub mid : PagerState N E
+  pub low : PagerState N E
+  pub told : Result (Unit {0}) Error
+  pub pins : PinRun v s h (Ok k) mid
+  pub unpins : IsUnpinnedBack v s.core h mid low
+  pub releases : Called v (λ w'. ReleaseCall low.core owners.Caller k told w') low s'
+
+-- The answer of a pin, and what it leaves: its handle's value, or a refusal.
+-- To be carried by: `pin_over`.
+pub record PinsOver {N E : Type 0} (v : Values N) (s : PagerState N E) (h : HandleNumber) (r : Result (HandleNumber × N) Error) (s' : PagerState N E) : Type 0 where
+  pub pins : IfOk r (λ a. PinRun v s h (Ok a.0) s' × IsValueOf s' a.0 a.1)
+  pub refused : IfErr r (λ e. PinRun v s h (Err e) s' ⊎ ((e ≡ errors.OutOfMemory) × PinTakenBack v s h s'))
+
+-- a load of a key begins
+abbrev pub KeyStarts : {N E : Type 0} → Values N → PagerState N E → ℕ → LoadNumber → PagerState N E → Type 0
+KeyStarts v s key l s' = Called v (λ w'. BeginKeyCall s.core owners.Caller key (Ok (beginnings.Load l key)) w') s s'
+
+pub data ReadRun {N E : Type 0} (v : Values N) (s : PagerState N E) (key t : ℕ) : Result N Error → PagerState N E → Type 0 where
+  reading-is-refused : (e : Error) (s' : PagerState N E) → Called v (λ w'. BeginKeyCall s.core owners.Caller key (Err e) w') s s' → ReadRun v s key t (Err e) s'
+  load-reads : (x : N) (l : LoadNumber) (mid s' : PagerState N E) → KeyStarts v s key l mid → LoadRun v owners.Caller (fresh l t) mid (ends.Read x) s' → ReadRun v s key t (Ok x) s'
+  reading-fails : (e : Error) (l : LoadNumber) (mid s' : PagerState N E) → KeyStarts v s key l mid → LoadRun v owners.Caller (fresh l t) mid (ends.Refused e) s' → ReadRun v s key t (Err e) s'
+
+-- The answer of a reading of a key as a value of a type, and what it leaves.
+-- To be carried by: `read_over`.
+pub record ReadsOver {N E : Type 0} (v : Values N) (s : PagerState N E) (key t : ℕ) (r : Result N Error) (s' : PagerState N E) : Type 0 where
+  pub run : ReadRun v s key t r s'
+
+-- each claim of a table has a result, so that nobody waits on it
+abbrev pub AllHaveResults : Shelf → Type 0
+AllHaveResults shelf = (i : Identity) (slot : Slot) → shelf.slots i ≡ Some slot → is_open_slot (Some slot) ≡ false
+
+-- a worker is at work, under the next number, over this pager
+pub record WorkerStarts {N E : Type 0} (v : Values N) (core : Core) (s : PagerState N E) (n : ℕ) (s' : PagerState N E) : Type 0 where
+  pub next : n ≡ s.core.last.worker + 1
+  pub begins : Called v (λ w'. Alike (with_worker core) w') s s'
+
+pub data ItemRun {N E B W : Type 0} (m : Seen N B W) (s : AccessState N E) (item : Written) : WorkerAnswer → AccessState N E → Type 0 where
+  no-worker : (s' : AccessState N E) → Called m.values (λ w'. Alike s.pager.core w') s.pager s'.pager → SameShelf s.shelf s'.shelf → ItemRun m s item (finals.Failed errors.OutOfMemory) s'
+  item-is-walked : (n : ℕ) (steps : List (Took W)) (answer : WorkerAnswer) (mid : PagerState N E) (s' : AccessState N E) → WorkerStarts m.values s.pager.core s.pager n mid
+      → WorkerRun m n (first_todo (of_item item)) (record { pager = mid; shelf = s.shelf }) steps answer s' → ItemRun m s item answer s'
+
+-- The answer of a page-out of an item on a table, and what it leaves.
+-- To be carried by: `page_out_item_over`.
+pub record PagesOutItemOver {N E B W : Type 0} (m : Seen N B W) (s : AccessState N E) (item : Written) (answer : WorkerAnswer) (s' : AccessState N E) : Type 0 where
+  pub run : ItemRun m s item answer s'
+  pub all_have_results : AllHaveResults s'.shelf
+
+-- the cell of the entry at this place has this key, or none
+pub record EntryHas (w : Core) (place : ℕ) (h : HandleNumber) (key : OptionalDataKey) : Type 0 where
+  pub row : HandleRow
+  pub listed : slice_get w.list place ≡ Some h
+  pub live : row_at w h ≡ Some row
+  pub keyed : key_at w row.node.0 ≡ key
+
+-- an entry is paged out on a table of its own, which nothing is told of afterwards
+pub data EntryRun {N E B W : Type 0} (m : Seen N B W) (s : PagerState N E) (place : ℕ) : WorkerAnswer → PagerState N E → Type 0 where
+  entry-is-refused : (h : HandleNumber) (row : HandleRow) (t : ℕ) (s' : PagerState N E) → IsEntry s.core place h row t → HasNoKinds t → Called m.values (λ w'. Alike s.core w') s s' → EntryRun m s place (finals.Failed errors.WrongKind) s'
+  no-entry-worker : (s' : PagerState N E) → Called m.values (λ w'. Alike s.core w') s s' → EntryRun m s place (finals.Failed errors.OutOfMemory) s'
+  entry-is-walked : (h : HandleNumber) (row : HandleRow) (t n : ℕ) (steps : List (Took W)) (answer : WorkerAnswer) (mid : PagerState N E) (s' : AccessState N E) → IsEntry s.core place h row t → HasKinds t
+      → WorkerStarts m.values (with_entry_taken s.core place h (record { 0 = n })) s n mid → WorkerRun m n (first_todo (entry_task h row t)) (record { pager = mid; shelf = no_shelf }) steps answer s' → EntryRun m s place answer s'.pager
+
+-- A page-out of so many entries, from the last to the first: one whose cell has a key is taken and released, another is paged out, and the first failure is the end.
+pub data ListRun {N E B W : Type 0} (m : Seen N B W) : ℕ → PagerState N E → Result (Unit {0}) WorkerAnswer → PagerState N E → Type 0 where
+  no-more : (s : PagerState N E) → ListRun m 0 s (Ok tt) s
+  skips : (i place key : ℕ) (h : HandleNumber) (told : Result (Unit {0}) Error) (answer : Result (Unit {0}) WorkerAnswer) (s mid low s' : PagerState N E) → i ≡ place + 1 → EntryHas s.core place h (optional.Some key)
+      → Called m.values (λ w'. TakeCall s.core owners.Caller place (Some h) w') s mid → Called m.values (λ w'. ReleaseCall mid.core owners.Caller h told w') mid low → ListRun m place low answer s' → ListRun m i s answer s'
+  pages : (i place key : ℕ) (h : HandleNumber) (answer : Result (Unit {0}) WorkerAnswer) (s mid s' : PagerState N E) → i ≡ place + 1 → EntryHas s.core place h optional.None → EntryRun m s place (finals.Key key) mid
+      → ListRun m place mid answer s' → ListRun m i s answer s'
+  fails : (i place : ℕ) (h : HandleNumber) (e : Error) (s s' : PagerState N E) → i ≡ place + 1 → EntryHas s.core place h optional.None → EntryRun m s place (finals.Failed e) s' → ListRun m i s (Err (finals.Failed e)) s'
+
+-- The answer of a page-out of the list as it stands at the call, and what it leaves.
+-- To be carried by: `page_out_pending_over`.
+pub record PagesOutListOver {N E B W : Type 0} (m : Seen N B W) (s : PagerState N E) (answer : Result (Unit {0}) WorkerAnswer) (s' : PagerState N E) : Type 0 where
+  pub run : ListRun m (length s.core.list) s answer s'
+
+-- for each choice of trees that the pager stood for there is one, the same for the nodes that were there, that it stands for now, and P holds
+abbrev pub LeadsToTrees : {N E : Type 0} → Values N → PagerState N E → PagerState N E → ((ℕ → Tree) → (ℕ → Tree) → Type 0) → Type 0
+LeadsToTrees v s s' P = IsLawful v → ReadsItsTypes v.types → HoldsSettled v s → (trees : ℕ → Tree) → Represents v s trees → (trees' : ℕ → Tree) × SameTrees s.core.last.node trees trees' × Represents v s' trees' × P trees trees'
+
+-- The law of loads that end with a pin: the value of its handle's node stands for the node's tree.
+abbrev pub PinLaw : {N : Type 0} → (E : Type 0) → Values N → Type 0
+PinLaw {N} E v =
+    (s mid s' : PagerState N E) (h k : HandleNumber) (reading : Reading) (x : N) (row : HandleRow) (run : LoadRun v owners.Caller reading mid (ends.Pinned k) s')
+    → WellFormed v s → LoadStarts v s h reading mid → LoadAsksWell run → row_at s'.core k ≡ Some row → s'.values row.node.0 ≡ Some x → LeadsToTrees v s s' (λ trees trees'. ValueStands v s' x (trees' row.node.0))
+
+-- The law of loads that read a key: their value stands for the tree that the key reads as.
+abbrev pub ReadLaw : {N : Type 0} → (E : Type 0) → Values N → Type 0
+ReadLaw {N} E v =
+    (s mid s' : PagerState N E) (key t : ℕ) (l : LoadNumber) (x : N) (run : LoadRun v owners.Caller (fresh l t) mid (ends.Read x) s')
+    → WellFormed v s → KeyStarts v s key l mid → LoadAsksWell run → IsSettled v x → LeadsToTrees v s s' (λ trees trees'. ReadIsRight v s' key x)
+
+-- the keys that are known on the table are those of their nodes' trees, and the store reads so
+pub record KeysAreRight {N E : Type 0} (v : Values N) (s : AccessState N E) (trees : ℕ → Tree) : Type 0 where
+  pub key_of : (i : Identity) (key height : ℕ) → IsPublished s.shelf i key height → KeyOf v.hash v.types (trees i.node.0) key
+  pub reads : (i : Identity) (key height : ℕ) → IsPublished s.shelf i key height → ReadsTree s.pager.core.stored v.types key (trees i.node.0)
+
+-- The law of page-outs of items: where the keys known on the table were right they are, and a key that is answered is the item's.
+abbrev pub ItemLaw : {N B W : Type 0} → (E : Type 0) → Seen N B W → Type 0
+ItemLaw {N} {B} {W} E m =
+    (s s' : AccessState N E) (mid : PagerState N E) (n : ℕ) (item : Written) (steps : List (Took W)) (answer : WorkerAnswer)
+    (run : WorkerRun m n (first_todo (of_item item)) (record { pager = mid; shelf = s.shelf }) steps answer s')
+    → WellFormed m.values s.pager → WorkerStarts m.values s.pager.core s.pager n mid → WorkerAsksWell run
+    → LeadsToTrees m.values s.pager s'.pager (λ trees trees'. KeysAreRight m.values s trees → KeysAreRight m.values s' trees' × ((key : ℕ) → answer ≡ finals.Key key → IsKeyOfTask m.values trees' (of_item item) key))

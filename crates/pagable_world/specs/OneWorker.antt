@@ -1,0 +1,206 @@
+-- What holds besides where each load's and each worker's steps stand together, and of one cache and one store.
+use Rattle.std.specs.Prelude.{ℕ, ◌≡◌, ◌≢◌, ◌<◌, ◌⊎◌, ◌↔◌, max, true, false, List, [], ◌∷◌, Option, Some, Ok, slice_get}
+use Rattle.pagable_model.specs.Deep.{Kid, kind_of_kid}
+use Rattle.pagable_model.specs.Form.{Form}
+use Rattle.pagable_model.specs.Meaning.{pair, variant, followed}
+use Rattle.pagable_model.specs.Merkle.{StoredTree, HasOwnKeys, TreeForm, unfolded}
+use Rattle.pagable_model.specs.Canonical.{IsCanonicalTree, IsReadableTree}
+use Rattle.pagable_world.specs.Plain.{Error, ArcRef, HandleNumber, Identity, Kind, LoadNumber, NodeNumber, Blob, Meaning, Shape, Tree, Types, tree, type_of, Owner, HandleRow, Event, EventReply, Among, longest_path, above, height, deepest_path}
+use Rattle.pagable_model.specs.declared.error.Error.TheVariants as errors
+use Rattle.pagable_model.specs.declared.data_key.OptionalDataKey.TheVariants as optional
+use Rattle.pagable_world.specs.declared.answers.Beginning.TheVariants as beginnings
+use Rattle.pagable_world.specs.declared.calls.Want.TheVariants as wants
+use Rattle.pagable_world.specs.declared.calls.Call.TheVariants as calls
+use Rattle.pagable_world.specs.declared.calls.Reply.TheVariants as replies
+use Rattle.pagable_world.specs.declared.events.WorkerAnswer.TheVariants as finals
+use Rattle.pagable_world.specs.declared.events.LoadAnswer.TheVariants as ends
+use Rattle.pagable_world.specs.declared.events.Event.TheVariants as events
+use Rattle.pagable_world.specs.declared.events.EventReply.TheVariants as answers
+use Rattle.pagable_world.specs.Kinds.{fits_mode}
+use Rattle.pagable_world.specs.World.{Core, OpenLoad, of_cell, Task, of_item, of_entry, Walking, row_at, key_at, is_here, Values, Seen, IsLawful}
+use Rattle.pagable_world.specs.LoadCalls.{from_cache, AskCall, Adopts, LazyCall}
+use Rattle.pagable_world.specs.Workers.{IsPublished}
+use Rattle.pagable_world.specs.Pager.{MachineState, IsWhole, IsMachineWhole, StandsFor}
+use Rattle.pagable_world.specs.Runs.{ReadsItsTypes, HoldsSettled, Moment, AreMoments, state_after, Fact, TreesAlong}
+use Rattle.pagable_world.specs.Order.{ReadsTooDeep}
+use Rattle.pagable_world.specs.Headline.{Meets}
+
+-- whose turn a moment is; the begin of a load or worker is its first
+pub data Turn : Type 0 where
+  of_load : ℕ → Turn
+  of_worker : ℕ → Turn
+  of_nobody : Turn
+
+abbrev pub turn_of : {N B W : Type 0} → Event N B W → EventReply N B W → Turn
+turn_of (events.LoadStep l) reply = of_load l.0
+turn_of (events.LoadStart h) (answers.Started (Ok (beginnings.Load l key))) = of_load l.0
+turn_of (events.Call (calls.LoadBegin h)) (answers.CallReply (replies.Begun (Ok (beginnings.Load l key)))) = of_load l.0
+turn_of (events.LoadKey k t) (answers.Started (Ok (beginnings.Load l key))) = of_load l.0
+turn_of (events.WorkerStep v) reply = of_worker v.0
+turn_of (events.WorkerItem t written) (answers.WorkerMade (Ok v)) = of_worker v.0
+turn_of (events.WorkerListed t i) (answers.WorkerMade (Ok v)) = of_worker v.0
+turn_of event reply = of_nobody
+
+-- each load's turns, and each worker's, stand together
+abbrev pub StandTogether : {N E B W : Type 0} → List (Moment N E B W) → Type 0
+StandTogether {N} {E} {B} {W} moments =
+    (i j k : ℕ) (a b c : Moment N E B W) → i < j → j < k → slice_get moments i ≡ Some a → slice_get moments j ≡ Some b → slice_get moments k ≡ Some c
+    → turn_of a.event a.reply ≢ of_nobody → turn_of c.event c.reply ≡ turn_of a.event a.reply → turn_of b.event b.reply ≡ turn_of a.event a.reply
+
+-- a reference in the meaning leads to the tree, at once or further down
+pub data Reaches : Meaning ⊥ → Tree → Type 0 where
+  refers : (kind : ℕ) (a : Meaning ⊥) → Reaches (followed kind a) (tree (type_of kind) a)
+  refers-on : (kind : ℕ) (a : Meaning ⊥) (t : Tree) → Reaches a t → Reaches (followed kind a) t
+  in-first : (a b : Meaning ⊥) (t : Tree) → Reaches a t → Reaches (pair a b) t
+  in-rest : (a b : Meaning ⊥) (t : Tree) → Reaches b t → Reaches (pair a b) t
+  in-part : (n : ℕ) (a : Meaning ⊥) (t : Tree) → Reaches a t → Reaches (variant n a) t
+
+-- the tree's own value has a form, but with more levels than there are
+pub record IsTooNested (types : Types) (t : Tree) : Type 0 where
+  pub shape : Shape
+  pub is : types.nodes t.type ≡ Some shape
+  pub levels : ℕ
+  pub bytes : List ℕ
+  pub kids : List Kid
+  pub form : Form Kid kind_of_kid types.parts levels shape (unfolded t.meaning) bytes kids
+  pub none_within : (some_bytes : List ℕ) (some_kids : List Kid) → ¬ TreeForm types shape t.meaning some_bytes some_kids
+
+-- the tree, or one that it reaches, is so
+abbrev pub HasTooNested : Types → Tree → Type 0
+HasTooNested types t = IsTooNested types t ⊎ ((below : Tree) × Reaches t.meaning below × IsTooNested types below)
+
+-- the path through a reference, or one below it, is too long
+abbrev pub IsLongBelow : ℕ → Meaning ⊥ → Type 0
+IsLongBelow kind m = longest_path < max (above kind (height m)) (deepest_path m)
+
+-- a path of too many references leads down from the item, or from the listed cell
+abbrev pub IsTooDeepTask : (ℕ → Tree) → Task → Type 0
+IsTooDeepTask trees (of_item written) = (r : ArcRef) × Among written.references r × IsLongBelow r.kind.0 (trees r.node.0).meaning
+IsTooDeepTask trees (of_entry h i) = longest_path < deepest_path (trees i.node.0).meaning
+
+-- some value that the task reaches has no form for its levels
+abbrev pub IsTooNestedTask : Types → (ℕ → Tree) → Task → Type 0
+IsTooNestedTask types trees (of_item written) = (r : ArcRef) × Among written.references r × HasTooNested types (trees r.node.0)
+IsTooNestedTask types trees (of_entry h i) = HasTooNested types (trees i.node.0)
+
+-- A cell that the worker meets is away, and the reading of its key is too deep: that takes references too which a repeated key of a map drops, so
+-- that its path may be longer than any of the cell's tree.
+pub record IsTooDeepReading {N E : Type 0} (v : Values N) (s : MachineState N E) (walking : Walking) : Type 0 where
+  pub i : Identity
+  pub key : ℕ
+  pub meets : Meets (s.work.shelves walking.table) walking.task i
+  pub away : is_here s.pager.core i.node.0 ≡ false
+  pub has : key_at s.pager.core i.node.0 ≡ optional.Some key
+  pub deep : ReadsTooDeep v.types s.pager.core.stored (type_of i.kind.0) key
+
+-- Too deep is answered only where one of these is so. Where one of the first two is so no key is answered; a reading may be cut short by the cache.
+abbrev pub DeepIsRefused : {N E B W : Type 0} → Values N → Fact N E B W
+DeepIsRefused v s trees (events.WorkerStep n) (answers.WorkerMoved (Ok reply)) s' trees' =
+    (walking : Walking)
+    → s.work.walkings n.0 ≡ Some walking
+    → (reply.answer ≡ Some (finals.Failed errors.TooDeep) → IsTooDeepTask trees walking.task ⊎ IsTooNestedTask v.types trees walking.task ⊎ IsTooDeepReading v s walking)
+    × ((key : ℕ) → reply.answer ≡ Some (finals.Key key) → (¬ IsTooDeepTask trees walking.task) × (¬ IsTooNestedTask v.types trees walking.task))
+DeepIsRefused v s trees event reply s' trees' = Unit {0}
+
+-- what a pin may still be refused for, once a page-out has set the cell's key
+abbrev pub IsOfChance : Error → Type 0
+IsOfChance errors.RegexRefused = Unit {0}
+IsOfChance errors.NumbersSpent = Unit {0}
+IsOfChance errors.OutOfMemory = Unit {0}
+IsOfChance (errors.Storage code) = Unit {0}
+IsOfChance (errors.Custom text) = Unit {0}
+IsOfChance e = ⊥
+
+-- a page-out has published the key of the node on some table
+pub record IsPagedOutAs {N E : Type 0} (s : MachineState N E) (n key : ℕ) : Type 0 where
+  pub t : ℕ
+  pub i : Identity
+  pub height : ℕ
+  pub of_node : i.node.0 ≡ n
+  pub known : IsPublished (s.work.shelves t) i key height
+
+-- the load is of a cell, and its key was published so
+abbrev pub IsLoadOfPagedOut : {N E : Type 0} → MachineState N E → OpenLoad → Type 0
+IsLoadOfPagedOut s load = (node : NodeNumber) × (t : ℕ) × (h : HandleNumber) × (load.root ≡ of_cell node t h) × IsPagedOutAs s node.0 load.key
+
+-- a load of a cell whose key a page-out set is refused by chance alone
+abbrev pub LoadIsSound : {N E B W : Type 0} → Fact N E B W
+LoadIsSound s trees (events.LoadStep l) (answers.LoadMoved (Ok reply)) s' trees' =
+    (load : OpenLoad) (e : Error) → s.pager.core.loads l.0 ≡ Some load → IsLoadOfPagedOut s load → reply.ended ≡ Some (ends.Refused e) → IsOfChance e
+LoadIsSound s trees event reply s' trees' = Unit {0}
+
+-- a load gets a reference of this kind and key, and it is of this node
+pub record GetsReference (w : Core) (kind : Kind) (key n : ℕ) (w' : Core) : Type 0 where
+  pub me : Owner
+  pub l : LoadNumber
+  pub k : HandleNumber
+  pub row : HandleRow
+  pub made : row_at w' k ≡ Some row
+  pub at : row.node.0 ≡ n
+  pub gets :
+      AskCall w me l (wants.Nested kind key) (Ok (from_cache k)) w'
+      ⊎ LazyCall w me l kind key (Ok k) w'
+      ⊎ ((t : ℕ) × (references : List ArcRef) × Adopts w me l kind key t references k w')
+
+-- the cache has each node once: so it is where reading alone has filled it
+abbrev pub IsFilledByReading : Core → Type 0
+IsFilledByReading w = (kind key other_kind other_key n : ℕ) → w.cache kind key ≡ Some n → w.cache other_kind other_key ≡ Some n → (other_kind ≡ kind) × (other_key ≡ key)
+
+-- the event neither clears the cache nor puts a caller's reference into it, nor closes the storage
+abbrev pub LeavesCache : {N B W : Type 0} → Event N B W → Type 0
+LeavesCache (events.Call calls.CacheClear) = ⊥
+LeavesCache (events.Call (calls.OnArcDeserialized kind key h)) = ⊥
+LeavesCache (events.Call calls.Close) = ⊥
+LeavesCache event = Unit {0}
+
+-- a handle of the node that fits the kind is alive
+pub record IsAlive (w : Core) (kind : Kind) (n : ℕ) : Type 0 where
+  pub row : HandleRow
+  pub live : Among w.rows row
+  pub at : row.node.0 ≡ n
+  pub fits : fits_mode kind.0 row.mode ≡ true
+
+-- after each moment
+abbrev pub StaysAlive : {N E B W : Type 0} → Kind → ℕ → List (Moment N E B W) → Type 0
+StaysAlive kind n [] = Unit {0}
+StaysAlive kind n (x ∷ xs) = IsAlive x.after.pager.core kind n × StaysAlive kind n xs
+
+-- Two references that are got through one cache, which reading alone has filled and whose storage is open. If their identities are the same, so are kind and key; and if kind and key are, so are
+-- their identities, provided that a handle of the first one's node in that kind's mode was alive between.
+pub record HaveOneIdentity {N E B W : Type 0} (kind other_kind : Kind) (key other_key n other_n : ℕ) (between : List (Moment N E B W)) : Type 0 where
+  pub differ : other_kind ≡ kind → other_n ≡ n → other_key ≡ key
+  pub same : other_kind ≡ kind → other_key ≡ key → StaysAlive kind n between → other_n ≡ n
+
+-- The law, of any chain between two such readings.
+abbrev pub OneIdentityLaw : {N B W : Type 0} → (E : Type 0) → Seen N B W → Type 0
+OneIdentityLaw {N} {B} {W} E m =
+    (w : Core) (first : MachineState N E) (between : List (Moment N E B W)) (last : Core) (kind other_kind : Kind) (key other_key n other_n : ℕ)
+    → IsWhole w
+    → IsFilledByReading w
+    → w.closed ≡ false
+    → GetsReference w kind key n first.pager.core
+    → IsMachineWhole m.values first
+    → AreMoments m first between
+    → ((x : Moment N E B W) → Among between x → LeavesCache x.event)
+    → GetsReference (state_after first between).pager.core other_kind other_key other_n last
+    → HaveOneIdentity kind other_kind key other_key n other_n between
+
+-- each blob of the one store stands in the other
+abbrev pub IsPartOf : (ℕ → Option Blob) → (ℕ → Option Blob) → Type 0
+IsPartOf part store = (key : ℕ) (b : Blob) → part key ≡ Some b → store key ≡ Some b
+
+-- Of two trees of one type that are stored with all that they reach, each blob under its own key, and of which the first is of canonical types that
+-- are read, the keys are equal exactly if the trees are. What else stands in the store may stand under any keys.
+abbrev pub KeysTellTrees : {N : Type 0} → Values N → (ℕ → Option Blob) → Type 0
+KeysTellTrees v store =
+    (part : ℕ → Option Blob) (a b : Tree) (key other : ℕ) → IsPartOf part store → HasOwnKeys v.hash part → IsCanonicalTree v.types a → IsReadableTree v.types a → b.type ≡ a.type
+    → StoredTree part v.types key a → StoredTree part v.types other b → (other ≡ key) ↔ (b ≡ a)
+
+-- all that holds of one event besides where turns stand together
+pub record IsRightAlone {N E B W : Type 0} (v : Values N) (s : MachineState N E) (trees : ℕ → Tree) (event : Event N B W) (reply : EventReply N B W) (s' : MachineState N E) (trees' : ℕ → Tree) : Type 0 where
+  pub deep : DeepIsRefused v s trees event reply s' trees'
+  pub sound : LoadIsSound s trees event reply s' trees'
+
+-- what holds of a chain besides, where each load and each page-out is done in one piece
+pub record HeadlineAlone {N E B W : Type 0} (m : Seen N B W) (start : MachineState N E) (moments : List (Moment N E B W)) : Type 0 where
+  pub trees : StandTogether moments → (trees : ℕ → Tree) → StandsFor m.values start trees → IsLawful m.values → ReadsItsTypes m.values.types → HoldsSettled m.values start.pager → TreesAlong m (IsRightAlone m.values) start trees moments

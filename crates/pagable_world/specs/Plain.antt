@@ -1,0 +1,74 @@
+-- The plain types of which the world speaks, from one place; and words on lists, and on functions of a number.
+use Rattle.std.specs.Prelude.{ℕ, ◌≡◌, ◌==◌, ◌||◌, Bool, false, if◌then◌else◌, List, [], ◌∷◌, map, sum_by, Option, Some, None, slice_get}
+pub use Rattle.pagable_model.specs.Blob.{Blob}
+pub use Rattle.pagable_model.specs.Deep.{Kid, kind_of_kid, is_shared_kind, is_loose_kind, is_pinned_kind, is_eager, longest_path, above, height, deepest_path}
+pub use Rattle.pagable_model.specs.Meaning.{Meaning}
+pub use Rattle.pagable_model.specs.Shape.{Shape}
+pub use Rattle.pagable_model.specs.Trees.{Types, type_of, Tree, tree, ReadsTree}
+pub use Rattle.pagable_model.specs.declared.data_key.OptionalDataKey.{OptionalDataKey}
+pub use Rattle.pagable_model.specs.declared.error.Error.{Error}
+pub use Rattle.pagable_model.specs.declared.numbers.ArcRef.{ArcRef}
+pub use Rattle.pagable_model.specs.declared.numbers.HandleNumber.{HandleNumber}
+pub use Rattle.pagable_model.specs.declared.numbers.Identity.{Identity}
+pub use Rattle.pagable_model.specs.declared.numbers.Kind.{Kind}
+pub use Rattle.pagable_model.specs.declared.numbers.LoadNumber.{LoadNumber}
+pub use Rattle.pagable_model.specs.declared.numbers.NodeNumber.{NodeNumber}
+pub use Rattle.pagable_model.specs.declared.numbers.WorkerNumber.{WorkerNumber}
+pub use Rattle.pagable_world.specs.declared.answers.Beginning.{Beginning}
+pub use Rattle.pagable_world.specs.declared.answers.Pinning.{Pinning}
+pub use Rattle.pagable_world.specs.declared.calls.Call.{Call}
+pub use Rattle.pagable_world.specs.declared.calls.Found.{Found}
+pub use Rattle.pagable_world.specs.declared.calls.Reply.{Reply}
+pub use Rattle.pagable_world.specs.declared.calls.Want.{Want}
+pub use Rattle.pagable_world.specs.declared.events.Claim.{Claim}
+pub use Rattle.pagable_world.specs.declared.events.Event.{Event}
+pub use Rattle.pagable_world.specs.declared.events.EventReply.{EventReply}
+pub use Rattle.pagable_world.specs.declared.events.LoadAnswer.{LoadAnswer}
+pub use Rattle.pagable_world.specs.declared.events.LoadReply.{LoadReply}
+pub use Rattle.pagable_world.specs.declared.events.PinStep.{PinStep}
+pub use Rattle.pagable_world.specs.declared.events.TableNumber.{TableNumber}
+pub use Rattle.pagable_world.specs.declared.events.Took.{Took}
+pub use Rattle.pagable_world.specs.declared.events.WorkerAnswer.{WorkerAnswer}
+pub use Rattle.pagable_world.specs.declared.events.WorkerReply.{WorkerReply}
+pub use Rattle.pagable_world.specs.declared.handles.HandleRow.{HandleRow}
+pub use Rattle.pagable_world.specs.declared.handles.Owner.{Owner}
+pub use Rattle.pagable_world.specs.declared.rows.Mode.{Mode}
+
+-- 1 for true, so that rows are counted by a sum
+abbrev pub one : Bool → ℕ
+one b = if b then 1 else 0
+
+-- x stands in the list
+abbrev pub Among : {X : Type 0} → List X → X → Type 0
+Among xs x = (i : ℕ) × (slice_get xs i ≡ Some x)
+
+-- how many elements pass the test
+abbrev pub times : {X : Type 0} → (X → Bool) → List X → ℕ
+times test xs = sum_by (λ x. one (test x)) xs
+
+-- the list in which f was done to the elements that pass the test
+abbrev pub changed : {X : Type 0} → (X → Bool) → (X → X) → List X → List X
+changed test f xs = map (λ x. if test x then f x else x) xs
+
+-- whether the number is in the list
+unfoldable pub is_in : List ℕ → ℕ → Bool
+is_in [] q = false
+is_in (x ∷ xs) q = (x == q) || is_in xs q
+
+-- the function with another value at one number
+abbrev pub updated : {X : Type 0} → ℕ → X → (ℕ → X) → ℕ → X
+updated n x f q = if q == n then x else f q
+
+-- what f says of what there is, or else this
+abbrev pub if_there : {X Y : Type 0} → (X → Y) → Y → Option X → Y
+if_there f y None = y
+if_there f y (Some x) = f x
+
+-- the first, or else the second
+abbrev pub or_else : {X : Type 0} → Option X → Option X → Option X
+or_else (Some x) y = Some x
+or_else None y = y
+
+-- the two functions say the same of every number
+abbrev pub SameAt : {X : Type 0} → (ℕ → X) → (ℕ → X) → Type 0
+SameAt f g = (q : ℕ) → g q ≡ f q
