@@ -6,7 +6,7 @@ use Rattle.pagable_model.specs.declared.error.Error.{Error}
 use Rattle.pagable_model.specs.declared.error.Error.TheVariants as errors
 use Rattle.pagable_model.specs.Blob.{Blob}
 use Rattle.pagable_model.specs.Stored.{HasFailed, RefusesFetch, RefusesStore, RefusesFlush}
-use Rattle.pagable_examples.specs.Failing.{own_failures, failures_of}
+use Rattle.row_calls.specs.Failing.{own_failures, failures_of}
 
 -- counts that are cut off at the greatest
 cut : (before after : ℕ) → before < after → HasFailed (min (2 ^ 64 - 1) before) (min (2 ^ 64 - 1) after)
