@@ -2,4 +2,3 @@ pub mod Dishes
 pub mod Expressions
 pub mod Levels
 pub mod Menus
-pub mod Refusing

@@ -2,7 +2,8 @@
 
 use crate::equal::equal;
 use pagable::{DataKey, Error, InMemoryBlobs, PagableData, PagableStorage, WeighHash};
-use pagable_examples::{CountingStorage, FailingStorage, TextEnv};
+use pagable_examples::TextEnv;
+use row_calls::{CountingStorage, FailingStorage};
 use std::alloc::{AllocError, Global};
 use std::test::Fail;
 

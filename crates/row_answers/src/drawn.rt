@@ -1,7 +1,7 @@
 //! The sums of what is written of large inputs that are drawn.
 
-use crate::types;
 use pagable_examples::input_of;
+use row_values::types;
 use std::alloc::Global;
 
 /// One step of FNV-1a of 64 bits, with a number in place of a byte.

@@ -1,11 +1,7 @@
-//! Answers to rows of data, each a line for a line: values of the carried types by lines of a type, a verb and bytes, and
-//! calls and events of a pager of texts.
+//! Answers to lines of values, each a type, a verb and bytes: those of the library's own types come from `row_values`, those of
+//! types of one's own and drawn inputs from here.
 #![tactic(auto)]
 
-pub mod blobs;
-pub mod calls;
-pub mod carried;
 pub mod drawn;
 pub mod lines;
-pub mod outcome;
-pub mod types;
+pub mod own;

@@ -1,37 +1,14 @@
 //! A line of values, and its answer.
 
-use crate::carried::{AnyEnv, written};
-use crate::{blobs, drawn, types};
+use crate::{drawn, own};
+use row_calls::blobs::{self, bytes_of};
+use row_values::carried::{AnyEnv, written};
 use serde_json::Value;
 use std::alloc::{AllocError, Global};
 
-/// These bytes so often.
-fn repeated(alloc: Global, hex: &str, times: &str) -> anyhow::Result<Vec<u8>> {
-    let once = hex::decode(alloc, hex)?;
-    let mut bytes = Vec::new(alloc);
-    for _ in 0..times.parse::<u32>()? {
-        bytes.extend_from_slice(once.as_slice())?;
-    }
-    Ok(bytes)
-}
-
-/// The bytes of an input: parts in hex, each perhaps with how often it stands, as `0401*127+0400`. `-` is none.
-pub fn bytes_of(alloc: Global, input: &str) -> anyhow::Result<Vec<u8>> {
-    let mut bytes = Vec::new(alloc);
-    if input == "-" {
-        return Ok(bytes);
-    }
-    for part in input.split('+') {
-        let (hex, times) = part.split_once('*').unwrap_or((part, "1"));
-        let part = repeated(alloc, hex, times)?;
-        bytes.extend_from_slice(part.as_slice())?;
-    }
-    Ok(bytes)
-}
-
 /// What comes of the bytes of a type.
 fn read_bytes(alloc: Global, name: &str, bytes: &[u8]) -> Result<String, AllocError> {
-    match types::answer(alloc, name, bytes) {
+    match own::answer(alloc, name, bytes) {
         Some(outcome) => outcome.text(alloc, bytes),
         None => String::from_str(alloc, "no such type"),
     }
@@ -57,7 +34,7 @@ fn json(alloc: Global, text: &str) -> Result<String, AllocError> {
     let Ok(value) = Value::from_str(alloc, text) else {
         return String::from_str(alloc, "no JSON");
     };
-    match written(alloc, &AnyEnv::new(), &value) {
+    match written(alloc, &AnyEnv, &value) {
         Ok(bytes) => hex::encode(alloc, bytes.as_slice()),
         Err(number) => format!(in alloc; "refused {number}"),
     }

@@ -3,8 +3,8 @@
 #![tactic(auto)]
 
 use anyhow::Context;
-use row_answers::calls::Calls;
 use row_answers::lines;
+use row_calls::calls::Calls;
 use std::alloc::Global;
 use std::{env, fs};
 

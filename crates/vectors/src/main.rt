@@ -4,9 +4,10 @@
 
 use anyhow::ensure;
 use pagable::{Error, PagableSerialize, PagableVecFlavor};
-use row_answers::calls::Calls;
-use row_answers::carried::{AnyEnv, written};
 use row_answers::lines;
+use row_calls::blobs::bytes_of;
+use row_calls::calls::Calls;
+use row_values::carried::{AnyEnv, written};
 use serde_json::Value;
 use std::alloc::Global;
 use std::time::Duration;
@@ -91,8 +92,8 @@ fn is_written<T: PagableSerialize<AnyEnv>>(
     value: &T,
     bytes: &str,
 ) -> anyhow::Result<bool> {
-    let wanted = lines::bytes_of(alloc, bytes)?;
-    Ok(written(alloc, &AnyEnv::new(), value) == Ok(wanted))
+    let wanted = bytes_of(alloc, bytes)?;
+    Ok(written(alloc, &AnyEnv, value) == Ok(wanted))
 }
 
 /// An empty array in so many others.
@@ -106,7 +107,7 @@ fn arrays(alloc: Global, others: u32) -> Result<Value, Error> {
 
 /// Whether 128 arrays in one another are written, and 129 refused.
 fn arrays_hold(alloc: Global) -> anyhow::Result<bool> {
-    let deeper = written(alloc, &AnyEnv::new(), &arrays(alloc, 128)?);
+    let deeper = written(alloc, &AnyEnv, &arrays(alloc, 128)?);
     Ok(
         is_written(alloc, &arrays(alloc, 127)?, "0401*127+0400")?
             && deeper == Err(Error::TooDeep.number()),

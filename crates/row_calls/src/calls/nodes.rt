@@ -66,7 +66,7 @@ impl NodeSet<CellEnv> for CellNode {
     ghost use Rattle.pagable_model.specs.Gives.{memory, long_or};
     ghost use Rattle.pagable_model.specs.Shape.{text as text_shape};
     ghost use Rattle.pagable_model.specs.Causes.{memory_is_own_reading, text_may_refuse_writing};
-    ghost use Rattle.row_answers.specs.Cells.{has_meaning, has_shape, refers_to_nothing, shape_of, text_of, type_of};
+    ghost use Rattle.row_calls.specs.Cells.{has_meaning, has_shape, refers_to_nothing, shape_of, text_of, type_of};
 
     ghost type_of = { type_of };
 

@@ -6,7 +6,6 @@ mod lent;
 mod lists;
 mod maps;
 mod numbers;
-mod own;
 mod texts;
 
 use crate::outcome::Outcome;

@@ -1,6 +1,6 @@
 //! What comes of an input.
 
-use pagable::Error;
+use pagable_flavors::Error;
 use std::alloc::{AllocError, Global};
 
 /// What comes of reading an input and of writing what was read.

@@ -3,7 +3,8 @@
 use super::holders;
 use crate::carried::replay;
 use crate::outcome::Outcome;
-use pagable::{PathText, SavedRegex};
+use pagable_patterns::SavedRegex;
+use pagable_traits::PathText;
 use serde_json::Value;
 use std::alloc::Global;
 use std::boxed::BoxedStr;

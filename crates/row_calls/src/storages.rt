@@ -36,7 +36,7 @@ impl<S> CountingStorage<S> {
 }
 
 impl<E: Env, S: PagableStorage<E>> PagableStorage<E> for CountingStorage<S> {
-    ghost use Rattle.pagable_examples.specs.Counting.{counted};
+    ghost use Rattle.row_calls.specs.Counting.{counted};
 
     ghost stored = { λ s. S.stored (counted s) };
 
@@ -109,7 +109,7 @@ impl<S> FailingStorage<S> {
 }
 
 impl<E: Env, S: PagableStorage<E>> PagableStorage<E> for FailingStorage<S> {
-    ghost use Rattle.pagable_examples.specs.Failing.{called, failures_over};
+    ghost use Rattle.row_calls.specs.Failing.{called, failures_over};
 
     ghost stored = { λ s. S.stored (called s) };
 

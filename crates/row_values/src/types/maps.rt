@@ -1,6 +1,6 @@
 //! Maps and sets.
 
-use super::own;
+use super::lent;
 use crate::carried::replay;
 use crate::outcome::Outcome;
 use indexmap::{IndexMap, IndexSet};
@@ -35,7 +35,7 @@ fn set(alloc: Global, name: &str, input: &[u8]) -> Option<Outcome> {
         "IndexMap<String,BTreeSet<Option<i8>>>" => {
             replay::<IndexMap<String, BTreeSet<Option<i8>>>>(alloc, input)
         }
-        _ => own::answer(alloc, name, input),
+        _ => lent::answer(alloc, name, input),
     }
 }
 

@@ -9,11 +9,11 @@ pub mod pure;
 use crate::calls::asked::{events, split};
 use crate::calls::looks::look;
 use crate::calls::nodes::{CellEnv, CellNode};
+use crate::storages::FailingStorage;
 use anyhow::bail;
 use pagable::{
     InMemoryBlobs, Machine, MachineCall, MachineEvent, PagableData, PagableStorage, Pager,
 };
-use pagable_examples::FailingStorage;
 use std::alloc::Global;
 
 pub type CellStorage = FailingStorage<InMemoryBlobs<CellEnv>>;

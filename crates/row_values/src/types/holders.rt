@@ -4,7 +4,7 @@ use super::lists;
 use crate::carried::replay;
 use crate::outcome::Outcome;
 use indexmap::IndexMap;
-use pagable::PathText;
+use pagable_traits::PathText;
 use serde_json::Value;
 use std::alloc::Global;
 use std::time::Duration;

@@ -3,7 +3,7 @@
 use super::maps;
 use crate::carried::replay;
 use crate::outcome::Outcome;
-use pagable::Thin;
+use pagable_traits::Thin;
 use smallvec::SmallVec;
 use std::alloc::Global;
 use std::boxed::BoxedSlice;

@@ -1,6 +1,6 @@
 -- What the fields of a storage that fails once stand for.
 use Rattle.std.specs.Prelude.{ℕ, ◌+◌, ◌-◌, ◌^◌, Bool, true, false, min}
-use Rattle.pagable_examples.specs.declared.storages.FailingStorage.{FailingStorage}
+use Rattle.row_calls.specs.declared.storages.FailingStorage.{FailingStorage}
 
 -- the storage that it calls
 abbrev pub called : {S : Type 0} → FailingStorage S → S

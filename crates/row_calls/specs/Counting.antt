@@ -1,5 +1,5 @@
 -- What the fields of a storage that counts its calls stand for.
-use Rattle.pagable_examples.specs.declared.storages.CountingStorage.{CountingStorage}
+use Rattle.row_calls.specs.declared.storages.CountingStorage.{CountingStorage}
 
 -- the storage that it calls
 abbrev pub counted : {S : Type 0} → CountingStorage S → S

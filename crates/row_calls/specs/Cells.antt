@@ -8,8 +8,8 @@ use Rattle.pagable_model.specs.References.{references_in, SameReferences}
 use Rattle.pagable_model.specs.Shape.{Shape, text}
 use Rattle.pagable_model.specs.Standing.{SomeMeaning}
 use Rattle.pagable_model.specs.declared.numbers.ArcRef.{ArcRef}
-use Rattle.row_answers.specs.declared.calls.nodes.CellNode.{CellNode}
-use Rattle.row_answers.specs.declared.calls.nodes.CellNode.TheVariants as nodes
+use Rattle.row_calls.specs.declared.calls.nodes.CellNode.{CellNode}
+use Rattle.row_calls.specs.declared.calls.nodes.CellNode.TheVariants as nodes
 
 -- two types of texts, with the numbers 0 and 1
 abbrev pub shape_of : ℕ → Option Shape

@@ -1,12 +1,13 @@
 //! Calls on the pager itself.
 
+use crate::calls::CellPager;
 use crate::calls::answers::{CellReply, push_call};
 use crate::calls::asked::{event, parts, split};
-use crate::calls::{CellCall, CellPager};
 use anyhow::bail;
 use either::Either;
 use pagable::{
-    Error, Found, LoadNumber, MachineCall, MachineEvent, PagableData, Reply, Want, paging,
+    Env, Error, Found, LoadNumber, MachineCall, MachineEvent, NodeSet, PagableData, PagableStorage,
+    Pager, Reply, Want, paging,
 };
 use std::alloc::Global;
 use std::sync::Arc;
@@ -57,7 +58,13 @@ fn reply(alloc: Global, pager: &mut CellPager, part: &str) -> anyhow::Result<Cel
 }
 
 /// The type of what a load reads.
-fn load_type(pager: &CellPager, load: LoadNumber) -> CellReply {
+fn load_type<E: Env, S: PagableStorage<E>>(
+    pager: &Pager<E, S>,
+    load: LoadNumber,
+) -> Reply<E::Node, Arc<PagableData>>
+where
+    E::Node: NodeSet<E>,
+{
     match pager.load_type(load) {
         Ok(node_type) => Reply::NodeType(Some(node_type)),
         Err(e) => Reply::Count(Err(e)),
@@ -65,7 +72,14 @@ fn load_type(pager: &CellPager, load: LoadNumber) -> CellReply {
 }
 
 /// Makes a call.
-fn make(alloc: Global, pager: &mut CellPager, call: CellCall) -> CellReply {
+fn make<E: Env, S: PagableStorage<E>>(
+    alloc: Global,
+    pager: &mut Pager<E, S>,
+    call: MachineCall<E::Node, PagableData>,
+) -> Reply<E::Node, Arc<PagableData>>
+where
+    E::Node: NodeSet<E>,
+{
     match call {
         MachineCall::NewLoose(node) => Reply::Made(pager.new_loose(alloc, node)),
         MachineCall::NewPinned(node) => Reply::Made(pager.new_pinned(alloc, node)),
@@ -83,7 +97,14 @@ fn make(alloc: Global, pager: &mut CellPager, call: CellCall) -> CellReply {
 }
 
 /// Makes a call of the list, of the storage or of a load.
-fn read(alloc: Global, pager: &mut CellPager, call: CellCall) -> CellReply {
+fn read<E: Env, S: PagableStorage<E>>(
+    alloc: Global,
+    pager: &mut Pager<E, S>,
+    call: MachineCall<E::Node, PagableData>,
+) -> Reply<E::Node, Arc<PagableData>>
+where
+    E::Node: NodeSet<E>,
+{
     match call {
         MachineCall::TakePending(place) => Reply::Taken(pager.take_pending(place as usize)),
         MachineCall::Fetch(key) => Reply::Fetched(pager.fetch(alloc, key)),
@@ -97,11 +118,14 @@ fn read(alloc: Global, pager: &mut CellPager, call: CellCall) -> CellReply {
 }
 
 /// What a load's fetch of its root gives.
-fn root(
+fn root<E: Env, S: PagableStorage<E>>(
     alloc: Global,
-    pager: &mut CellPager,
+    pager: &mut Pager<E, S>,
     load: LoadNumber,
-) -> Result<Found<Arc<PagableData>>, Error> {
+) -> Result<Found<Arc<PagableData>>, Error>
+where
+    E::Node: NodeSet<E>,
+{
     match pager.load_fetch(alloc, load, Want::Root)? {
         Either::Left(found) => Ok(Found::Cached(found.handle)),
         Either::Right(blob) => Ok(Found::Blob(blob)),
@@ -109,7 +133,13 @@ fn root(
 }
 
 /// Makes a call that only looks.
-fn look(pager: &CellPager, call: CellCall) -> CellReply {
+fn look<E: Env, S: PagableStorage<E>>(
+    pager: &Pager<E, S>,
+    call: MachineCall<E::Node, PagableData>,
+) -> Reply<E::Node, Arc<PagableData>>
+where
+    E::Node: NodeSet<E>,
+{
     match call {
         MachineCall::Count(handle) => Reply::Count(pager.count(handle)),
         MachineCall::Key(handle) => Reply::KeyFound(pager.key(handle)),

@@ -1,0 +1,8 @@
+//! Answers to rows of calls and events of a pager of texts, and the storages over another storage that rows and tests use.
+#![tactic(auto)]
+
+pub mod blobs;
+pub mod calls;
+pub mod storages;
+
+pub use storages::{CountingStorage, FailingStorage};

@@ -1,0 +1,173 @@
+//! Values through the traits.
+
+use crate::outcome::Outcome;
+use pagable_core::{NoReferences, PagableDeserializerImpl, PagableSerializerImpl, WeighHash};
+use pagable_flavors::Error;
+use pagable_traits::{
+    Env, PagableDeserialize, PagableDeserializer, PagableSerialize, SessionContext,
+};
+use std::alloc::Global;
+use std::fmt::Display;
+use std::marker::PhantomData;
+
+/// An environment without nodes: the values hold no references, so any will do.
+#[derive(Drop)]
+pub struct AnyEnv;
+
+/// No node.
+#[derive(Drop)]
+pub struct NoNode;
+
+impl Env for AnyEnv {
+    type Node = NoNode;
+
+    type Hash = WeighHash;
+
+    type CtxKey = ();
+
+    type CtxValue = ();
+
+    ghost use Rattle.pagable_model.specs.Shape.{nothing};
+
+    ghost parts = { λ e number. nothing };
+}
+
+/// The number of a refusal.
+fn refused<T: Drop>(read: Result<T, Error>) -> Option<u32> {
+    match read {
+        Ok(_) => None,
+        Err(refusal) => Some(refusal.number()),
+    }
+}
+
+/// A way to read values.
+pub trait Takes<'de, E: Env> {
+    /// What comes of a reading.
+    type Taken;
+
+    /// Reads what stands at the front.
+    fn take<D: PagableDeserializer<E>>(alloc: Global, source: &mut D) -> Self::Taken;
+}
+
+/// What comes of reading an input from its front in this way, and how many bytes that takes.
+pub fn taken<'de, E: Env, W: Takes<'de, E>>(
+    alloc: Global,
+    env: &E,
+    input: &'de [u8],
+) -> (W::Taken, usize) {
+    let session = SessionContext::new(alloc);
+    let mut source = PagableDeserializerImpl::new(input, &[], NoReferences::new(env, &session));
+    let taken = W::take(alloc, &mut source);
+    (taken, PagableDeserializer::<E>::position(&source).byte_pos)
+}
+
+/// To read a value.
+struct Once<T>(PhantomData<T>);
+
+impl<'de, E: Env, T: PagableDeserialize<'de, E>> Takes<'de, E> for Once<T> {
+    type Taken = Result<T, Error>;
+
+    fn take<D: PagableDeserializer<E>>(alloc: Global, source: &mut D) -> Result<T, Error> {
+        T::pagable_deserialize(alloc, source)
+    }
+}
+
+/// To read a value, and again from the same place: the number of the first reading's refusal, and what the second one gives.
+struct Twice<T>(PhantomData<T>);
+
+impl<'de, E: Env, T: PagableDeserialize<'de, E> + Drop> Takes<'de, E> for Twice<T> {
+    type Taken = (Option<u32>, Result<T, Error>);
+
+    fn take<D: PagableDeserializer<E>>(
+        alloc: Global,
+        source: &mut D,
+    ) -> (Option<u32>, Result<T, Error>) {
+        let front = source.position();
+        let first = refused(T::pagable_deserialize(alloc, source));
+        source.seek(front);
+        (first, T::pagable_deserialize(alloc, source))
+    }
+}
+
+/// What comes of an input of the type `T` of an environment, which is read twice from its front. Where the first reading was
+/// refused, the second one must be refused alike, but where memory was refused.
+pub fn replay_in<'de, E: Env, T>(alloc: Global, env: &E, input: &'de [u8]) -> Option<Outcome>
+where
+    T: PagableSerialize<E> + PagableDeserialize<'de, E> + Drop,
+{
+    let ((first, second), used) = taken::<E, Twice<T>>(alloc, env, input);
+    Some(match second {
+        Ok(value) => Outcome::taken(first, used, written(alloc, env, &value)),
+        Err(refusal) => Outcome::refused(first, refusal.number()),
+    })
+}
+
+/// What a writer holds after a writing that came out so.
+pub fn finished<E: Env>(
+    done: Result<(), Error>,
+    out: PagableSerializerImpl<'_, E>,
+) -> Result<Vec<u8>, Error> {
+    done?;
+    Ok(out.finish()?.bytes)
+}
+
+/// The bytes of a value, which is written once.
+fn written_once<E: Env, T: PagableSerialize<E>>(
+    alloc: Global,
+    env: &E,
+    value: &T,
+) -> Result<Vec<u8>, Error> {
+    let mut out = PagableSerializerImpl::testing_new(alloc, env);
+    let done = value.pagable_serialize(&mut out);
+    finished(done, out)
+}
+
+/// The bytes of a value, or the number of the refusal. Where memory is refused, it is written once more.
+pub fn written<E: Env, T: PagableSerialize<E>>(
+    alloc: Global,
+    env: &E,
+    value: &T,
+) -> Result<Vec<u8>, u32> {
+    match written_once(alloc, env, value) {
+        Err(Error::OutOfMemory) => numbered(written_once(alloc, env, value)),
+        first => numbered(first),
+    }
+}
+
+/// The number in place of a refusal.
+pub fn numbered(written: Result<Vec<u8>, Error>) -> Result<Vec<u8>, u32> {
+    match written {
+        Ok(bytes) => Ok(bytes),
+        Err(refusal) => Err(refusal.number()),
+    }
+}
+
+/// What comes of an input of the type `T`, which no environment bears on.
+pub fn replay<'de, T>(alloc: Global, input: &'de [u8]) -> Option<Outcome>
+where
+    T: PagableSerialize<AnyEnv> + PagableDeserialize<'de, AnyEnv> + Drop,
+{
+    replay_in::<AnyEnv, T>(alloc, &AnyEnv, input)
+}
+
+/// The value at the front of an input.
+pub fn read<'de, E: Env, T: PagableDeserialize<'de, E>>(
+    alloc: Global,
+    env: &E,
+    input: &'de [u8],
+) -> Result<T, Error> {
+    taken::<E, Once<T>>(alloc, env, input).0
+}
+
+/// As `replay`, with the value shown.
+pub fn shown<'de, T>(alloc: Global, input: &'de [u8]) -> Option<Outcome>
+where
+    T: PagableSerialize<AnyEnv> + PagableDeserialize<'de, AnyEnv> + Display + Drop,
+{
+    let outcome = replay::<T>(alloc, input)?;
+    let text = match read::<AnyEnv, T>(alloc, &AnyEnv, input) {
+        Ok(value) => value.to_string(alloc).ok(),
+        Err(_) => None,
+    };
+    Some(outcome.with_shown(text))
+}
