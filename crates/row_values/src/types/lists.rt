@@ -43,6 +43,7 @@ pub fn answer(alloc: Global, name: &str, input: &[u8]) -> Option<Outcome> {
         "Vec<i32>" => replay::<Vec<i32>>(alloc, input),
         "Vec<u64>" => replay::<Vec<u64>>(alloc, input),
         "Vec<String>" => replay::<Vec<String>>(alloc, input),
+        "Vec<[u64;32]>" => replay::<Vec<[u64; 32]>>(alloc, input),
         "Vec<(String,i64)>" => replay::<Vec<(String, i64)>>(alloc, input),
         _ => boxed(alloc, name, input),
     }
