@@ -9,7 +9,6 @@ pub mod dish;
 pub mod drawn;
 pub mod expression;
 pub mod menu;
-pub mod quick_start;
 pub mod sighting;
 pub mod size;
 pub mod storages;

@@ -13,6 +13,8 @@ mod own_types;
 #[cfg(test)]
 mod patterns;
 #[cfg(test)]
+mod quick_start;
+#[cfg(test)]
 mod references;
 #[cfg(test)]
 mod registries;

@@ -1,11 +1,12 @@
 //! The types of one's own of `pagable_examples`: each value is written, read again, and cut at every byte.
 
 use crate::equal::equal;
+use crate::quick_start;
 use pagable::{
     Env, Error, InNode, NoReferences, NodeSet, PagableDeserialize, PagableDeserializerImpl,
     PagableSerialize, PagableSerializerImpl, SessionContext, WeighHash,
 };
-use pagable_examples::{Dish, Expression, Menu, MenuNode, Sheet, Size, quick_start};
+use pagable_examples::{Dish, Expression, Menu, MenuNode, Sheet, Size};
 use std::alloc::{AllocError, Global};
 use std::fmt::Debug;
 use std::process::Abort;

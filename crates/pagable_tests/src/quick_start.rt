@@ -1,8 +1,8 @@
 //! The shortest use of the pager: a text is kept, paged out, and read back.
 
-use crate::text::{TextEnv, TextNode};
 use pagable::paging::{page_out_pending, pin};
 use pagable::{Error, InMemoryBlobs, Pager, WeighHash};
+use pagable_examples::{TextEnv, TextNode};
 use std::alloc::Global;
 
 /// Keeps a text, pages it out, reads it back, and says whether it is the same.
