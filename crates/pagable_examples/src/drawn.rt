@@ -55,8 +55,7 @@ fn append_text(
     draws: &mut Draws,
     out: &mut PagableVecFlavor,
 ) -> Result<(), Error> {
-    let text = draws.text(alloc, letters)?;
-    out.write_str(text.as_str())
+    out.write_bytes(draws.text(alloc, letters)?.as_str().as_bytes())
 }
 
 /// Appends a map of 400 entries, with keys of 48 bits and numbers of each length from 1 bit to 64.

@@ -1,12 +1,7 @@
 //! A type that holds values of its own type, each one level further down: sums inside sums.
 
-ghost use Rattle.std.specs.Prelude.{◌≡◌, OnOk, IfErr};
-ghost use Rattle.pagable.specs.Gives.{memory, deep_or};
-ghost use Rattle.pagable.specs.Reading.{read};
 ghost use Rattle.pagable.specs.Shape.{nested};
-ghost use Rattle.pagable.specs.Standing.{handles_at, GivesSome, Is, MovesOn};
-ghost use Rattle.pagable.specs.Writing.{nesting, WritesSome, Refused, Grows};
-ghost use Rattle.pagable_examples.specs.Expressions.{node, nodes, of_expression};
+ghost use Rattle.pagable_examples.specs.Expressions.{node, nodes, of_expression, IsWritten, IsRead, IsSum};
 
 use pagable::parts::{read_flag, write_flag};
 use pagable::{
@@ -46,85 +41,70 @@ impl Env for Sheet {
 }
 
 // Writes an expression one level down, and gives the level back whatever the answer is.
-#[tactic(auto, using(crate::proofs::Expressions::writing))]
 #[cycle(writing)]
 fn write_below<S: PagableSerializer<Sheet>>(
     value: &Expression,
     serializer: &mut S,
 ) -> Result<(), Error>
-    ensures ok { OnOk result (WritesSome (Is of_expression value.now) (nesting (S.levels serializer.old) nodes) (nested 0) (S.out serializer.old) (S.out serializer.new)) }
-    ensures refused { IfErr result (Refused (Is of_expression value.now) (nesting (S.levels serializer.old) nodes) (nested 0)) }
-    ensures only { IfErr result (deep_or memory) }
-    ensures err { Grows (S.out serializer.old) (S.out serializer.new) }
-    ensures same_env { S.environment serializer.new ≡ S.environment serializer.old }
-    ensures same_levels { S.levels serializer.new ≡ S.levels serializer.old }
+    ensures { IsWritten value.now (nested 0) result (S.levels serializer.old) (S.levels serializer.new) (S.out serializer.old) (S.out serializer.new) (S.environment serializer.old) (S.environment serializer.new) }
 {
     serializer.enter()?;
     let done = write_node(value, serializer);
     serializer.leave();
-    done?;
-    Ok(())
+    done
 }
 
 // Writes which case it is, and its parts.
-#[tactic(auto, using(crate::proofs::Expressions::writing_nodes))]
 #[cycle(writing)]
 fn write_node<S: PagableSerializer<Sheet>>(
     value: &Expression,
     serializer: &mut S,
 ) -> Result<(), Error>
-    ensures ok { OnOk result (WritesSome (Is of_expression value.now) (nesting (S.levels serializer.old) nodes) node (S.out serializer.old) (S.out serializer.new)) }
-    ensures refused { IfErr result (Refused (Is of_expression value.now) (nesting (S.levels serializer.old) nodes) node) }
-    ensures only { IfErr result (deep_or memory) }
-    ensures err { Grows (S.out serializer.old) (S.out serializer.new) }
-    ensures same_env { S.environment serializer.new ≡ S.environment serializer.old }
-    ensures same_levels { S.levels serializer.new ≡ S.levels serializer.old }
+    ensures { IsWritten value.now node result (S.levels serializer.old) (S.levels serializer.new) (S.out serializer.old) (S.out serializer.new) (S.environment serializer.old) (S.environment serializer.new) }
 {
     match value {
         Expression::Number(number) => {
             write_flag(true, serializer)?;
-            number.pagable_serialize(serializer)?;
-            Ok(())
+            number.pagable_serialize(serializer)
         }
         Expression::Sum(left, right) => {
             write_flag(false, serializer)?;
             write_below(left, serializer)?;
-            write_below(right, serializer)?;
-            Ok(())
+            write_below(right, serializer)
         }
     }
 }
 
 // Reads an expression one level down, and gives the level back whatever the answer is.
-#[tactic(auto, using(crate::proofs::Expressions::reading))]
 #[cycle(reading)]
 fn read_below<D: PagableDeserializer<Sheet>>(
     alloc: Global,
     deserializer: &mut D,
 ) -> Result<Expression, Error>
-    ensures gives { GivesSome memory (Is of_expression) (D.rest deserializer.new) result (read (handles_at (D.levels deserializer.old) nodes) (nested 0) (D.rest deserializer.old)) }
-    ensures moves { MovesOn (D.standing deserializer.old) (D.standing deserializer.new) }
-    ensures same_env { D.environment deserializer.new ≡ D.environment deserializer.old }
-    ensures same_levels { D.levels deserializer.new ≡ D.levels deserializer.old }
+    ensures { IsRead (nested 0) result (D.levels deserializer.old) (D.levels deserializer.new) (D.rest deserializer.old) (D.rest deserializer.new) (D.standing deserializer.old) (D.standing deserializer.new) (D.environment deserializer.old) (D.environment deserializer.new) }
 {
     deserializer.enter()?;
     let read = read_node(alloc, deserializer);
     deserializer.leave();
-    let value = read?;
-    Ok(value)
+    read
+}
+
+// The sum of two expressions.
+fn sum_of(alloc: Global, left: Expression, right: Expression) -> Result<Expression, Error>
+    ensures { IsSum left right result }
+{
+    let left = Box::new(alloc, left)?;
+    let right = Box::new(alloc, right)?;
+    Ok(Expression::Sum(left, right))
 }
 
 // Reads which case it is, and its parts.
-#[tactic(auto, using(crate::proofs::Expressions::reading_nodes))]
 #[cycle(reading)]
 fn read_node<D: PagableDeserializer<Sheet>>(
     alloc: Global,
     deserializer: &mut D,
 ) -> Result<Expression, Error>
-    ensures gives { GivesSome memory (Is of_expression) (D.rest deserializer.new) result (read (handles_at (D.levels deserializer.old) nodes) node (D.rest deserializer.old)) }
-    ensures moves { MovesOn (D.standing deserializer.old) (D.standing deserializer.new) }
-    ensures same_env { D.environment deserializer.new ≡ D.environment deserializer.old }
-    ensures same_levels { D.levels deserializer.new ≡ D.levels deserializer.old }
+    ensures { IsRead node result (D.levels deserializer.old) (D.levels deserializer.new) (D.rest deserializer.old) (D.rest deserializer.new) (D.standing deserializer.old) (D.standing deserializer.new) (D.environment deserializer.old) (D.environment deserializer.new) }
 {
     if read_flag(deserializer)? {
         let number = u64::pagable_deserialize(alloc, deserializer)?;
@@ -132,9 +112,7 @@ fn read_node<D: PagableDeserializer<Sheet>>(
     }
     let left = read_below(alloc, deserializer)?;
     let right = read_below(alloc, deserializer)?;
-    let left = Box::new(alloc, left)?;
-    let right = Box::new(alloc, right)?;
-    Ok(Expression::Sum(left, right))
+    sum_of(alloc, left, right)
 }
 
 impl Carried<Sheet> for Expression {

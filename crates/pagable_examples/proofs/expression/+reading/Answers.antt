@@ -1,41 +1,40 @@
-use Rattle.std.proofs.Common.{◌≡◌, true, false, Ok, arith}
 use Rattle.std.proofs.lemmas.Result.{err_from_is_err_and}
-use Rattle.pagable.specs.Basic.{bool_at}
-use Rattle.pagable.specs.Reading.{bytes_of}
-use Rattle.pagable_examples.proofs.Expressions.{flag_refused, number_refused, left_refused, right_refused}
+use Rattle.pagable_examples.proofs.Expressions.{deep_unread, read_down, flag_unread, number_unread, number_read, left_unread, right_unread, sum_read}
 use Rattle.pagable_examples.proofs.expression.+reading.Goals as goal
 
-pub read_node-returns-in_err-read_flag-clause-gives : goal.read_node-returns-in_err-read_flag-clause-gives
-read_node-returns-in_err-read_flag-clause-gives g t c =
+pub read_below-returns-in_err-enter : goal.read_below-returns-in_err-enter
+read_below-returns-in_err-enter g t c =
     let p = err_from_is_err_and c.from_residual.result c.from_residual.ensures.1 in
-    let start = c.args.deserializer.now in
-    rw (p.1, p.2) (flag_refused (g.D.PagableDeserializer.levels start) (g.D.PagableDeserializer.rest start) _ c.in_err-read_flag.ensures.gives)
+    rw (p.1, p.2) (deep_unread _ _ _ _ _ _ _ _ _ c.in_err-enter.ensures.err c.in_err-enter.ensures.same_standing c.in_err-enter.ensures.same_env)
 
-pub read_node-returns-in_err-number-clause-gives : goal.read_node-returns-in_err-number-clause-gives
-read_node-returns-in_err-number-clause-gives g t c =
+pub read_below-returns : goal.read_below-returns
+read_below-returns g t c =
+    let entered = c.in_ok-enter.ensures in
+    let left = c.leave.ensures in
+    read_down c.read_node-read.result _ _ _ _ _ _ _ _ _ _ _ _ _ _ _ _ entered.ok entered.same_rest entered.same_standing entered.same_env c.read_node-read.ensures left.up left.same_rest left.same_standing left.same_env
+
+pub read_node-returns-in_err-read_flag : goal.read_node-returns-in_err-read_flag
+read_node-returns-in_err-read_flag g t c =
+    let p = err_from_is_err_and c.from_residual.result c.from_residual.ensures.1 in
+    rw (p.1, p.2) (flag_unread _ _ _ _ _ _ _ _ _ c.in_err-read_flag.ensures)
+
+pub read_node-returns-in_err-number : goal.read_node-returns-in_err-number
+read_node-returns-in_err-number g t c =
     let p = err_from_is_err_and c.from_residual-in_err-number.result c.from_residual-in_err-number.ensures.1 in
-    let start = c.args.deserializer.now in
-    let rest = g.D.PagableDeserializer.rest in
-    let mid = rest c.read_flag.new.deserializer in
-    let flag : bytes_of bool_at (λ b. b) (rest start) ≡ Ok (true, mid) = grind (arith, c.in_ok-read_flag.ensures.gives, c.if-branch.true) in
-    rw (p.1, p.2) (number_refused (g.D.PagableDeserializer.levels start) (rest start) mid _ flag (rw (c.in_ok-read_flag.ensures.same_levels, c.in_ok-read_flag.ensures.same_env) at c.in_err-number.ensures.gives))
+    rw (p.1, p.2) (number_unread _ _ _ _ _ _ _ _ _ c.in_ok-read_flag.ensures _ _ _ _ _ c.if-branch.true c.in_err-number.ensures)
 
-pub read_node-returns-in_err-left-clause-gives : goal.read_node-returns-in_err-left-clause-gives
-read_node-returns-in_err-left-clause-gives g t c =
+pub read_node-returns-then-branch : goal.read_node-returns-then-branch
+read_node-returns-then-branch g t c = number_read _ _ _ _ _ _ _ _ _ c.in_ok-read_flag.ensures _ _ _ _ _ c.if-branch.true c.in_ok-number.ensures
+
+pub read_node-returns-in_err-left : goal.read_node-returns-in_err-left
+read_node-returns-in_err-left g t c =
     let p = err_from_is_err_and c.from_residual-in_err-left.result c.from_residual-in_err-left.ensures.1 in
-    let start = c.args.deserializer.now in
-    let rest = g.D.PagableDeserializer.rest in
-    let mid = rest c.read_flag.new.deserializer in
-    let flag : bytes_of bool_at (λ b. b) (rest start) ≡ Ok (false, mid) = grind (arith, c.in_ok-read_flag.ensures.gives, c.if-branch.false) in
-    rw (p.1, p.2) (left_refused (g.D.PagableDeserializer.levels start) (rest start) mid _ flag (rw c.in_ok-read_flag.ensures.same_levels at c.in_err-left.ensures.gives))
+    rw (p.1, p.2) (left_unread _ _ _ _ _ _ _ _ _ c.in_ok-read_flag.ensures _ _ _ _ _ c.if-branch.false c.in_err-left.ensures)
 
-pub read_node-returns-in_err-right-clause-gives : goal.read_node-returns-in_err-right-clause-gives
-read_node-returns-in_err-right-clause-gives g t c =
+pub read_node-returns-in_err-right : goal.read_node-returns-in_err-right
+read_node-returns-in_err-right g t c =
     let p = err_from_is_err_and c.from_residual-in_err-right.result c.from_residual-in_err-right.ensures.1 in
-    let start = c.args.deserializer.now in
-    let rest = g.D.PagableDeserializer.rest in
-    let mid = rest c.read_flag.new.deserializer in
-    let flag : bytes_of bool_at (λ b. b) (rest start) ≡ Ok (false, mid) = grind (arith, c.in_ok-read_flag.ensures.gives, c.if-branch.false) in
-    rw (p.1, p.2) (right_refused c.in_ok-left.left (g.D.PagableDeserializer.levels start) (rest start) mid (rest c.read_below.new.deserializer) _ flag
-    (rw c.in_ok-read_flag.ensures.same_levels at c.in_ok-left.ensures.gives)
-    (rw (c.in_ok-left.ensures.same_levels, c.in_ok-read_flag.ensures.same_levels) at c.in_err-right.ensures.gives))
+    rw (p.1, p.2) (right_unread _ _ _ _ _ _ _ _ _ c.in_ok-read_flag.ensures _ _ _ _ _ c.if-branch.false c.in_ok-left.ensures _ _ _ _ _ c.in_err-right.ensures)
+
+pub read_node-returns : goal.read_node-returns
+read_node-returns g t c = sum_read _ _ _ _ _ _ _ _ _ c.in_ok-read_flag.ensures _ _ _ _ _ c.if-branch.false c.in_ok-left.ensures _ c.sum_of.result _ _ _ _ c.in_ok-right.ensures c.sum_of.ensures

@@ -1,13 +1,26 @@
 use Rattle.std.proofs.Common.{refl}
 use Rattle.std.proofs.lemmas.Result.{err_from_is_err_and}
-use Rattle.pagable.specs.Writing.{nesting}
-use Rattle.pagable_examples.specs.Expressions.{nodes}
-use Rattle.pagable_examples.proofs.Expressions.{refuses_left}
+use Rattle.pagable_examples.proofs.Expressions.{deep_unwritten, written_down, number_written, left_unwritten, sum_written}
 use Rattle.pagable_examples.proofs.expression.+writing.Goals as goal
 
-pub write_node-returns-in_err-write_below-in-Sum-clause-refused : goal.write_node-returns-in_err-write_below-in-Sum-clause-refused
-write_node-returns-in_err-write_below-in-Sum-clause-refused g t c =
+pub write_below-returns-in_err-enter : goal.write_below-returns-in_err-enter
+write_below-returns-in_err-enter g t c =
+    let p = err_from_is_err_and c.from_residual.result c.from_residual.ensures.1 in
+    rw (p.1, p.2) (deep_unwritten _ _ _ _ _ _ _ _ c.in_err-enter.ensures.err c.in_err-enter.ensures.same_out c.in_err-enter.ensures.same_env)
+
+pub write_below-returns : goal.write_below-returns
+write_below-returns g t c =
+    let entered = c.in_ok-enter.ensures in
+    written_down _ c.write_node-done.result _ _ _ _ _ _ _ _ _ _ _ _ entered.ok entered.same_out entered.same_env c.write_node-done.ensures c.leave.ensures.up c.leave.ensures.same_out c.leave.ensures.same_env
+
+pub write_node-returns-in_ok-write_flag-in-Number : goal.write_node-returns-in_ok-write_flag-in-Number
+write_node-returns-in_ok-write_flag-in-Number g t c = number_written _ _ c.pagable_serialize.result _ _ _ _ _ _ _ _ _ c.in-Number.is c.in_ok-write_flag-in-Number.ensures c.pagable_serialize.ensures
+
+pub write_node-returns-in_err-write_below-in-Sum : goal.write_node-returns-in_err-write_below-in-Sum
+write_node-returns-in_err-write_below-in-Sum g t c =
     let p = err_from_is_err_and c.from_residual-in_err-write_below-in-Sum.result c.from_residual-in_err-write_below-in-Sum.ensures.1 in
-    let n = nesting (g.S.PagableSerializer.levels c.args.serializer.now) nodes in
-    rw (p.1, p.2) (refuses_left _ c.in-Sum.left.value c.in-Sum.right.value c.args.value.now n (rw c.in-Sum.is refl)
-    (rw (c.deref.ensures, c.in_ok-write_flag-in-Sum.ensures.same_levels) at c.in_err-write_below-in-Sum.ensures.refused))
+    rw (p.1, p.2) (left_unwritten c.in-Sum.left.value c.in-Sum.right.value _ _ _ _ _ _ _ _ _ _ _ (rw c.in-Sum.is refl) c.in_ok-write_flag-in-Sum.ensures (rw c.deref.ensures at c.in_err-write_below-in-Sum.ensures))
+
+pub write_node-returns-in_ok-write_below-in-Sum : goal.write_node-returns-in_ok-write_below-in-Sum
+write_node-returns-in_ok-write_below-in-Sum g t c =
+    sum_written c.in-Sum.left.value c.in-Sum.right.value _ _ c.write_below-in-Sum.result _ _ _ _ _ _ _ _ _ _ _ _ (rw c.in-Sum.is refl) c.in_ok-write_flag-in-Sum.ensures (rw c.deref.ensures at c.in_ok-write_below-in-Sum.ensures) (rw c.deref-in-Sum.ensures at c.write_below-in-Sum.ensures)
