@@ -47,7 +47,7 @@ impl<'de, E: Env> PagableEagerDeserialize<'de, E> for Ticket {
 
     ghost eager_read_causes_are_own = { never_is_own_reading };
 
-    #[tactic(auto, unfolding(pagable::specs::Reading::read, pagable::specs::Reading::read_with), using(pagable::proofs::Carrying::reading))]
+    #[tactic(auto, unfolding(pagable_model::specs::Reading::read, pagable_model::specs::Reading::read_with), using(pagable::proofs::Carrying::reading))]
     fn eager_pagable_deserialize<D: PagableDeserializer<E>>(
         _alloc: Global,
         deserializer: &mut D,
