@@ -1,5 +1,5 @@
 -- Values that hold others: what writing their parts one after another adds, and what reading them so gives.
-use Rattle.std.proofs.Common.{◌≡◌, ℕ, true, false, [], ◌∷◌, ◌++◌, refl, ◌∙◌, Result, Ok, Err, Some, None, inl, inr}
+use Rattle.std.proofs.Common.{◌≡◌, ℕ, false, [], ◌∷◌, ◌++◌, refl, ◌∙◌, Result, Ok, Err, None, inl, inr}
 use Rattle.std.specs.Prelude.{OnOk, IfErr}
 use Rattle.pagable_model.specs.declared.error.Error.{Error}
 use Rattle.pagable_model.specs.declared.numbers.ArcRef.{ArcRef}
@@ -12,7 +12,7 @@ use Rattle.pagable_model.specs.Shape.{Shape, optional, both}
 use Rattle.pagable_model.specs.Form.{none-form, some-form, both-form}
 use Rattle.pagable_model.specs.Writing.{Out, Nesting, WritesSome, added, NoForm, Refused}
 use Rattle.pagable_model.specs.Standing.{Gave, SomeMeaning}
-use Rattle.pagable_model.specs.Lifted.{MeansOption, means-none, means-some, MeansPair}
+use Rattle.pagable_model.specs.Lifted.{MeansOption, means-none, MeansPair}
 use Rattle.pagable_codec.proofs.Writing.{then}
 
 -- ---- results
