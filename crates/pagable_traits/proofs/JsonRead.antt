@@ -173,12 +173,7 @@ module _ {D E R N H K V : Type 0} (env : Environments E N H K V) (d : Deserializ
   unfolding read read_with
   member-read g moves same_env same_levels q =
       let h = rw (same_levels, same_env) at q.gives in
-      record {
-        gives = record { m = pair g.m h.m; is = record { first = g.m; second = h.m; is_first = g.is; is_second = h.is; is = refl }; gave = rw (g.gave, h.gave) refl };
-        moves = moves_trans _ _ _ moves q.moves;
-        same_env = q.same_env ∙ same_env;
-        same_levels = q.same_levels ∙ same_levels;
-      }
+      record { gives = record { m = pair g.m h.m; is = record { first = g.m; second = h.m; is_first = g.is; is_second = h.is; is = refl }; gave = rw (g.gave, h.gave) refl }; moves = moves_trans _ _ _ moves q.moves; same_env = q.same_env ∙ same_env; same_levels = q.same_levels ∙ same_levels }
 
   pub key-refused : {a b : D} {e : Error} → (read (context_in env d a) text (d.rest a) ≡ Err e) ⊎ memory e → MovesOn (d.standing a) (d.standing b) → d.environment b ≡ d.environment a → d.levels b ≡ d.levels a
       → Reads env d (MeansPair (Is of_key) (Is of_value)) (λ x. read x (both text json)) a b (let r : Result (String Global × Value) Error = Err e in r)
@@ -186,9 +181,4 @@ module _ {D E R N H K V : Type 0} (env : Environments E N H K V) (d : Deserializ
 
   pub value-refused : {a b c : D} {e : Error} (k : String Global) → Gave (Is of_key k) (d.rest b) (read (context_in env d a) text (d.rest a)) → MovesOn (d.standing a) (d.standing b) → d.environment b ≡ d.environment a → d.levels b ≡ d.levels a
       → Reads env d (Is of_value) (λ x. read x json) b c (let r : Result Value Error = Err e in r) → Reads env d (MeansPair (Is of_key) (Is of_value)) (λ x. read x (both text json)) a c (let r : Result (String Global × Value) Error = Err e in r)
-  value-refused {e = e} k g moves same_env same_levels q = record {
-    gives = value-unread _ _ e g.m _ g.gave (rw (same_levels, same_env) at q.gives);
-    moves = moves_trans _ _ _ moves q.moves;
-    same_env = q.same_env ∙ same_env;
-    same_levels = q.same_levels ∙ same_levels;
-  }
+  value-refused {e = e} k g moves same_env same_levels q = record { gives = value-unread _ _ e g.m _ g.gave (rw (same_levels, same_env) at q.gives); moves = moves_trans _ _ _ moves q.moves; same_env = q.same_env ∙ same_env; same_levels = q.same_levels ∙ same_levels }

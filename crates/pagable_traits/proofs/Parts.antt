@@ -1,5 +1,5 @@
 -- Values that hold others: what writing their parts one after another adds, and what reading them so gives.
-use Rattle.std.proofs.Common.{◌≡◌, ℕ, true, false, [], ◌∷◌, ◌++◌, refl, ◌∙◌, Result, Ok, Err, Some, None, inl, inr}
+use Rattle.std.proofs.Common.{◌≡◌, ℕ, false, [], ◌∷◌, ◌++◌, refl, ◌∙◌, Result, Ok, Err, None, inl, inr}
 use Rattle.std.specs.Prelude.{OnOk, IfErr}
 use Rattle.pagable_model.specs.declared.error.Error.{Error}
 use Rattle.pagable_model.specs.declared.numbers.ArcRef.{ArcRef}
@@ -12,7 +12,7 @@ use Rattle.pagable_model.specs.Shape.{Shape, optional, both}
 use Rattle.pagable_model.specs.Form.{none-form, some-form, both-form}
 use Rattle.pagable_model.specs.Writing.{Out, Nesting, WritesSome, added, NoForm, Refused}
 use Rattle.pagable_model.specs.Standing.{Gave, SomeMeaning}
-use Rattle.pagable_model.specs.Lifted.{MeansOption, means-none, means-some, MeansPair}
+use Rattle.pagable_model.specs.Lifted.{MeansOption, means-none, MeansPair}
 use Rattle.pagable_codec.proofs.Writing.{then}
 
 -- ---- results
@@ -64,24 +64,8 @@ pub ruleset causes = (only_memory_or, only_part, only_first, only_second, only_p
 pub writes_absent : {T : Type 0} (M : T → Meaning ArcRef → Type 0) (n : Nesting) (s : Shape) (old new : Out) → new ≡ added old (bool_form false) [] → WritesSome (MeansOption M None) n (optional s) old new
 writes_absent M n s old new e = record { m = absent; is = means-none; wrote = record { bytes = 0 ∷ []; refs = []; form = none-form _ s; grown = e } }
 
-pub writes_present : {T : Type 0} (M : T → Meaning ArcRef → Type 0) (x : T) (n : Nesting) (s : Shape) (old mid new : Out) → mid ≡ added old (bool_form true) [] → WritesSome (M x) n s mid new → WritesSome (MeansOption M (Some x)) n (optional s) old new
-writes_present M x n s old mid new e w =
-    record { m = present w.m; is = means-some x w.m w.is; wrote = record { bytes = 1 ∷ w.wrote.bytes; refs = w.wrote.refs; form = some-form _ s w.m _ _ w.wrote.form; grown = then old mid new _ _ _ _ e w.wrote.grown } }
-
 pub no-some : (n : Nesting) (s : Shape) (m : Meaning ArcRef) → NoForm n s m → NoForm n (optional s) (present m)
 no-some n s m h b k (some-form l s' m' c k' f) = h c k' f
-
-pub refused_present : {X T : Type 0} (r : Result X Error) (M : T → Meaning ArcRef → Type 0) (x : T) (n : Nesting) (s : Shape) → IfErr r (Refused (M x) n s) → IfErr r (Refused (MeansOption M (Some x)) n (optional s))
-refused_present (Ok y) M x n s h = tt
-refused_present (Err e) M x n s h = λ fault. let no = h fault in record { m = present no.m; is = means-some x no.m no.is; no_form = no-some n s no.m no.no_form }
-
-pub gave_absent : {T R : Type 0} (M : T → Meaning ArcRef → Type 0) (after : R) (read : Result (Meaning ArcRef × R) Error) → read ≡ Ok (absent, after) → Gave (MeansOption M None) after read
-gave_absent M after read e = record { m = absent; is = means-none; gave = e }
-
-pub gave_present : {T R : Type 0} (M : T → Meaning ArcRef → Type 0) (x : T) (after : R) (read part : Result (Meaning ArcRef × R) Error) → Gave (M x) after part → read ≡ (part >>= λ y. Ok (present y.0, y.1)) → Gave (MeansOption M (Some x)) after read
-gave_present M x after read part g e = record { m = present g.m; is = means-some x g.m g.is; gave = e ∙ rw g.gave refl }
-
-pub ruleset options = (writes_absent, writes_present, refused_present, gave_absent, gave_present)
 
 -- ---- two values, one after the other
 

@@ -1,10 +1,9 @@
-use Rattle.std.proofs.Common.{◌∙◌}
 use Rattle.std.proofs.lemmas.Result.{err_from_is_err_and}
 use Rattle.pagable_model.specs.Gives.{memory_or}
 use Rattle.pagable_model.specs.Reading.{read}
 use Rattle.pagable_model.specs.Standing.{handles_at}
-use Rattle.pagable_codec.proofs.Reading.{moves_trans}
 use Rattle.pagable_traits.proofs.Collecting.{uncounted, gives_counted}
+use Rattle.pagable_traits.proofs.InTurn.{then-tells}
 use Rattle.pagable_traits.proofs.impls.collecting.read_collected.Goals as goal
 
 pub returns-in_err-count : goal.returns-in_err-count
@@ -20,10 +19,4 @@ returns g c =
     let env = g.D.PagableDeserializer.environment c.args.deserializer.now in
     let get = read (handles_at (g.D.PagableDeserializer.levels c.args.deserializer.now) (g.E.Env.parts env)) (g.T.Carried.shape env) in
     let counted = c.in_ok-count.ensures in
-    let told = c.collect_items.ensures in
-    record {
-      gives = gives_counted (memory_or g.T.PagableDeserialize.read_causes) _ c.collect_items.result get (g.D.PagableDeserializer.rest c.args.deserializer.now) _ _ _ counted.gives (rw (counted.same_levels, counted.same_env) at told.gives);
-      moves = moves_trans _ _ _ counted.moves told.moves;
-      same_env = told.same_env ∙ counted.same_env;
-      same_levels = told.same_levels ∙ counted.same_levels;
-    }
+    then-tells g.E.Env g.D.PagableDeserializer counted.moves counted.same_env counted.same_levels c.collect_items.ensures (λ h. gives_counted (memory_or g.T.PagableDeserialize.read_causes) _ c.collect_items.result get (g.D.PagableDeserializer.rest c.args.deserializer.now) _ _ _ counted.gives (rw (counted.same_levels, counted.same_env) at h))

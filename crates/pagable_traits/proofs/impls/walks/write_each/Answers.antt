@@ -15,11 +15,7 @@ loop-item-preserved g c =
     let n = nesting (g.S.PagableSerializer.levels c.args.serializer.now) (g.E.Env.parts env) in
     let i = c.loop-item.invariant in
     let wrote = c.in_ok-pagable_serialize.ensures in
-    record {
-      ok = writes-next g.T.Carried.means _ _ n (g.T.Carried.shape env) _ _ _ i.ok (rw (i.same_levels, i.same_env) at wrote.ok);
-      same_env = wrote.same_env ∙ i.same_env;
-      same_levels = wrote.same_levels ∙ i.same_levels;
-    }
+    record { ok = writes-next g.T.Carried.means _ _ n (g.T.Carried.shape env) _ _ _ i.ok (rw (i.same_levels, i.same_env) at wrote.ok); same_env = wrote.same_env ∙ i.same_env; same_levels = wrote.same_levels ∙ i.same_levels }
 
 pub returns-in_err-pagable_serialize : goal.returns-in_err-pagable_serialize
 returns-in_err-pagable_serialize g c =
@@ -28,13 +24,7 @@ returns-in_err-pagable_serialize g c =
     let told = c.in_err-pagable_serialize.ensures in
     rw (p.1, p.2) (record {
       ok = tt;
-      refused = record {
-        before = c.loop-item.yielded;
-        x = c.in-Some.item;
-        after = c.next.new.self;
-        yields = (c.loop-item.item-iterator, rw c.into_iter-item-iterator.ensures.into_iter_gives at c.loop-item.yielded_by, c.in-Some.ensures.steps);
-        refused = rw (i.same_levels, i.same_env) at told.refused;
-      };
+      refused = record { before = c.loop-item.yielded; x = c.in-Some.item; after = c.next.new.self; yields = (c.loop-item.item-iterator, rw c.into_iter-item-iterator.ensures.into_iter_gives at c.loop-item.yielded_by, c.in-Some.ensures.steps); refused = rw (i.same_levels, i.same_env) at told.refused };
       only = told.only;
       err = grows_trans _ _ _ (grows_some_all _ _ _ _ _ i.ok) told.err;
       same_env = told.same_env ∙ i.same_env;
@@ -45,11 +35,4 @@ pub returns : goal.returns
 returns g c =
     let by = rw c.into_iter-item-iterator.ensures.into_iter_gives at c.loop-item.yielded_by in
     let i = c.loop-item.invariant in
-    record {
-      ok = record { xs = c.loop-item.yielded; all = (c.next.new.self, (c.loop-item.item-iterator, by, c.in-None.ensures.steps)); wrote = i.ok };
-      refused = tt;
-      only = tt;
-      err = grows_some_all _ _ _ _ _ i.ok;
-      same_env = i.same_env;
-      same_levels = i.same_levels;
-    }
+    record { ok = record { xs = c.loop-item.yielded; all = (c.next.new.self, (c.loop-item.item-iterator, by, c.in-None.ensures.steps)); wrote = i.ok }; refused = tt; only = tt; err = grows_some_all _ _ _ _ _ i.ok; same_env = i.same_env; same_levels = i.same_levels }

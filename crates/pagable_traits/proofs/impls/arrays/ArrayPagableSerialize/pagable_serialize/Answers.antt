@@ -1,17 +1,12 @@
 use Rattle.pagable_model.specs.Writing.{nesting}
 use Rattle.pagable_traits.proofs.Joined.{writes_array, refused_array}
+use Rattle.pagable_traits.proofs.InTurn.{owed}
 use Rattle.pagable_traits.proofs.impls.arrays.ArrayPagableSerialize.pagable_serialize.Goals as goal
 
 pub returns : goal.returns
 returns g c =
     let env = g.S.PagableSerializer.environment c.args.serializer.now in
     let n = nesting (g.S.PagableSerializer.levels c.args.serializer.now) (g.E.Env.parts env) in
-    let told = c.write_items.ensures in
-    record {
-      ok = writes_array _ g.T.Carried.means c.args.self.now g.row.N n (g.T.Carried.shape env) _ _ c.type_inv.self (rw c.as_slice.ensures at c.write_items.ensures.ok);
-      refused = refused_array _ g.T.Carried.means c.args.self.now g.row.N n (g.T.Carried.shape env) (rw c.as_slice.ensures at c.write_items.ensures.refused);
-      only = told.only;
-      err = told.err;
-      same_env = told.same_env;
-      same_levels = told.same_levels;
-    }
+    owed g.E.Env g.S.PagableSerializer c.write_items.result _ _ _ _ _ c.write_items.ensures
+    (writes_array _ g.T.Carried.means c.args.self.now g.row.N n (g.T.Carried.shape env) _ _ c.type_inv.self (rw c.as_slice.ensures at c.write_items.ensures.ok))
+    (refused_array _ g.T.Carried.means c.args.self.now g.row.N n (g.T.Carried.shape env) (rw c.as_slice.ensures at c.write_items.ensures.refused))

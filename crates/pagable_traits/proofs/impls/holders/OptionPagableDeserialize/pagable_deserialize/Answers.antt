@@ -1,8 +1,7 @@
-use Rattle.std.proofs.Common.{◌∙◌}
 use Rattle.std.proofs.lemmas.Result.{err_from_is_err_and}
 use Rattle.pagable_model.specs.Standing.{handles_at}
-use Rattle.pagable_codec.proofs.Reading.{moves_trans}
 use Rattle.pagable_traits.proofs.Held.{option_unflagged, option_absent, option_refused, option_present}
+use Rattle.pagable_traits.proofs.InTurn.{then-tells}
 use Rattle.pagable_traits.proofs.impls.holders.OptionPagableDeserialize.pagable_deserialize.Goals as goal
 
 pub returns-in_err-read_flag : goal.returns-in_err-read_flag
@@ -26,23 +25,11 @@ returns-in_err-value g c =
     let env = g.D.PagableDeserializer.environment c.args.deserializer.now in
     let context = handles_at (g.D.PagableDeserializer.levels c.args.deserializer.now) (g.E.Env.parts env) in
     let told = c.in_ok-read_flag.ensures in
-    let part = c.in_err-value.ensures in
-    rw (p.1, p.2) (record {
-      gives = option_refused g.T.PagableDeserialize.read_causes context (g.T.Carried.shape env) _ (g.D.PagableDeserializer.rest c.args.deserializer.now) _ _ c.if-not-branch.false told.gives (rw (told.same_levels, told.same_env) at part.gives);
-      moves = moves_trans _ _ _ told.moves part.moves;
-      same_env = part.same_env ∙ told.same_env;
-      same_levels = part.same_levels ∙ told.same_levels;
-    })
+    rw (p.1, p.2) (then-tells g.E.Env g.D.PagableDeserializer told.moves told.same_env told.same_levels c.in_err-value.ensures (λ h. option_refused g.T.PagableDeserialize.read_causes context (g.T.Carried.shape env) _ (g.D.PagableDeserializer.rest c.args.deserializer.now) _ _ c.if-not-branch.false told.gives (rw (told.same_levels, told.same_env) at h)))
 
 pub returns : goal.returns
 returns g c =
     let env = g.D.PagableDeserializer.environment c.args.deserializer.now in
     let context = handles_at (g.D.PagableDeserializer.levels c.args.deserializer.now) (g.E.Env.parts env) in
     let told = c.in_ok-read_flag.ensures in
-    let part = c.in_ok-value.ensures in
-    record {
-      gives = option_present g.T.Carried.means context (g.T.Carried.shape env) _ (g.D.PagableDeserializer.rest c.args.deserializer.now) _ _ _ c.if-not-branch.false told.gives (rw (told.same_levels, told.same_env) at part.gives);
-      moves = moves_trans _ _ _ told.moves part.moves;
-      same_env = part.same_env ∙ told.same_env;
-      same_levels = part.same_levels ∙ told.same_levels;
-    }
+    then-tells g.E.Env g.D.PagableDeserializer told.moves told.same_env told.same_levels c.in_ok-value.ensures (λ h. option_present g.T.Carried.means context (g.T.Carried.shape env) _ (g.D.PagableDeserializer.rest c.args.deserializer.now) _ _ _ c.if-not-branch.false told.gives (rw (told.same_levels, told.same_env) at h))

@@ -1,6 +1,7 @@
 use Rattle.pagable_model.specs.Gives.{memory_or}
 use Rattle.pagable_model.specs.Standing.{handles_at}
 use Rattle.pagable_traits.proofs.Collecting.{reads_list}
+use Rattle.pagable_traits.proofs.InTurn.{tells}
 use Rattle.pagable_traits.proofs.impls.lists.VecPagableDeserialize.pagable_deserialize.Goals as goal
 
 pub returns : goal.returns
@@ -9,10 +10,5 @@ returns g c =
     let context = handles_at (g.D.PagableDeserializer.levels c.args.deserializer.now) (g.E.Env.parts env) in
     let own = memory_or g.T.PagableDeserialize.read_causes in
     let rest = g.D.PagableDeserializer.rest in
-    let told = c.read_collected.ensures in
-    record {
-      gives = reads_list own g.T.Carried.means c.read_collected.result (λ x. x.items) context (g.T.Carried.shape env) (rest c.args.deserializer.now) (rest c.read_collected.new.deserializer) c.read_collected.ensures.gives;
-      moves = told.moves;
-      same_env = told.same_env;
-      same_levels = told.same_levels;
-    }
+    tells g.E.Env g.D.PagableDeserializer c.read_collected.ensures
+    (reads_list own g.T.Carried.means c.read_collected.result (λ x. x.items) context (g.T.Carried.shape env) (rest c.args.deserializer.now) (rest c.read_collected.new.deserializer) c.read_collected.ensures.gives)

@@ -2,6 +2,7 @@ use Rattle.pagable_model.specs.Writing.{nesting}
 use Rattle.pagable_model.specs.Lifted.{pair_has_meaning}
 use Rattle.pagable_traits.proofs.Walks.{shows_entries, written_counted, refused_counted}
 use Rattle.pagable_traits.proofs.Placed.{key-same, wraps_placed_map}
+use Rattle.pagable_traits.proofs.InTurn.{owed}
 use Rattle.pagable_traits.proofs.impls.placed.IndexMapPagableSerialize.pagable_serialize.Goals as goal
 
 pub returns : goal.returns
@@ -13,12 +14,6 @@ returns g c =
     let wraps = wraps_placed_map g.K.Carried.means g.V.Carried.means g.K.PartialEq.eq same c.args.self.now.entries n (g.K.Carried.shape env) (g.V.Carried.shape env) c.len.ensures.unique in
     let out = g.S.PagableSerializer.out in
     let has = pair_has_meaning g.K.Carried.means g.V.Carried.means g.K.Carried.has_meaning g.V.Carried.has_meaning in
-    let told = c.write_counted.ensures in
-    record {
-      ok = written_counted c.write_counted.result c.len.result (out c.args.serializer.now) (out c.write_counted.new.serializer) shows wraps c.len.ensures.len c.write_counted.ensures.ok;
-      refused = refused_counted c.write_counted.result c.len.result shows wraps has c.len.ensures.len c.write_counted.ensures.refused;
-      only = told.only;
-      err = told.err;
-      same_env = told.same_env;
-      same_levels = told.same_levels;
-    }
+    owed g.E.Env g.S.PagableSerializer c.write_counted.result _ _ _ _ _ c.write_counted.ensures
+    (written_counted c.write_counted.result c.len.result (out c.args.serializer.now) (out c.write_counted.new.serializer) shows wraps c.len.ensures.len c.write_counted.ensures.ok)
+    (refused_counted c.write_counted.result c.len.result shows wraps has c.len.ensures.len c.write_counted.ensures.refused)

@@ -1,9 +1,8 @@
-use Rattle.std.proofs.Common.{◌∙◌}
 use Rattle.std.proofs.lemmas.Result.{err_from_is_err_and}
 use Rattle.pagable_model.specs.Gives.{either}
 use Rattle.pagable_model.specs.Standing.{handles_at}
-use Rattle.pagable_codec.proofs.Reading.{moves_trans}
 use Rattle.pagable_traits.proofs.Joined.{outcome_refused, success_refused, failure_refused, gave_success, gave_failure}
+use Rattle.pagable_traits.proofs.InTurn.{then-tells}
 use Rattle.pagable_traits.proofs.impls.results.ResultPagableDeserialize.pagable_deserialize.Goals as goal
 
 pub returns-in_err-good : goal.returns-in_err-good
@@ -20,26 +19,14 @@ returns-in_err-value g c =
     let env = g.D.PagableDeserializer.environment c.args.deserializer.now in
     let context = handles_at (g.D.PagableDeserializer.levels c.args.deserializer.now) (g.E.Env.parts env) in
     let told = c.in_ok-good.ensures in
-    let part = c.in_err-value.ensures in
-    rw (p.1, p.2) (record {
-      gives = success_refused g.T.PagableDeserialize.read_causes g.X.PagableDeserialize.read_causes context (g.T.Carried.shape env) (g.X.Carried.shape env) _ _ _ _ told.gives c.if-good.true (rw (told.same_levels, told.same_env) at part.gives);
-      moves = moves_trans _ _ _ told.moves part.moves;
-      same_env = part.same_env ∙ told.same_env;
-      same_levels = part.same_levels ∙ told.same_levels;
-    })
+    rw (p.1, p.2) (then-tells g.E.Env g.D.PagableDeserializer told.moves told.same_env told.same_levels c.in_err-value.ensures (λ h. success_refused g.T.PagableDeserialize.read_causes g.X.PagableDeserialize.read_causes context (g.T.Carried.shape env) (g.X.Carried.shape env) _ _ _ _ told.gives c.if-good.true (rw (told.same_levels, told.same_env) at h)))
 
 pub returns-then-good : goal.returns-then-good
 returns-then-good g c =
     let env = g.D.PagableDeserializer.environment c.args.deserializer.now in
     let context = handles_at (g.D.PagableDeserializer.levels c.args.deserializer.now) (g.E.Env.parts env) in
     let told = c.in_ok-good.ensures in
-    let part = c.in_ok-value.ensures in
-    record {
-      gives = gave_success g.T.Carried.means g.X.Carried.means _ context (g.T.Carried.shape env) (g.X.Carried.shape env) _ _ _ _ told.gives c.if-good.true (rw (told.same_levels, told.same_env) at part.gives);
-      moves = moves_trans _ _ _ told.moves part.moves;
-      same_env = part.same_env ∙ told.same_env;
-      same_levels = part.same_levels ∙ told.same_levels;
-    }
+    then-tells g.E.Env g.D.PagableDeserializer told.moves told.same_env told.same_levels c.in_ok-value.ensures (λ h. gave_success g.T.Carried.means g.X.Carried.means _ context (g.T.Carried.shape env) (g.X.Carried.shape env) _ _ _ _ told.gives c.if-good.true (rw (told.same_levels, told.same_env) at h))
 
 pub returns-in_err-failure : goal.returns-in_err-failure
 returns-in_err-failure g c =
@@ -47,23 +34,11 @@ returns-in_err-failure g c =
     let env = g.D.PagableDeserializer.environment c.args.deserializer.now in
     let context = handles_at (g.D.PagableDeserializer.levels c.args.deserializer.now) (g.E.Env.parts env) in
     let told = c.in_ok-good.ensures in
-    let part = c.in_err-failure.ensures in
-    rw (p.1, p.2) (record {
-      gives = failure_refused g.T.PagableDeserialize.read_causes g.X.PagableDeserialize.read_causes context (g.T.Carried.shape env) (g.X.Carried.shape env) _ _ _ _ told.gives c.if-good.false (rw (told.same_levels, told.same_env) at part.gives);
-      moves = moves_trans _ _ _ told.moves part.moves;
-      same_env = part.same_env ∙ told.same_env;
-      same_levels = part.same_levels ∙ told.same_levels;
-    })
+    rw (p.1, p.2) (then-tells g.E.Env g.D.PagableDeserializer told.moves told.same_env told.same_levels c.in_err-failure.ensures (λ h. failure_refused g.T.PagableDeserialize.read_causes g.X.PagableDeserialize.read_causes context (g.T.Carried.shape env) (g.X.Carried.shape env) _ _ _ _ told.gives c.if-good.false (rw (told.same_levels, told.same_env) at h)))
 
 pub returns : goal.returns
 returns g c =
     let env = g.D.PagableDeserializer.environment c.args.deserializer.now in
     let context = handles_at (g.D.PagableDeserializer.levels c.args.deserializer.now) (g.E.Env.parts env) in
     let told = c.in_ok-good.ensures in
-    let part = c.in_ok-failure.ensures in
-    record {
-      gives = gave_failure g.T.Carried.means g.X.Carried.means _ context (g.T.Carried.shape env) (g.X.Carried.shape env) _ _ _ _ told.gives c.if-good.false (rw (told.same_levels, told.same_env) at part.gives);
-      moves = moves_trans _ _ _ told.moves part.moves;
-      same_env = part.same_env ∙ told.same_env;
-      same_levels = part.same_levels ∙ told.same_levels;
-    }
+    then-tells g.E.Env g.D.PagableDeserializer told.moves told.same_env told.same_levels c.in_ok-failure.ensures (λ h. gave_failure g.T.Carried.means g.X.Carried.means _ context (g.T.Carried.shape env) (g.X.Carried.shape env) _ _ _ _ told.gives c.if-good.false (rw (told.same_levels, told.same_env) at h))

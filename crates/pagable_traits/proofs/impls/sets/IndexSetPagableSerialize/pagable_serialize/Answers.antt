@@ -2,6 +2,7 @@ use Rattle.pagable_model.specs.Writing.{nesting}
 use Rattle.pagable_traits.proofs.Walks.{shows_items, written_counted, refused_counted}
 use Rattle.pagable_traits.proofs.Placed.{key-same}
 use Rattle.pagable_traits.proofs.Sets.{wraps_placed_set}
+use Rattle.pagable_traits.proofs.InTurn.{owed}
 use Rattle.pagable_traits.proofs.impls.sets.IndexSetPagableSerialize.pagable_serialize.Goals as goal
 
 pub returns : goal.returns
@@ -12,12 +13,6 @@ returns g c =
     let shows = shows_items g.T.Carried.means c.args.self.now.keys c.iter.ensures.rest in
     let wraps = wraps_placed_set g.T.Carried.means g.T.PartialEq.eq same c.args.self.now.keys n (g.T.Carried.shape env) c.len.ensures.unique in
     let out = g.S.PagableSerializer.out in
-    let told = c.write_counted.ensures in
-    record {
-      ok = written_counted c.write_counted.result c.len.result (out c.args.serializer.now) (out c.write_counted.new.serializer) shows wraps c.len.ensures.len c.write_counted.ensures.ok;
-      refused = refused_counted c.write_counted.result c.len.result shows wraps g.T.Carried.has_meaning c.len.ensures.len c.write_counted.ensures.refused;
-      only = told.only;
-      err = told.err;
-      same_env = told.same_env;
-      same_levels = told.same_levels;
-    }
+    owed g.E.Env g.S.PagableSerializer c.write_counted.result _ _ _ _ _ c.write_counted.ensures
+    (written_counted c.write_counted.result c.len.result (out c.args.serializer.now) (out c.write_counted.new.serializer) shows wraps c.len.ensures.len c.write_counted.ensures.ok)
+    (refused_counted c.write_counted.result c.len.result shows wraps g.T.Carried.has_meaning c.len.ensures.len c.write_counted.ensures.refused)

@@ -3,9 +3,7 @@ use Rattle.pagable_traits.proofs.Joined.{pair_along, gave_along}
 use Rattle.pagable_traits.proofs.impls.thin.ThinPagableDeserialize.pagable_deserialize.Goals as goal
 
 pub returns-in_err-value : goal.returns-in_err-value
-returns-in_err-value g c =
-    let p = err_from_is_err_and c.from_residual.result c.from_residual.ensures.1 in
-    rw (p.1, p.2) c.in_err-value.ensures
+returns-in_err-value g c = let p = err_from_is_err_and c.from_residual.result c.from_residual.ensures.1 in rw (p.1, p.2) c.in_err-value.ensures
 
 pub returns : goal.returns
 returns g c =
