@@ -16,14 +16,13 @@ import sys
 
 # The types whose lines are replayed, all of which `rows` knows.
 CARRIED = [
-    "()", "bool", "char", "u8", "u16", "u32", "u64", "u128", "usize", "i8", "i16", "i32", "i64", "i128", "String",
-    "Box<str>", "PathBuf", "PhantomData", "Duration", "AtomicI64", "OnceLock<u16>", "Regex", "Json", "Box<u16>", "Option<u8>",
+    "()", "bool", "char", "u8", "u16", "u32", "u64", "u128", "usize", "i8", "i16", "i32", "i64", "i128", "String", "Box<str>",
+    "PathBuf", "PhantomData", "Duration", "AtomicI64", "OnceLock<u16>", "Regex", "Json", "Box<u16>", "Option<u8>",
     "Option<String>", "Option<Option<i32>>", "Result<u16,bool>", "Result<String,String>", "(bool,String)", "(u8,u16,i32)",
-    "(u8,String,Vec<u64>,Option<i8>)", "(u128,i128,char,bool,())", "(Vec<Duration>,PathBuf,Json)", "Vec<()>", "Vec<u8>",
-    "Vec<i32>", "Vec<u64>", "Vec<String>", "Vec<(String,i64)>", "Box<[u32]>", "SmallVec<[u8;4]>", "SmallVec<[String;4]>",
-    "&[i32]", "[i32]", "[u16;2]", "[String;3]", "[Option<Box<(u16,[bool;2])>>;2]", "BTreeMap<(u8,bool),Vec<String>>",
-    "BTreeMap<String,BTreeMap<u64,Vec<u32>>>", "HashMap<String,i32>", "IndexMap<String,u8>", "BTreeSet<i16>", "IndexSet<u64>",
-    "IndexMap<String,BTreeSet<Option<i8>>>", "Option<Result<Vec<(u8,String)>,IndexMap<String,u8>>>",
+    "(u8,String,Vec<u64>,Option<i8>)", "(u128,i128,char,bool,())", "Vec<()>", "Vec<u8>", "Vec<i32>", "Vec<u64>", "Vec<String>",
+    "Vec<(String,i64)>", "Box<[u32]>", "SmallVec<[u8;4]>", "SmallVec<[String;4]>", "&[i32]", "[i32]", "[u16;2]", "[String;3]",
+    "BTreeMap<(u8,bool),Vec<String>>", "HashMap<String,i32>", "IndexMap<String,u8>", "BTreeSet<i16>", "IndexSet<u64>",
+    "IndexMap<String,BTreeSet<Option<i8>>>",
 ]
 
 # The types whose value `rows` shows.

@@ -1,5 +1,4 @@
-//! Answers to lines of values, each a type, a verb and bytes: those of the library's own types come from `row_values`, those of
-//! types of one's own and drawn inputs from here.
+//! Answers to lines of values, each a type, a verb and bytes: those of types of one's own, and of inputs that are drawn.
 #![tactic(auto)]
 
 pub mod drawn;

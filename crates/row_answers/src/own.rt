@@ -2,9 +2,9 @@
 
 use pagable::{Env, PagableDeserialize, PagableSerialize, StaticBytes, StaticStr};
 use pagable_examples::{Animal, AnimalReader, Expression, Sheet, Sighting, Ticket, Zoo};
-use row_values::carried::{AnyEnv, read, replay_in};
+use row_values::carried::{AnyEnv, read, replay_eagerly, replay_in};
 use row_values::outcome::Outcome;
-use row_values::{eager, types};
+use row_values::types;
 use std::alloc::Global;
 
 /// A value that is shown as a text.
@@ -75,7 +75,7 @@ pub fn answer(alloc: Global, name: &str, input: &[u8]) -> Option<Outcome> {
     }
     match name {
         "Expression" => return replay_in::<Sheet, Expression>(alloc, &Sheet, input),
-        "Ticket" => return eager::replay::<AnyEnv, Ticket>(alloc, &AnyEnv, input),
+        "Ticket" => return replay_eagerly::<AnyEnv, Ticket>(alloc, &AnyEnv, input),
         _ => {}
     }
     let (name, names) = name.split_once(':').unwrap_or((name, ""));

@@ -4,7 +4,8 @@ use crate::outcome::Outcome;
 use pagable_core::{NoReferences, PagableDeserializerImpl, PagableSerializerImpl, WeighHash};
 use pagable_flavors::Error;
 use pagable_traits::{
-    Env, PagableDeserialize, PagableDeserializer, PagableSerialize, SessionContext,
+    Env, PagableDeserialize, PagableDeserializer, PagableEagerDeserialize, PagableEagerSerialize,
+    PagableSerialize, SessionContext,
 };
 use std::alloc::Global;
 use std::fmt::Display;
@@ -61,17 +62,6 @@ pub fn taken<'de, E: Env, W: Takes<'de, E>>(
     (taken, PagableDeserializer::<E>::position(&source).byte_pos)
 }
 
-/// To read a value.
-struct Once<T>(PhantomData<T>);
-
-impl<'de, E: Env, T: PagableDeserialize<'de, E>> Takes<'de, E> for Once<T> {
-    type Taken = Result<T, Error>;
-
-    fn take<D: PagableDeserializer<E>>(alloc: Global, source: &mut D) -> Result<T, Error> {
-        T::pagable_deserialize(alloc, source)
-    }
-}
-
 /// To read a value, and again from the same place: the number of the first reading's refusal, and what the second one gives.
 struct Twice<T>(PhantomData<T>);
 
@@ -102,44 +92,42 @@ where
     })
 }
 
-/// What a writer holds after a writing that came out so.
+/// What a writer holds after a writing that came out so, or the number of the refusal.
 pub fn finished<E: Env>(
     done: Result<(), Error>,
     out: PagableSerializerImpl<'_, E>,
-) -> Result<Vec<u8>, Error> {
-    done?;
-    Ok(out.finish()?.bytes)
+) -> Result<Vec<u8>, u32> {
+    if let Err(refusal) = done {
+        return Err(refusal.number());
+    }
+    match out.finish() {
+        Ok(data) => Ok(data.bytes),
+        Err(refusal) => Err(refusal.number()),
+    }
 }
 
-/// The bytes of a value, which is written once.
+/// The bytes of a value, which is written once, or the number of the refusal.
 fn written_once<E: Env, T: PagableSerialize<E>>(
     alloc: Global,
     env: &E,
     value: &T,
-) -> Result<Vec<u8>, Error> {
+) -> Result<Vec<u8>, u32> {
     let mut out = PagableSerializerImpl::testing_new(alloc, env);
     let done = value.pagable_serialize(&mut out);
     finished(done, out)
 }
 
-/// The bytes of a value, or the number of the refusal. Where memory is refused, it is written once more.
+/// The same. Where memory is refused, it is written once more.
 pub fn written<E: Env, T: PagableSerialize<E>>(
     alloc: Global,
     env: &E,
     value: &T,
 ) -> Result<Vec<u8>, u32> {
-    match written_once(alloc, env, value) {
-        Err(Error::OutOfMemory) => numbered(written_once(alloc, env, value)),
-        first => numbered(first),
+    let first = written_once(alloc, env, value);
+    if first.as_ref().err() == Some(&Error::OutOfMemory.number()) {
+        return written_once(alloc, env, value);
     }
-}
-
-/// The number in place of a refusal.
-pub fn numbered(written: Result<Vec<u8>, Error>) -> Result<Vec<u8>, u32> {
-    match written {
-        Ok(bytes) => Ok(bytes),
-        Err(refusal) => Err(refusal.number()),
-    }
+    first
 }
 
 /// What comes of an input of the type `T`, which no environment bears on.
@@ -150,13 +138,13 @@ where
     replay_in::<AnyEnv, T>(alloc, &AnyEnv, input)
 }
 
-/// The value at the front of an input.
-pub fn read<'de, E: Env, T: PagableDeserialize<'de, E>>(
+/// The value at the front of an input, which is read twice.
+pub fn read<'de, E: Env, T: PagableDeserialize<'de, E> + Drop>(
     alloc: Global,
     env: &E,
     input: &'de [u8],
 ) -> Result<T, Error> {
-    taken::<E, Once<T>>(alloc, env, input).0
+    taken::<E, Twice<T>>(alloc, env, input).0.1
 }
 
 /// As `replay`, with the value shown.
@@ -170,4 +158,38 @@ where
         Err(_) => None,
     };
     Some(outcome.with_shown(text))
+}
+
+/// To read a value eagerly.
+struct Eagerly<T>(PhantomData<T>);
+
+impl<'de, E: Env, T: PagableEagerDeserialize<'de, E>> Takes<'de, E> for Eagerly<T> {
+    type Taken = Result<T, Error>;
+
+    fn take<D: PagableDeserializer<E>>(alloc: Global, source: &mut D) -> Result<T, Error> {
+        T::eager_pagable_deserialize(alloc, source)
+    }
+}
+
+/// The bytes of a value, or the number of the refusal.
+fn written_eagerly<E: Env, T: PagableEagerSerialize<E>>(
+    alloc: Global,
+    env: &E,
+    value: &T,
+) -> Result<Vec<u8>, u32> {
+    let mut out = PagableSerializerImpl::testing_new(alloc, env);
+    let done = value.eager_pagable_serialize(&mut out);
+    finished(done, out)
+}
+
+/// What comes of an input of the type `T` of an environment, which is read and written eagerly.
+pub fn replay_eagerly<'de, E: Env, T>(alloc: Global, env: &E, input: &'de [u8]) -> Option<Outcome>
+where
+    T: PagableEagerSerialize<E> + PagableEagerDeserialize<'de, E> + Drop,
+{
+    let (read, used) = taken::<E, Eagerly<T>>(alloc, env, input);
+    Some(match read {
+        Ok(value) => Outcome::taken(None, used, written_eagerly(alloc, env, &value)),
+        Err(refusal) => Outcome::Refused(refusal.number()),
+    })
 }

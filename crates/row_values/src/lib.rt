@@ -2,6 +2,5 @@
 #![tactic(auto)]
 
 pub mod carried;
-pub mod eager;
 pub mod outcome;
 pub mod types;

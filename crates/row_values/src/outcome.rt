@@ -81,18 +81,6 @@ impl Outcome {
         }
     }
 
-    /// The same, where so many bytes were taken.
-    pub fn with_used(self, count: usize) -> Outcome {
-        match self {
-            Outcome::Taken { written, shown, .. } => Outcome::Taken {
-                used: count,
-                written,
-                shown,
-            },
-            other => other,
-        }
-    }
-
     /// The outcome as a text: `ok USED WRITTEN = SHOWN` or `refused N`. What was written is left out where it is what was
     /// taken of the input.
     pub fn text(&self, alloc: Global, input: &[u8]) -> Result<String, AllocError> {

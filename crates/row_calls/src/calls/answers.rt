@@ -13,54 +13,28 @@ pub type CellReply = Reply<CellNode, Arc<PagableData>>;
 pub type CellEventReply = EventReply<CellNode, Arc<PagableData>, ()>;
 
 /// A word, and at most two numbers behind it.
-#[derive(Clone, Copy)]
-struct Told {
-    word: &'static str,
-    first: Option<u128>,
-    second: Option<u128>,
-}
-
-/// A word alone.
-fn word(word: &'static str) -> Told {
-    Told {
-        word,
-        first: None,
-        second: None,
-    }
-}
+type Told = (&'static str, Option<u128>, Option<u128>);
 
 /// A word with a number.
 fn number(word: &'static str, number: u128) -> Told {
-    Told {
-        word,
-        first: Some(number),
-        second: None,
-    }
+    (word, Some(number), None)
 }
 
 /// A refusal: its number, and the key or code that it carries.
-fn refused(refusal: &Error) -> Told {
+fn refused(word: &'static str, refusal: &Error) -> Told {
     let second = match refusal {
         Error::NoData(key) => Some(key.get()),
         Error::Storage(code) => Some(u128::from(*code)),
         _ => None,
     };
-    Told {
-        word: "refused",
-        first: Some(u128::from(refusal.number())),
-        second,
-    }
+    (word, Some(u128::from(refusal.number())), second)
 }
 
 /// What the begin of a load answers.
 fn begun(begun: &Beginning) -> Told {
     match begun {
-        Beginning::InMemory => word("memory"),
-        Beginning::Load(load, key) => Told {
-            word: "load",
-            first: Some(u128::from(load.0)),
-            second: Some(key.get()),
-        },
+        Beginning::InMemory => ("memory", None, None),
+        Beginning::Load(load, key) => ("load", Some(u128::from(load.0)), Some(key.get())),
     }
 }
 
@@ -99,20 +73,19 @@ fn given(reply: &CellReply) -> Told {
         }
         Reply::Pin(Ok(Pinning::NeedsLoad(key))) => number("needs", key.get()),
         Reply::Begun(Ok(beginning)) => begun(beginning),
-        Reply::Away(Ok(false)) => word("no"),
-        Reply::Away(Ok(true)) => word("yes"),
-        Reply::Done(_) => word("ok"),
-        _ => word("none"),
+        Reply::Away(Ok(false)) => ("no", None, None),
+        Reply::Away(Ok(true)) => ("yes", None, None),
+        Reply::Done(_) => ("ok", None, None),
+        _ => ("none", None, None),
     }
 }
 
-impl Told {
-    /// Adds the word and its numbers to a text.
-    fn push(self, alloc: Global, text: &mut String) -> anyhow::Result<()> {
-        text.push_str(self.word)?;
-        push_number(alloc, text, self.first)?;
-        push_number(alloc, text, self.second)
-    }
+/// Adds a word and its numbers to a text.
+fn push_words(alloc: Global, text: &mut String, told: Told) -> anyhow::Result<()> {
+    let (word, first, second) = told;
+    text.push_str(word)?;
+    push_number(alloc, text, first)?;
+    push_number(alloc, text, second)
 }
 
 /// Adds a number, if there is one.
@@ -151,8 +124,8 @@ pub fn push_call(alloc: Global, text: &mut String, reply: &CellReply) -> anyhow:
 /// Adds what a call answers that gives no blob.
 fn push_told(alloc: Global, text: &mut String, reply: &CellReply) -> anyhow::Result<()> {
     match refusal(reply) {
-        Some(e) => refused(e).push(alloc, text)?,
-        None => given(reply).push(alloc, text)?,
+        Some(e) => push_words(alloc, text, refused("refused", e))?,
+        None => push_words(alloc, text, given(reply))?,
     }
     if let Reply::LoadEnded(Err((_, Some(_)))) = reply {
         text.push_str(" back")?;
@@ -164,11 +137,8 @@ fn push_told(alloc: Global, text: &mut String, reply: &CellReply) -> anyhow::Res
 fn ended(answer: &LoadAnswer<CellNode>) -> Told {
     match answer {
         LoadAnswer::Pinned(handle) => number(" pinned", u128::from(handle.0)),
-        LoadAnswer::Refused(e) => Told {
-            word: " refused",
-            ..refused(e)
-        },
-        LoadAnswer::Read(_) => word(" read"),
+        LoadAnswer::Refused(e) => refused(" refused", e),
+        LoadAnswer::Read(_) => (" read", None, None),
     }
 }
 
@@ -177,9 +147,9 @@ fn push(alloc: Global, text: &mut String, reply: &CellEventReply) -> anyhow::Res
     match reply {
         EventReply::CallReply(reply) => push_call(alloc, text, reply),
         EventReply::Started(Ok(beginning)) => push_after(alloc, text, begun(beginning)),
-        EventReply::Started(Err(e)) => push_after(alloc, text, refused(e)),
+        EventReply::Started(Err(e)) => push_after(alloc, text, refused("refused", e)),
         EventReply::LoadMoved(Ok(moved)) => push_step(alloc, text, moved),
-        EventReply::LoadMoved(Err(e)) => push_after(alloc, text, refused(e)),
+        EventReply::LoadMoved(Err(e)) => push_after(alloc, text, refused("refused", e)),
         _ => Ok(()),
     }
 }
@@ -187,14 +157,14 @@ fn push(alloc: Global, text: &mut String, reply: &CellEventReply) -> anyhow::Res
 /// Adds what is told to what stands in the text.
 fn push_after(alloc: Global, text: &mut String, told: Told) -> anyhow::Result<()> {
     parted(text)?;
-    told.push(alloc, text)
+    push_words(alloc, text, told)
 }
 
 /// Adds how many steps a load has made, and what ended it.
 fn push_step(alloc: Global, text: &mut String, moved: &LoadReply<CellNode>) -> anyhow::Result<()> {
     push_after(alloc, text, number("step", u128::from(moved.steps)))?;
     match &moved.ended {
-        Some(answer) => ended(answer).push(alloc, text),
+        Some(answer) => push_words(alloc, text, ended(answer)),
         None => Ok(()),
     }
 }

@@ -5,20 +5,11 @@ use crate::calls::nodes::node;
 use crate::calls::{CellCall, CellEvent};
 use anyhow::bail;
 use pagable::{DataKey, HandleNumber, LoadNumber, MachineCall, MachineEvent, NodeNumber};
-use std::alloc::{AllocError, Global};
+use std::alloc::Global;
 
 /// A word, and what stands behind it.
 pub fn split(text: &str) -> (&str, &str) {
     text.split_once(' ').unwrap_or((text, ""))
-}
-
-/// The parts of a row, which semicolons part.
-pub fn parts(alloc: Global, line: &str) -> Result<Vec<&str>, AllocError> {
-    let mut parts = Vec::new(alloc);
-    for part in line.split(';') {
-        parts.push(part.trim())?;
-    }
-    Ok(parts)
 }
 
 /// The events of a row.

@@ -12,29 +12,18 @@ fn number(key: OptionalDataKey) -> u128 {
     }
 }
 
-/// What a pager tells of a live handle.
-#[derive(Clone, Copy)]
-struct Sight {
-    node: u64,
-    count: u64,
-    key: OptionalDataKey,
-    is_away: bool,
-}
-
-/// The handle's node, the node's count and key, and whether the value is out of memory.
+/// A handle's node, the node's count and key, and whether the value is out of memory.
 fn seen<E: Env, S: PagableStorage<E>>(
     pager: &Pager<E, S>,
     handle: HandleNumber,
-) -> Result<Sight, Error>
+) -> Result<(u64, u64, u128, bool), Error>
 where
     E::Node: NodeSet<E>,
 {
-    Ok(Sight {
-        node: pager.node_of(handle)?.0,
-        count: pager.count(handle)?,
-        key: pager.key(handle)?,
-        is_away: pager.is_paged_out(handle)?,
-    })
+    let node = pager.node_of(handle)?.0;
+    let count = pager.count(handle)?;
+    let key = number(pager.key(handle)?);
+    Ok((node, count, key, pager.is_paged_out(handle)?))
 }
 
 /// Adds a live handle: its number, its node, the node's count and key, whether the value is in memory, and the value.
@@ -44,10 +33,8 @@ fn push(
     pager: &CellPager,
     handle: HandleNumber,
 ) -> Result<(), Error> {
-    let found = seen(pager, handle)?;
-    let key = number(found.key);
-    let place = if found.is_away { "away" } else { "here" };
-    let (node, count) = (found.node, found.count);
+    let (node, count, key, is_away) = seen(pager, handle)?;
+    let place = if is_away { "away" } else { "here" };
     text.push_str(format!(in alloc; "; {}: {node} {count} {key} {place}", handle.0)?.as_str())?;
     if let Some(value) = pager.value(handle)? {
         text.push_str(" = ")?;

@@ -2,7 +2,7 @@
 
 use crate::calls::CellPager;
 use crate::calls::answers::{CellReply, push_call};
-use crate::calls::asked::{event, parts, split};
+use crate::calls::asked::{event, split};
 use anyhow::bail;
 use either::Either;
 use pagable::{
@@ -14,34 +14,12 @@ use std::sync::Arc;
 
 /// The answers to a row's calls, which are made one after the other.
 pub fn answers(alloc: Global, pager: &mut CellPager, line: &str) -> anyhow::Result<String> {
-    let parts = parts(alloc, line)?;
     let mut text = String::new(alloc);
-    push_answers(alloc, &mut text, pager, parts.as_slice())?;
-    Ok(text)
-}
-
-/// Makes calls, and adds what they answer.
-fn push_answers(
-    alloc: Global,
-    text: &mut String,
-    pager: &mut CellPager,
-    parts: &[&str],
-) -> anyhow::Result<()> {
-    for part in parts {
-        push_answer(alloc, text, pager, part)?;
+    for part in line.split(';') {
+        let reply = reply(alloc, pager, part.trim())?;
+        push_call(alloc, &mut text, &reply)?;
     }
-    Ok(())
-}
-
-/// Makes a call, and adds what it answers.
-fn push_answer(
-    alloc: Global,
-    text: &mut String,
-    pager: &mut CellPager,
-    part: &str,
-) -> anyhow::Result<()> {
-    let reply = reply(alloc, pager, part)?;
-    push_call(alloc, text, &reply)
+    Ok(text)
 }
 
 /// What one call answers: `page_out`, of all that is listed, the type of a load, or one that a machine makes too.

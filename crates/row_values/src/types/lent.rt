@@ -1,6 +1,6 @@
 //! Calls that read or write in a way of their own: lent slices, boxes, byte arrays.
 
-use crate::carried::{AnyEnv, Takes, finished, numbered, read, replay, taken, written};
+use crate::carried::{AnyEnv, Takes, finished, read, replay, taken, written};
 use crate::outcome::Outcome;
 use pagable_core::PagableSerializerImpl;
 use pagable_flavors::{Error, PagableSlice, PagableVecFlavor};
@@ -26,7 +26,7 @@ fn slice(alloc: Global, input: &[u8]) -> Option<Outcome> {
     let (used, numbers) = list(alloc, input)?;
     let mut out = PagableSerializerImpl::testing_new(alloc, &AnyEnv);
     let done = serialize_slice(numbers.as_slice(), &mut out);
-    Some(Outcome::taken(None, used, numbered(finished(done, out))))
+    Some(Outcome::taken(None, used, finished(done, out)))
 }
 
 /// To read a number into a box.
