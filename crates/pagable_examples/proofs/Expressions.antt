@@ -13,7 +13,7 @@ use Rattle.pagable.specs.Form.{ok-form, err-form, both-form}
 use Rattle.pagable.specs.Reading.{Rest, deepest, read, read_with, bytes_of}
 use Rattle.pagable.specs.Standing.{Answer, Standing, MovesOn, GivesSome, Gave, Is, handles_at}
 use Rattle.pagable.specs.Writing.{Out, Nesting, nesting, WritesSome, Grows, added, NoForm, Refused}
-use Rattle.pagable.proofs.Writing.{grows_trans, grows_same, then, memory_refuses, refused_memory}
+use Rattle.pagable.proofs.Writing.{grows_trans, grows_same, then}
 use Rattle.pagable.proofs.Reading.{moves_trans, moves_refl}
 use Rattle.pagable.proofs.Parts.{where_ok}
 use Rattle.pagable_examples.proofs.Levels.{writes-down, refused-down, refused-deep, only-deep, reads-deep, reads-down}
