@@ -1,7 +1,7 @@
 -- One call of the pager: the step of its plain world that it is, by the call alone, with a reply of the call's type. One event: a call, a load's step, or a worker's.
 use Rattle.std.specs.Prelude.{◌≡◌, length, ℕ, Bool, Option, Result, ◌+◌, ◌<◌, ◌≤◌, ◌⊎◌, if◌then◌else◌, true, List, Some, None, is_some, IfOk, IfErr, slice_get, is_none}
 use Rattle.std.specs.List.{remove}
-use Rattle.pagable_world.specs.Plain.{Blob, Error, OptionalDataKey, HandleNumber, NodeNumber, WorkerNumber, Owner, Call, Found, Reply, Pinning, Beginning, TableNumber, LoadReply, WorkerReply, EventReply, LoadNumber, HandleRow, LoadAnswer, WorkerAnswer, Event, SameAt, updated, if_there, or_else}
+use Rattle.pagable_world.specs.Plain.{Blob, Error, HandleNumber, WorkerNumber, Owner, Call, Found, Reply, Beginning, TableNumber, LoadReply, WorkerReply, EventReply, LoadNumber, HandleRow, LoadAnswer, WorkerAnswer, Event, SameAt, updated, if_there, or_else}
 use Rattle.pagable_world.specs.declared.rows.Mode.TheVariants as modes
 use Rattle.pagable_world.specs.declared.calls.Call.TheVariants as calls
 use Rattle.pagable_world.specs.declared.calls.Found.TheVariants as founds
@@ -20,100 +20,6 @@ use Rattle.pagable_world.specs.LoadCalls.{BeginCall, BeginKeyCall, Given, from_c
 use Rattle.pagable_world.specs.Loads.{ReadingDoes, gone_on}
 use Rattle.pagable_world.specs.Workers.{Site, WalkDoes, WorkerEnds, first_todo, fresh, answer_after, is_counted}
 
--- of a call: P of its answer
-abbrev pub AnswersMade : {N B : Type 0} → Reply N B → (Result HandleNumber (Error × N) → Type 0) → Type 0
-AnswersMade (replies.Made r) P = P r
-AnswersMade _ P = ⊥
-
-abbrev pub AnswersHandle : {N B : Type 0} → Reply N B → (Result HandleNumber Error → Type 0) → Type 0
-AnswersHandle (replies.Handle r) P = P r
-AnswersHandle _ P = ⊥
-
-abbrev pub AnswersPin : {N B : Type 0} → Reply N B → (Result Pinning Error → Type 0) → Type 0
-AnswersPin (replies.Pin r) P = P r
-AnswersPin _ P = ⊥
-
-abbrev pub AnswersDone : {N B : Type 0} → Reply N B → (Result (Unit {0}) Error → Type 0) → Type 0
-AnswersDone (replies.Done r) P = P r
-AnswersDone _ P = ⊥
-
-abbrev pub AnswersCount : {N B : Type 0} → Reply N B → (Result ℕ Error → Type 0) → Type 0
-AnswersCount (replies.Count r) P = P r
-AnswersCount _ P = ⊥
-
-abbrev pub AnswersKey : {N B : Type 0} → Reply N B → (Result OptionalDataKey Error → Type 0) → Type 0
-AnswersKey (replies.KeyFound r) P = P r
-AnswersKey _ P = ⊥
-
-abbrev pub AnswersAway : {N B : Type 0} → Reply N B → (Result Bool Error → Type 0) → Type 0
-AnswersAway (replies.Away r) P = P r
-AnswersAway _ P = ⊥
-
-abbrev pub AnswersNode : {N B : Type 0} → Reply N B → (Result NodeNumber Error → Type 0) → Type 0
-AnswersNode (replies.Node r) P = P r
-AnswersNode _ P = ⊥
-
-abbrev pub AnswersType : {N B : Type 0} → Reply N B → (Option ℕ → Type 0) → Type 0
-AnswersType (replies.NodeType t) P = P t
-AnswersType _ P = ⊥
-
-abbrev pub AnswersLength : {N B : Type 0} → Reply N B → (ℕ → Type 0) → Type 0
-AnswersLength (replies.Length n) P = P n
-AnswersLength _ P = ⊥
-
-abbrev pub AnswersTaken : {N B : Type 0} → Reply N B → (Option HandleNumber → Type 0) → Type 0
-AnswersTaken (replies.Taken h) P = P h
-AnswersTaken _ P = ⊥
-
-abbrev pub AnswersCache : {N B : Type 0} → Reply N B → (Result (Option HandleNumber) Error → Type 0) → Type 0
-AnswersCache (replies.FromCache r) P = P r
-AnswersCache _ P = ⊥
-
-abbrev pub AnswersBlob : {N B : Type 0} → Reply N B → (Result B Error → Type 0) → Type 0
-AnswersBlob (replies.Fetched r) P = P r
-AnswersBlob _ P = ⊥
-
-abbrev pub AnswersStored : {N B : Type 0} → Reply N B → (Result ℕ Error → Type 0) → Type 0
-AnswersStored (replies.Stored r) P = P r
-AnswersStored _ P = ⊥
-
-abbrev pub AnswersBegun : {N B : Type 0} → Reply N B → (Result Beginning Error → Type 0) → Type 0
-AnswersBegun (replies.Begun r) P = P r
-AnswersBegun _ P = ⊥
-
-abbrev pub AnswersFound : {N B : Type 0} → Reply N B → (Result (Found B) Error → Type 0) → Type 0
-AnswersFound (replies.LoadFound r) P = P r
-AnswersFound _ P = ⊥
-
-abbrev pub AnswersEnded : {N B : Type 0} → Reply N B → (Result HandleNumber (Error × Option N) → Type 0) → Type 0
-AnswersEnded (replies.LoadEnded r) P = P r
-AnswersEnded _ P = ⊥
-
--- of an event: P of its answer
-abbrev pub RepliesCall : {N B W : Type 0} → EventReply N B W → (Reply N B → Type 0) → Type 0
-RepliesCall (answers.CallReply r) P = P r
-RepliesCall _ P = ⊥
-
-abbrev pub RepliesStart : {N B W : Type 0} → EventReply N B W → (Result Beginning Error → Type 0) → Type 0
-RepliesStart (answers.Started r) P = P r
-RepliesStart _ P = ⊥
-
-abbrev pub RepliesLoad : {N B W : Type 0} → EventReply N B W → (Result (LoadReply N) Error → Type 0) → Type 0
-RepliesLoad (answers.LoadMoved r) P = P r
-RepliesLoad _ P = ⊥
-
-abbrev pub RepliesTable : {N B W : Type 0} → EventReply N B W → (Result TableNumber Error → Type 0) → Type 0
-RepliesTable (answers.TableMade r) P = P r
-RepliesTable _ P = ⊥
-
-abbrev pub RepliesMade : {N B W : Type 0} → EventReply N B W → (Result WorkerNumber Error → Type 0) → Type 0
-RepliesMade (answers.WorkerMade r) P = P r
-RepliesMade _ P = ⊥
-
-abbrev pub RepliesWorker : {N B W : Type 0} → EventReply N B W → (Result (WorkerReply W) Error → Type 0) → Type 0
-RepliesWorker (answers.WorkerMoved r) P = P r
-RepliesWorker _ P = ⊥
-
 -- what was found, with the blob as it is seen
 abbrev pub given_of : {B : Type 0} → (B → Blob) → Found B → Given
 given_of f (founds.Cached k) = from_cache k
@@ -121,41 +27,42 @@ given_of f (founds.Blob b) = from_store (f b)
 
 -- what the call does, by the call
 abbrev pub Does : {N B W : Type 0} → Seen N B W → Core → Owner → Call N B → Reply N B → Core → Type 0
-Does m w me (calls.NewPinned x) reply w' = AnswersMade reply (λ r. BirthCall w me x (m.values.node_type x) (m.values.references x) modes.Pinned r w')
-Does m w me (calls.NewLoose x) reply w' = AnswersMade reply (λ r. BirthCall w me x (m.values.node_type x) (m.values.references x) modes.LoosePinned r w')
-Does m w me (calls.NewShared x) reply w' = AnswersMade reply (λ r. BirthCall w me x (m.values.node_type x) (m.values.references x) modes.Shared r w')
-Does m w me (calls.NewPagedOut t key) reply w' = AnswersHandle reply (λ r. AwayBirthCall w me t key r w')
-Does m w me (calls.Clone h) reply w' = AnswersHandle reply (λ r. CloneCall w me h r w')
-Does m w me (calls.Pin h) reply w' = AnswersPin reply (λ r. PinCall w me h r w')
-Does m w me (calls.Unpin h) reply w' = AnswersDone reply (λ r. UnpinCall w me h r w')
-Does m w me (calls.Release h) reply w' = AnswersDone reply (λ r. ReleaseCall w me h r w')
-Does m w me (calls.IntoPagable h) reply w' = AnswersHandle reply (λ r. LoosenCall w me h r w')
-Does m w me (calls.SetDataKey h key) reply w' = AnswersDone reply (λ r. SetKeyCall w me h key r w')
-Does m w me (calls.Count h) reply w' = AnswersCount reply (λ r. CountCall w h r × Alike w w')
-Does m w me (calls.Key h) reply w' = AnswersKey reply (λ r. KeyCall w h r × Alike w w')
-Does m w me (calls.IsPagedOut h) reply w' = AnswersAway reply (λ r. AwayCall w h r × Alike w w')
-Does m w me (calls.NodeOf h) reply w' = AnswersNode reply (λ r. NodeCall w h r × Alike w w')
-Does m w me (calls.NodeLive n) reply w' = AnswersType reply (λ t. TypeCall w n t × Alike w w')
-Does m w me (calls.ScheduleForPaging h) reply w' = AnswersDone reply (λ r. ScheduleCall w me h r w')
-Does m w me calls.Pending reply w' = AnswersLength reply (λ n. (n ≡ length w.list) × Alike w w')
-Does m w me (calls.TakePending i) reply w' = AnswersTaken reply (λ h. TakeCall w me i h w')
-Does m w me (calls.CacheGet kind key) reply w' = AnswersCache reply (λ r. RecallCall w me kind key r w')
-Does m w me (calls.OnArcDeserialized kind key h) reply w' = AnswersCache reply (λ r. OfferCall w me kind key h r w')
-Does m w me calls.CacheClear reply w' = AnswersDone reply (λ r. ClearCall w r w')
-Does m w me (calls.Fetch key) reply w' = AnswersBlob reply (λ r. FetchCall w key (seen_as m.blob_of r) w')
-Does m w me (calls.Store b) reply w' = AnswersStored reply (λ r. StoreCall (digest m.values) w (m.blob_of b) r w')
-Does m w me calls.Flush reply w' = AnswersDone reply (λ r. FlushCall w r w')
-Does m w me (calls.LoadBegin h) reply w' = AnswersBegun reply (λ r. BeginCall w me h r w')
-Does m w me (calls.LoadKey key) reply w' = AnswersBegun reply (λ r. BeginKeyCall w me key r w')
-Does m w me (calls.LoadFetch l want) reply w' = AnswersFound reply (λ r. AskCall w me l want (seen_as (given_of m.blob_of) r) w')
-Does m w me (calls.LoadAdopt l kind key x) reply w' = AnswersMade reply (λ r. AdoptCall w me l kind key x (m.values.node_type x) (m.values.references x) r w')
-Does m w me (calls.LoadLazy l kind key) reply w' = AnswersHandle reply (λ r. LazyCall w me l kind key r w')
-Does m w me (calls.LoadEnd l x) reply w' = AnswersEnded reply (λ r. EndCall w me l x (m.values.node_type x) (m.values.references x) r w')
-Does m w me (calls.LoadTake l hs) reply w' = AnswersDone reply (λ r. HandOverCall w me l hs.items r w')
-Does m w me (calls.LoadDrop l) reply w' = AnswersDone reply (λ r. DropCall w me l r w')
-Does m w me (calls.Reserve n) reply w' = AnswersDone reply (λ r. ReserveCall w n r w')
-Does m w me calls.Room reply w' = AnswersLength reply (λ n. (n ≡ room_of w) × Alike w w')
-Does m w me calls.Close reply w' = AnswersDone reply (λ r. CloseCall w r w')
+Does m w me (calls.NewPinned x) (replies.Made r) w' = BirthCall w me x (m.values.node_type x) (m.values.references x) modes.Pinned r w'
+Does m w me (calls.NewLoose x) (replies.Made r) w' = BirthCall w me x (m.values.node_type x) (m.values.references x) modes.LoosePinned r w'
+Does m w me (calls.NewShared x) (replies.Made r) w' = BirthCall w me x (m.values.node_type x) (m.values.references x) modes.Shared r w'
+Does m w me (calls.NewPagedOut t key) (replies.Handle r) w' = AwayBirthCall w me t key r w'
+Does m w me (calls.Clone h) (replies.Handle r) w' = CloneCall w me h r w'
+Does m w me (calls.Pin h) (replies.Pin r) w' = PinCall w me h r w'
+Does m w me (calls.Unpin h) (replies.Done r) w' = UnpinCall w me h r w'
+Does m w me (calls.Release h) (replies.Done r) w' = ReleaseCall w me h r w'
+Does m w me (calls.IntoPagable h) (replies.Handle r) w' = LoosenCall w me h r w'
+Does m w me (calls.SetDataKey h key) (replies.Done r) w' = SetKeyCall w me h key r w'
+Does m w me (calls.Count h) (replies.Count r) w' = CountCall w h r × Alike w w'
+Does m w me (calls.Key h) (replies.KeyFound r) w' = KeyCall w h r × Alike w w'
+Does m w me (calls.IsPagedOut h) (replies.Away r) w' = AwayCall w h r × Alike w w'
+Does m w me (calls.NodeOf h) (replies.Node r) w' = NodeCall w h r × Alike w w'
+Does m w me (calls.NodeLive n) (replies.NodeType t) w' = TypeCall w n t × Alike w w'
+Does m w me (calls.ScheduleForPaging h) (replies.Done r) w' = ScheduleCall w me h r w'
+Does m w me calls.Pending (replies.Length n) w' = (n ≡ length w.list) × Alike w w'
+Does m w me (calls.TakePending i) (replies.Taken h) w' = TakeCall w me i h w'
+Does m w me (calls.CacheGet kind key) (replies.FromCache r) w' = RecallCall w me kind key r w'
+Does m w me (calls.OnArcDeserialized kind key h) (replies.FromCache r) w' = OfferCall w me kind key h r w'
+Does m w me calls.CacheClear (replies.Done r) w' = ClearCall w r w'
+Does m w me (calls.Fetch key) (replies.Fetched r) w' = FetchCall w key (seen_as m.blob_of r) w'
+Does m w me (calls.Store b) (replies.Stored r) w' = StoreCall (digest m.values) w (m.blob_of b) r w'
+Does m w me calls.Flush (replies.Done r) w' = FlushCall w r w'
+Does m w me (calls.LoadBegin h) (replies.Begun r) w' = BeginCall w me h r w'
+Does m w me (calls.LoadKey key) (replies.Begun r) w' = BeginKeyCall w me key r w'
+Does m w me (calls.LoadFetch l want) (replies.LoadFound r) w' = AskCall w me l want (seen_as (given_of m.blob_of) r) w'
+Does m w me (calls.LoadAdopt l kind key x) (replies.Made r) w' = AdoptCall w me l kind key x (m.values.node_type x) (m.values.references x) r w'
+Does m w me (calls.LoadLazy l kind key) (replies.Handle r) w' = LazyCall w me l kind key r w'
+Does m w me (calls.LoadEnd l x) (replies.LoadEnded r) w' = EndCall w me l x (m.values.node_type x) (m.values.references x) r w'
+Does m w me (calls.LoadTake l hs) (replies.Done r) w' = HandOverCall w me l hs.items r w'
+Does m w me (calls.LoadDrop l) (replies.Done r) w' = DropCall w me l r w'
+Does m w me (calls.Reserve n) (replies.Done r) w' = ReserveCall w n r w'
+Does m w me calls.Room (replies.Length n) w' = (n ≡ room_of w) × Alike w w'
+Does m w me calls.Close (replies.Done r) w' = CloseCall w r w'
+Does m w me call reply w' = ⊥
 
 -- The world may give this reply to the call of this one who asks, and go on to the new world.
 pub record CallStep {N B W : Type 0} (m : Seen N B W) (w : Core) (me : Owner) (call : Call N B) (reply : Reply N B) (w' : Core) : Type 0 where
@@ -318,14 +225,15 @@ pub record WorkerStepped {N B W : Type 0} (m : Seen N B W) (u : World) (v : Work
   pub refused : IfErr r (λ e. (e ≡ errors.NoSuchHandle) × (if_there (λ (walking : Walking). is_some walking.answer) true (u.work.walkings v.0) ≡ true) × Stays u u')
 
 abbrev pub Happens : {N B W : Type 0} → Seen N B W → World → Event N B W → EventReply N B W → World → Type 0
-Happens m u (events.Call call) reply u' = RepliesCall reply (λ r. OnlyCore u (λ w'. CallStep m u.core owners.Caller call r w') u')
-Happens m u (events.LoadStart h) reply u' = RepliesStart reply (λ r. OnlyCore u (λ w'. BeginCall u.core owners.Caller h r w') u')
-Happens m u (events.LoadKey key t) reply u' = RepliesStart reply (λ r. KeyStarted u key t r u')
-Happens m u (events.LoadStep l) reply u' = RepliesLoad reply (λ r. LoadStepped m.values u l r u')
-Happens m u events.TableNew reply u' = RepliesTable reply (λ r. Tabled u r u')
-Happens m u (events.WorkerItem t item) reply u' = RepliesMade reply (λ r. StartedItem u t (of_item (m.written_of item)) r u')
-Happens m u (events.WorkerListed t i) reply u' = RepliesMade reply (λ r. StartedListed u t i r u')
-Happens m u (events.WorkerStep v) reply u' = RepliesWorker reply (λ r. WorkerStepped m u v r u')
+Happens m u (events.Call call) (answers.CallReply r) u' = OnlyCore u (λ w'. CallStep m u.core owners.Caller call r w') u'
+Happens m u (events.LoadStart h) (answers.Started r) u' = OnlyCore u (λ w'. BeginCall u.core owners.Caller h r w') u'
+Happens m u (events.LoadKey key t) (answers.Started r) u' = KeyStarted u key t r u'
+Happens m u (events.LoadStep l) (answers.LoadMoved r) u' = LoadStepped m.values u l r u'
+Happens m u events.TableNew (answers.TableMade r) u' = Tabled u r u'
+Happens m u (events.WorkerItem t item) (answers.WorkerMade r) u' = StartedItem u t (of_item (m.written_of item)) r u'
+Happens m u (events.WorkerListed t i) (answers.WorkerMade r) u' = StartedListed u t i r u'
+Happens m u (events.WorkerStep v) (answers.WorkerMoved r) u' = WorkerStepped m u v r u'
+Happens m u event reply u' = ⊥
 
 -- The world may give this reply to the event, and go on to the new world.
 pub record Step {N B W : Type 0} (m : Seen N B W) (u : World) (event : Event N B W) (reply : EventReply N B W) (u' : World) : Type 0 where

@@ -258,55 +258,21 @@ abbrev pub GivesBack : Core → ℕ → Option HandleNumber → Core → Type 0
 GivesBack w v None w' = Alike w w'
 GivesBack w v (Some h) w' = (r : Result (Unit {0}) Error) × ScheduleCall w (owner_worker v) h r w'
 
--- the step is of this kind, and P of what it tells
-abbrev pub TookClaim : {W : Type 0} → Took W → (Identity → Result Claim Error → Type 0) → Type 0
-TookClaim (took.Claim i r) P = P i r
-TookClaim _ P = ⊥
-
-abbrev pub TookPin : {W : Type 0} → Took W → (Identity → Result PinStep Error → Type 0) → Type 0
-TookPin (took.Pin i r) P = P i r
-TookPin _ P = ⊥
-
-abbrev pub TookWrite : {W : Type 0} → Took W → (Identity → Result W Error → Type 0) → Type 0
-TookWrite (took.Write i r) P = P i r
-TookWrite _ P = ⊥
-
-abbrev pub TookStore : {W : Type 0} → Took W → (Option Identity → Result ℕ Error → Type 0) → Type 0
-TookStore (took.Store i r) P = P i r
-TookStore _ P = ⊥
-
-abbrev pub TookSetKey : {W : Type 0} → Took W → (Identity → Result (Unit {0}) Error → Type 0) → Type 0
-TookSetKey (took.SetKey i r) P = P i r
-TookSetKey _ P = ⊥
-
-abbrev pub TookPublish : {W : Type 0} → Took W → (Identity → ℕ → ℕ → Type 0) → Type 0
-TookPublish (took.Publish i key height) P = P i key height
-TookPublish _ P = ⊥
-
-abbrev pub TookRelease : {W : Type 0} → Took W → (Identity → Type 0) → Type 0
-TookRelease (took.Release i) P = P i
-TookRelease _ P = ⊥
-
-abbrev pub TookFail : {W : Type 0} → Took W → Type 0 → Type 0
-TookFail took.Fail P = P
-TookFail _ P = ⊥
-
 -- what stands at the front is done; below it stands the rest of the list
 abbrev pub Does : {N B W : Type 0} → Seen N B W → ℕ → Site → List Todo → Took W → Site → Type 0
-Does m v s (to_start r place ∷ below) step s' = TookClaim step (λ i c. (i ≡ identity_of r) × Claims v s r place below c s')
-Does m v s (to_pin r place ∷ below) step s' = TookPin step (λ i p. (i ≡ identity_of r) × PinsClaimed v s r place below p s')
-Does m v s (to_load r place through reading ∷ below) step s' = TookPin step (λ i p. (i ≡ identity_of r) × PinsLoaded m.values v s r place through reading below p s')
-Does m v s (to_write r place through ∷ below) step s' = TookWrite step (λ i out. (i ≡ identity_of r) × Writes m.values s r place through below (seen_as m.written_of out) s')
-Does m v s (to_finish o ∷ below) step s' = TookStore step (λ i key. (i ≡ Some (identity_of o.reference)) × StoresBlob m.values s o.written o.keys (λ k. to_set o.reference o.through k o.height ∷ below) key s')
-Does m v s (to_item written keys ∷ below) step s' = TookStore step (λ i key. (i ≡ None) × StoresBlob m.values s written keys (λ k. []) key s')
-Does m v s (to_set r through key height ∷ below) step s' = TookSetKey step (λ i u. (i ≡ identity_of r) × SetsKey v s r through key height below u s')
-Does m v s (to_publish r key height ∷ below) step s' =
-    TookPublish step (λ i k h. (i ≡ identity_of r) × (k ≡ key) × (h ≡ height) × Turns s (with_changed_slot s.shelf (identity_of r) (with_outcome (published key height))) (to_release r key height ∷ below) s')
-Does m v s (to_release r key height ∷ below) step s' =
-    TookRelease step (λ i. (i ≡ identity_of r) × FallsAnyhow s.core s.core (is_workers_at s.core v r.node.0) s'.core × GoesTo s (give r key height below) s')
-Does m v s (to_fail fault back ∷ below) step s' =
-    TookFail step (GivesBack s.core v back s'.core × SameShelf (with_failed s.shelf v) s'.shelf × (s'.todo ≡ []))
-Does m v s [] step s' = ⊥
+Does m v s (to_start r place ∷ below) (took.Claim i c) s' = (i ≡ identity_of r) × Claims v s r place below c s'
+Does m v s (to_pin r place ∷ below) (took.Pin i p) s' = (i ≡ identity_of r) × PinsClaimed v s r place below p s'
+Does m v s (to_load r place through reading ∷ below) (took.Pin i p) s' = (i ≡ identity_of r) × PinsLoaded m.values v s r place through reading below p s'
+Does m v s (to_write r place through ∷ below) (took.Write i out) s' = (i ≡ identity_of r) × Writes m.values s r place through below (seen_as m.written_of out) s'
+Does m v s (to_finish o ∷ below) (took.Store i key) s' = (i ≡ Some (identity_of o.reference)) × StoresBlob m.values s o.written o.keys (λ k. to_set o.reference o.through k o.height ∷ below) key s'
+Does m v s (to_item written keys ∷ below) (took.Store i key) s' = (i ≡ None) × StoresBlob m.values s written keys (λ k. []) key s'
+Does m v s (to_set r through key height ∷ below) (took.SetKey i u) s' = (i ≡ identity_of r) × SetsKey v s r through key height below u s'
+Does m v s (to_publish r key height ∷ below) (took.Publish i k h) s' =
+    (i ≡ identity_of r) × (k ≡ key) × (h ≡ height) × Turns s (with_changed_slot s.shelf (identity_of r) (with_outcome (published key height))) (to_release r key height ∷ below) s'
+Does m v s (to_release r key height ∷ below) (took.Release i) s' =
+    (i ≡ identity_of r) × FallsAnyhow s.core s.core (is_workers_at s.core v r.node.0) s'.core × GoesTo s (give r key height below) s'
+Does m v s (to_fail fault back ∷ below) took.Fail s' = GivesBack s.core v back s'.core × SameShelf (with_failed s.shelf v) s'.shelf × (s'.todo ≡ [])
+Does m v s todo step s' = ⊥
 
 -- One step of the worker v, on the pager, its table and its list. It touches nothing else.
 pub record WalkDoes {N B W : Type 0} (m : Seen N B W) (v : ℕ) (s : Site) (step : Took W) (s' : Site) : Type 0 where

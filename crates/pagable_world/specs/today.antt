@@ -16,3 +16,4 @@ pub mod MachineSteps
 pub mod LoadMoves
 pub mod MachineEvents
 pub mod MachineRuns
+pub mod Answers

@@ -8,7 +8,7 @@ use Rattle.pagable_world.specs.declared.machine.MachineCall.TheVariants as calls
 use Rattle.pagable_world.specs.declared.machine.MachineEvent.{MachineEvent}
 use Rattle.pagable_world.specs.declared.machine.MachineEvent.TheVariants as events
 use Rattle.pagable_world.specs.today.Calls.{Begun}
-use Rattle.pagable_world.specs.Events.{RepliesCall, RepliesStart, RepliesLoad}
+use Rattle.pagable_world.specs.today.Answers.{RepliesCall, RepliesStart, RepliesLoad}
 use Rattle.pagable_world.specs.today.MachineSteps.{OnlyTables, CallDoes}
 use Rattle.pagable_world.specs.today.LoadMoves.{FetchedRoot, EventSight, EventWorld, without_load, LoadStepped}
 

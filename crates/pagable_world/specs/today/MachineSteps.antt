@@ -24,7 +24,7 @@ use Rattle.pagable_world.specs.today.Births.{RefusesNew}
 use Rattle.pagable_world.specs.today.LoadEnds.{StaysOpen}
 use Rattle.pagable_world.specs.today.Shown.{Shown}
 use Rattle.pagable_world.specs.today.TodayTrees.{Sight}
-use Rattle.pagable_world.specs.Events.{AnswersMade, AnswersHandle, AnswersPin, AnswersDone, AnswersCount, AnswersKey, AnswersAway, AnswersNode, AnswersType, AnswersLength, AnswersTaken, AnswersBlob, AnswersStored, AnswersBegun, AnswersFound, AnswersEnded}
+use Rattle.pagable_world.specs.today.Answers.{AnswersMade, AnswersHandle, AnswersPin, AnswersDone, AnswersCount, AnswersKey, AnswersAway, AnswersNode, AnswersType, AnswersLength, AnswersTaken, AnswersBlob, AnswersStored, AnswersBegun, AnswersFound, AnswersEnded}
 
 pub record MachineWorld : Type 0 where
   pub tables : World
