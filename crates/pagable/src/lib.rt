@@ -4,6 +4,7 @@
 //! All public names stand at the root, and again in modules that are called as those of the original crate.
 #![tactic(auto)]
 
+pub mod laws;
 pub mod paging;
 
 /// The numbers of cells and handles, and the references that values hold.

@@ -1,5 +1,5 @@
 //! The laws of the definitions of values and of the pager's world: each is the contract of a function that does nothing.
-//! No library of the product stands on this one.
+//! Of the product only a law of `pagable` for carried types stands on this crate.
 #![tactic(auto)]
 
 pub mod values;

@@ -8,8 +8,6 @@ ghost use Rattle.pagable_laws.specs.JsonLaws.{FloatHasNoForm, WholeIsBounded};
 ghost use Rattle.pagable_laws.specs.KeyLaws.{IsOneMeaning, IsOneKeyMeaning, IsAnyOrder};
 ghost use Rattle.pagable_laws.specs.TreeLaws.{IsOneTree, IsOneKey, IsOneItemKey, IsStoredKey, IsTreeReadable, IsKeyOfOneTree, IsLongestPath, StaysInside, IsCanonicalInside};
 
-use pagable_traits::{Env, ReadBack};
-
 /// A form of a shape that is read throughout is read again, whatever follows it.
 #[tactic(auto, using(crate::proofs::Again::read_again))]
 pub fn is_read_again<A, B>()
@@ -20,14 +18,6 @@ pub fn is_read_again<A, B>()
 #[tactic(auto, using(crate::proofs::Prefix::prefix_free))]
 pub fn is_prefix_free<A>()
     ensures { (parts : ℕ → Shape) (s : Shape) → Throughout IsReadable parts s → IsPrefixFree A parts s }
-{}
-
-/// The forms of a type that is `ReadBack` are read again: whatever follows a form, reading gives what was written and leaves what
-/// follows, and no form of one meaning begins a form of another. So where a value of the type is read from a form of another,
-/// by the contract of `pagable_deserialize`, it means the same.
-pub fn forms_are_read_again<A, B, E: Env, T: ReadBack<E>>()
-    ensures again { (e : E) → IsReadAgain A B (E.parts e) (T.Carried.shape e) }
-    ensures prefix_free { (e : E) → IsPrefixFree A (E.parts e) (T.Carried.shape e) }
 {}
 
 /// A meaning of a canonical shape has at most one form.

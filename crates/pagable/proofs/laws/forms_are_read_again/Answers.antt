@@ -1,6 +1,6 @@
 use Rattle.pagable_laws.proofs.Again.{read_again}
 use Rattle.pagable_laws.proofs.Prefix.{prefix_free}
-use Rattle.pagable_laws.proofs.values.forms_are_read_again.Goals as goal
+use Rattle.pagable.proofs.laws.forms_are_read_again.Goals as goal
 
 pub returns-clause-again : goal.returns-clause-again
 returns-clause-again g c = λ e. read_again (g.E.Env.parts e) (g.T.Carried.shape e) (g.met.T.ReadBack.is_read e)
