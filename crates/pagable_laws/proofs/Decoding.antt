@@ -14,11 +14,12 @@ use Rattle.pagable_model.specs.Canonical.{IsReadableType}
 use Rattle.pagable_world.specs.Plain.{Error, ArcRef, Kind, Blob, Shape, Types, Tree, tree, type_of, ReadsTree, Meaning, Among, one}
 use Rattle.pagable_world.specs.World.{Frame, Values, IsLawful}
 use Rattle.pagable_world.specs.Loads.{answer_of, answers_from, read_with, Next, reads, asks, next_by, next_in, IsDecoded}
-use Rattle.pagable_world.specs.Pager.{ReadsNodeTree, FrameFits}
+use Rattle.pagable_world.specs.Pager.{PagerState, NodeStands, MeaningStands, number-stands, integer-stands, text-stands, pattern-stands, none-stands, pair-stands, variant-stands, followed-stands, reference-stands, ReadsNodeTree, FrameFits}
 use Rattle.pagable_world.specs.Runs.{ReadsItsTypes}
-use Rattle.pagable_laws.specs.ReadLaws.{LeadsTo, number-leads, integer-leads, text-leads, pattern-leads, none-leads, pair-leads, variant-leads, reference-leads, ValueLeads, Decoded, AsksNext, DecodesWell}
+use Rattle.pagable_laws.specs.ReadLaws.{LeadsTo, number-leads, integer-leads, text-leads, pattern-leads, none-leads, pair-leads, variant-leads, followed-leads, reference-leads, Decoded, AsksNext, DecodesWell, ReadStands}
 use Rattle.pagable_laws.proofs.Along.{Along, number-along, integer-along, text-along, pattern-along, none-along, pair-along, variant-along, reference-along, followed-along, AllTwo, no-two, more-two}
 use Rattle.pagable_laws.proofs.Related.{SameRest, Out, both-given, both-refused, first-refused, OutLook, both-looked-up, first-not, read_par}
+use Rattle.pagable_laws.proofs.Trees.{tree_is, one_tree}
 use Rattle.pagable_laws.proofs.Sums.{one-true, self-number, at-most-sum, counted}
 
 -- any cause: what comes of a refusal isn't asked
@@ -185,3 +186,39 @@ module _ {N : Type 0} {v : Values N} (lawful : IsLawful v) (readable : ReadsItsT
 
 pub decodes_well : {N : Type 0} (v : Values N) → DecodesWell v
 decodes_well v lawful readable stored trees frame x fits decoded = decodes lawful readable frame x fits decoded
+
+-- ---- and stands for its tree
+
+among-left : {X : Type 0} (xs ys : List X) (i : ℕ) (r : X) → slice_get xs i ≡ Some r → Among (xs ++ ys) r
+among-left [] ys i r is = absurd (cc)
+among-left (x ∷ xs) ys zero r is = (zero, is)
+among-left (x ∷ xs) ys (suc i) r is = let a = among-left xs ys i r is in (suc a.0, a.1)
+
+among-right : {X : Type 0} (xs ys : List X) (i : ℕ) (r : X) → slice_get ys i ≡ Some r → Among (xs ++ ys) r
+among-right [] ys i r is = (i, is)
+among-right (x ∷ xs) ys i r is = let a = among-right xs ys i r is in (suc a.0, a.1)
+
+module _ {N E : Type 0} {v : Values N} {s : PagerState N E} {trees : ℕ → Tree} where
+  -- a meaning that leads to a tree stands for it where the nodes that it refers to do
+  pub leads-stands : {x : Meaning ArcRef} {a : Meaning ⊥} → LeadsTo trees x a → ((r : ArcRef) → Among (references_in x) r → NodeStands v s r.node.0 (trees r.node.0)) → MeaningStands v s x a
+  unfolding references_in
+  leads-stands (number-leads i) h = number-stands i
+  leads-stands (integer-leads z) h = integer-stands z
+  leads-stands (text-leads t) h = text-stands t
+  leads-stands (pattern-leads t) h = pattern-stands t
+  leads-stands none-leads h = none-stands
+  leads-stands (pair-leads x y a b f g) h =
+      let left = leads-stands f (λ r among. h r (among-left (references_in x) (references_in y) among.0 r among.1)) in
+      let right = leads-stands g (λ r among. h r (among-right (references_in x) (references_in y) among.0 r among.1)) in
+      pair-stands x y a b left right
+  leads-stands (variant-leads i x a f) h = variant-stands i x a (leads-stands f h)
+  leads-stands (followed-leads kind x a f) h = followed-stands kind x a (leads-stands f h)
+  leads-stands (reference-leads r a typed meant) h = reference-stands r a (subst (λ (t : Tree). NodeStands v s r.node.0 t) (tree_is _ _ _ _ typed meant) (h r (zero, refl)))
+
+pub read_stands : {N E : Type 0} (v : Values N) → ReadStands E v
+read_stands v lawful readable s trees frame x t fits decoded nodes typed reads_tree =
+    let read = decodes lawful readable frame x fits decoded in
+    let led = read.leads in
+    let same : read.t ≡ t = one_tree s.core.stored v.types frame.key read.t t (read.typed ∙ sym typed) read.reads reads_tree in
+    let meant = leads-stands led.leads (λ r among. nodes r (meant-refs _ _ (λ is. sym (lawful.refers x led.own led.means is)) r among)) in
+    record { own = led.own; typed = led.typed ∙ ap (λ (z : Tree). z.type) same; means = led.means; stands = subst (λ (z : Tree). MeaningStands v s led.own z.meaning) same meant }

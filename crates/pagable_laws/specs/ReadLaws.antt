@@ -5,7 +5,7 @@ use Rattle.pagable_model.specs.Meaning.{number, integer, text, pattern, none, pa
 use Rattle.pagable_world.specs.Plain.{ArcRef, Kind, Blob, Meaning, Tree, Types, ReadsTree, type_of, Among}
 use Rattle.pagable_world.specs.World.{Frame, Values, IsLawful}
 use Rattle.pagable_world.specs.Loads.{IsDecoded, asks, next_in}
-use Rattle.pagable_world.specs.Pager.{FrameFits}
+use Rattle.pagable_world.specs.Pager.{PagerState, NodeStands, ValueStands, FrameFits}
 use Rattle.pagable_world.specs.Runs.{ReadsItsTypes}
 
 -- the meaning leads to this one, where each node has its tree: each reference is followed to its node's tree, which is of the kind's type
@@ -42,3 +42,12 @@ DecodesWell {N} v = IsLawful v → ReadsItsTypes v.types → (stored : ℕ → O
 -- The key that a blob asks for next is the next of its keys.
 abbrev pub AsksNext : Type 0
 AsksNext = (types : Types) (frame : Frame) (kind : Kind) (key : ℕ) → next_in types frame ≡ asks kind key → slice_get frame.blob.keys (length frame.got) ≡ Some key
+
+-- each reference that one of the frames got is of a node that was given
+abbrev pub FramesGiven : ℕ → List Frame → Type 0
+FramesGiven last frames = (frame : Frame) (r : ArcRef) → Among frames frame → Among frame.got r → r.node.0 ≤ last
+
+-- It stands for that tree, where the nodes of its references stand for theirs.
+abbrev pub ReadStands : {N : Type 0} → (E : Type 0) → Values N → Type 0
+ReadStands {N} E v = IsLawful v → ReadsItsTypes v.types → (s : PagerState N E) (trees : ℕ → Tree) (frame : Frame) (x : N) (t : Tree) → FrameFits v.types s.core.stored trees frame → IsDecoded v frame x
+    → ((r : ArcRef) → Among (v.references x) r → NodeStands v s r.node.0 (trees r.node.0)) → t.type ≡ frame.node_type → ReadsTree s.core.stored v.types frame.key t → ValueStands v s x t

@@ -3,7 +3,7 @@
 ghost use Rattle.pagable_world.specs.World.{Seen};
 ghost use Rattle.pagable_laws.specs.FallLaws.{IsThere, IsOne, IsGivenAlone, PinsAreAFilter, TwoLevelsFall, LoneIsListed};
 ghost use Rattle.pagable_laws.specs.MetLaws.{HeadlineIsMet, WorkMeetsHeadline};
-ghost use Rattle.pagable_laws.specs.ReadLaws.{AsksNext, DecodesWell};
+ghost use Rattle.pagable_laws.specs.ReadLaws.{AsksNext, DecodesWell, ReadStands};
 ghost use Rattle.pagable_laws.specs.RunLaws.{ChainsJoin, NewIsWhole, NextIsOneOf, StepsFollow, IsOnceEach, KeysTellTheirTrees};
 
 use crate::values::is_key_of_one_tree;
@@ -104,4 +104,9 @@ pub fn asks_for_the_next()
 #[tactic(auto, using(crate::proofs::Decoding::decodes_well))]
 pub fn reading_leads_to_the_tree<N: SeenAs<B, W>, B, W>()
     ensures { DecodesWell N.seen.values }
+{}
+
+/// It stands for each tree of its type that the key reads as, where the nodes of its references stand for theirs.
+pub fn what_is_read_stands<N: SeenAs<B, W>, B, W, E>()
+    ensures { ReadStands E N.seen.values }
 {}
