@@ -29,3 +29,4 @@ mod Once
 mod Headlines
 mod Working
 mod Doing
+mod Decoding

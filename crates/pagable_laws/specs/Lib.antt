@@ -10,3 +10,4 @@ pub mod SmallMoments
 pub mod SmallWork
 pub mod MetLaws
 pub mod TreeSteps
+pub mod ReadLaws
