@@ -29,3 +29,5 @@ mod Once
 mod Headlines
 mod Working
 mod Doing
+mod Following
+mod Publishing
