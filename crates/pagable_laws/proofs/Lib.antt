@@ -30,4 +30,6 @@ mod Headlines
 mod Working
 mod Doing
 mod Following
+mod Shelves
+mod Stepping
 mod Publishing

@@ -79,19 +79,23 @@ KeysSoFar shelf (r ∷ rs) (k ∷ ks) = ((height : ℕ) × IsPublished shelf (id
 abbrev pub IsNextOf : List ArcRef → List ℕ → ArcRef → Type 0
 IsNextOf rs keys r = (more : List ArcRef) × (drop (length keys) rs ≡ r ∷ more)
 
+-- the reference is that of the task's entry
+abbrev pub IsOfEntry : Task → ArcRef → Type 0
+IsOfEntry (of_entry h i) r = identity_of r ≡ i
+IsOfEntry (of_item written) r = ⊥
+
 -- what waits below is for this reference; and where nothing waits, it is that of the task's entry
 abbrev pub Expects : Task → ArcRef → List Todo → Type 0
-Expects (of_entry h i) r [] = identity_of r ≡ i
-Expects (of_item written) r [] = ⊥
+Expects task r [] = IsOfEntry task r
 Expects task r (to_finish o ∷ below) = IsNextOf o.written.references o.keys r
 Expects task r (to_item written keys ∷ below) = IsNextOf written.references keys r
 Expects task r (x ∷ below) = ⊥
 
--- P of the identity of each written node
+-- P of the identity of each written node that waits
 unfoldable pub EachOpen : (Identity → Type 0) → List Todo → Type 0
 EachOpen P [] = Unit {0}
 EachOpen P (to_finish o ∷ below) = P (identity_of o.reference) × EachOpen P below
-EachOpen P (x ∷ below) = EachOpen P below
+EachOpen P (x ∷ below) = Unit {0}
 
 abbrev pub Apart : Identity → List Todo → Type 0
 Apart i todo = EachOpen (λ j. i ≡ j → ⊥) todo
