@@ -30,3 +30,7 @@ mod Headlines
 mod Working
 mod Doing
 mod Decoding
+mod Following
+mod Shelves
+mod Stepping
+mod Publishing

@@ -11,3 +11,4 @@ pub mod SmallWork
 pub mod MetLaws
 pub mod TreeSteps
 pub mod ReadLaws
+pub mod PageOutLaws

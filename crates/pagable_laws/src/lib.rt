@@ -3,6 +3,7 @@
 #![tactic(auto)]
 
 pub mod runs;
+pub mod keys;
 pub mod values;
 pub mod worked;
 pub mod world;
