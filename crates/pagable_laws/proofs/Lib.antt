@@ -34,3 +34,5 @@ mod Following
 mod Shelves
 mod Stepping
 mod Publishing
+mod Leading
+mod Going

@@ -10,5 +10,6 @@ pub mod SmallMoments
 pub mod SmallWork
 pub mod MetLaws
 pub mod TreeSteps
+pub mod TreeRuns
 pub mod ReadLaws
 pub mod PageOutLaws

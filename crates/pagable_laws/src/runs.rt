@@ -1,1 +1,17 @@
 //! The laws of runs: what holds of every chain of moments, however loads and workers take turns.
+
+ghost use Rattle.pagable_laws.specs.TreeRuns.{IsKeptByGains, TreesGoOn};
+
+use crate::world::SeenAs;
+
+/// A key reads as the same tree when the storage has gained blobs.
+#[tactic(auto, using(crate::proofs::Going::kept))]
+pub fn gains_keep_trees()
+    ensures { IsKeptByGains }
+{}
+
+/// Each node keeps its tree in a step whose change fits.
+#[tactic(auto, using(crate::proofs::Going::trees_go_on))]
+pub fn trees_go_on<N: SeenAs<B, W>, B, W, E>()
+    ensures { TreesGoOn E N.seen }
+{}
