@@ -30,3 +30,4 @@ mod Headlines
 mod Working
 mod Doing
 mod Decoding
+mod Fitting
