@@ -31,3 +31,7 @@ mod Working
 mod Doing
 mod Decoding
 mod Fitting
+mod Following
+mod Shelves
+mod Stepping
+mod Publishing
