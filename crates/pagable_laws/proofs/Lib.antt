@@ -35,3 +35,4 @@ mod Following
 mod Shelves
 mod Stepping
 mod Publishing
+mod Taking

@@ -1,13 +1,15 @@
 -- What a value leads to by its own references, where each node has its tree; and the laws of what loads read: a value leads to the tree that its blob's key reads as, and so stands for it
 -- where its references' nodes stand for theirs; and what is read goes on fitting.
-use Rattle.std.specs.Prelude.{ℕ, ◌≡◌, ◌≤◌, ◌⊎◌, List, [], ◌∷◌, Option, Some, ℤ, length, slice_get}
+use Rattle.std.specs.Prelude.{ℕ, ◌≡◌, ◌≤◌, ◌⊎◌, true, List, [], ◌∷◌, Option, Some, ℤ, length, slice_get}
 use Rattle.pagable_model.specs.Meaning.{number, integer, text, pattern, none, pair, variant, reference, followed}
-use Rattle.pagable_world.specs.Plain.{ArcRef, Kind, Blob, Meaning, Tree, Types, ReadsTree, type_of, Among}
+use Rattle.pagable_world.specs.Plain.{ArcRef, Kind, HandleNumber, Blob, Meaning, Tree, Types, ReadsTree, type_of, Among}
 use Rattle.pagable_world.specs.declared.handles.HandleRow.{HandleRow}
-use Rattle.pagable_world.specs.World.{Frame, Values, IsLawful}
+use Rattle.pagable_world.specs.Kinds.{is_pinning}
+use Rattle.pagable_world.specs.World.{Frame, row_at, Values, IsLawful}
 use Rattle.pagable_world.specs.Loads.{IsDecoded, asks, next_in, need_of, needs_nested, needs_lazy, root_frame, nested_frame, with_got}
-use Rattle.pagable_world.specs.Pager.{PagerState, NodeStands, ValueStands, ReadsNodeTree, FrameFits, FramesFit, SameTrees}
+use Rattle.pagable_world.specs.Pager.{PagerState, WellFormed, Represents, NodeStands, ValueStands, ReadsNodeTree, FrameFits, FramesFit, SameTrees}
 use Rattle.pagable_world.specs.Runs.{ReadsItsTypes}
+use Rattle.pagable_world.specs.Headline.{GivesTree}
 
 -- the meaning leads to this one, where each node has its tree: each reference is followed to its node's tree, which is of the kind's type
 pub data LeadsTo (trees : ℕ → Tree) : Meaning ArcRef → Meaning ⊥ → Type 0 where
@@ -80,3 +82,7 @@ pub record FramesGoOn (types : Types) (root_key root_type : ℕ) : Type 0 where
 
 abbrev pub AllGoOn : Type 0
 AllGoOn = (types : Types) (root_key root_type : ℕ) → FramesGoOn types root_key root_type
+
+-- Each handle that pins gives the tree that its node was made with.
+abbrev pub PinStands : {N : Type 0} → (E : Type 0) → Values N → Type 0
+PinStands {N} E v = (s : PagerState N E) (trees : ℕ → Tree) (k : HandleNumber) (row : HandleRow) → WellFormed v s → Represents v s trees → row_at s.core k ≡ Some row → is_pinning row.mode ≡ true → GivesTree v s trees k

@@ -3,7 +3,7 @@
 ghost use Rattle.pagable_world.specs.World.{Seen};
 ghost use Rattle.pagable_laws.specs.FallLaws.{IsThere, IsOne, IsGivenAlone, PinsAreAFilter, TwoLevelsFall, LoneIsListed};
 ghost use Rattle.pagable_laws.specs.MetLaws.{HeadlineIsMet, WorkMeetsHeadline};
-ghost use Rattle.pagable_laws.specs.ReadLaws.{AllGoOn, AsksNext, DecodesWell, ReadStands};
+ghost use Rattle.pagable_laws.specs.ReadLaws.{AllGoOn, AsksNext, DecodesWell, PinStands, ReadStands};
 ghost use Rattle.pagable_laws.specs.RunLaws.{ChainsJoin, NewIsWhole, NextIsOneOf, StepsFollow, IsOnceEach, KeysTellTheirTrees};
 
 use crate::values::is_key_of_one_tree;
@@ -115,4 +115,9 @@ pub fn what_is_read_stands<N: SeenAs<B, W>, B, W, E>()
 #[tactic(auto, using(crate::proofs::Fitting::frames_go_on))]
 pub fn reading_goes_on_fitting()
     ensures { AllGoOn }
+{}
+
+/// Each handle that pins gives the tree that its node was made with.
+pub fn what_is_pinned_stands<N: SeenAs<B, W>, B, W, E>()
+    ensures { PinStands E N.seen.values }
 {}
