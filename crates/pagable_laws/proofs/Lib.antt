@@ -30,9 +30,11 @@ mod Headlines
 mod Working
 mod Doing
 mod Decoding
+mod Fitting
 mod Following
 mod Shelves
 mod Stepping
 mod Publishing
 mod Leading
 mod Going
+mod Taking
