@@ -160,11 +160,13 @@ module _ {N E : Type 0} {v : Values N} {s : PagerState N E} {trees : ℕ → Tre
   stand m (pattern-leads t) e h = pattern-stands t
   stand m none-leads e h = none-stands
   stand (pair c d) (pair-leads x y a b f g) e h =
-      let left = stand c f cc (λ r among. h r (among-left (references_in x) (references_in y) among.0 r among.1)) in
-      let right = stand d g cc (λ r among. h r (among-right (references_in x) (references_in y) among.0 r among.1)) in
-      pair-stands x y a b left right
-  stand (variant j c) (variant-leads i x a f) e h = variant-stands i x a (stand c f cc h)
-  stand (followed j c) (followed-leads kind x a f) e h = followed-stands kind x a (stand c f cc h)
+      let first : AreLive s.core x = λ r among. h r (among-left (references_in x) (references_in y) among.0 r among.1) in
+      let second : AreLive s.core y = λ r among. h r (among-right (references_in x) (references_in y) among.0 r among.1) in
+      let e1 : c ≡ a = cc in
+      let e2 : d ≡ b = cc in
+      pair-stands x y a b (stand c f e1 first) (stand d g e2 second)
+  stand (variant j c) (variant-leads i x a f) e h = let same : c ≡ a = cc in variant-stands i x a (stand c f same h)
+  stand (followed j c) (followed-leads kind x a f) e h = let same : c ≡ a = cc in followed-stands kind x a (stand c f same h)
   stand (followed j c) (reference-leads r a typed meant) e h =
       let same : c ≡ (trees r.node.0).meaning = (let f : c ≡ a = cc in f ∙ sym meant) in
       reference-stands r a (subst (λ (t : Tree). NodeStands v s r.node.0 t) (tree_is _ _ _ _ typed meant) (node-by r.node.0 (h r (zero, refl)) (λ z l k. stand c l same k)))

@@ -11,7 +11,6 @@ pub fn gains_keep_trees()
 {}
 
 /// Each node keeps its tree in a step whose change fits.
-#[tactic(auto, using(crate::proofs::Going::trees_go_on))]
 pub fn trees_go_on<N: SeenAs<B, W>, B, W, E>()
     ensures { TreesGoOn E N.seen }
 {}
