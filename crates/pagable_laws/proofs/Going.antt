@@ -1,15 +1,15 @@
 -- Each node keeps its tree in a step whose change fits.
-use Rattle.std.proofs.Common.{◌≡◌, ℕ, ◌+◌, ◌<◌, ◌≤◌, Bool, true, false, Option, Some, None, ◌⊎◌, inl, inr, refl, sym, ap, ◌∙◌, subst, arith}
+use Rattle.std.proofs.Common.{◌≡◌, ℕ, ◌<◌, ◌≤◌, Bool, true, false, Some, ◌⊎◌, inl, inr, refl, sym, ap, ◌∙◌, subst, arith}
 use Rattle.std.specs.Prelude.{nat_lt}
 use Rattle.std.proofs.lemmas.Bool.Decides.{nat_tests}
 use Rattle.pagable_model.specs.declared.data_key.OptionalDataKey.TheVariants as optional
-use Rattle.pagable_world.specs.Plain.{OptionalDataKey, ArcRef, NodeNumber, HandleNumber, Meaning, Tree, ReadsTree, type_of}
+use Rattle.pagable_world.specs.Plain.{NodeNumber, HandleNumber, Tree, ReadsTree, type_of}
 use Rattle.pagable_world.specs.Kinds.{held}
-use Rattle.pagable_world.specs.World.{Core, OpenLoad, of_cell, Values, Seen, IsLawful, type_at, key_at}
+use Rattle.pagable_world.specs.World.{OpenLoad, of_cell, Values, Seen, IsLawful, type_at}
 use Rattle.pagable_world.specs.Pager.{PagerState, WellFormed, Moves, Represents, ReadsNodeTree, KeyFits}
 use Rattle.pagable_world.specs.Runs.{HoldsSettled}
 use Rattle.pagable_laws.specs.ReadLaws.{LeadsTo, ValueLeads}
-use Rattle.pagable_laws.specs.TreeSteps.{Change, Sets, Bears, CoreGoes, SameNode, NewNode, BeginsWell, NodeLeads}
+use Rattle.pagable_laws.specs.TreeSteps.{Change, Bears, CoreGoes, SameNode, NewNode, NodeLeads}
 use Rattle.pagable_laws.specs.TreeRuns.{IsKeptByGains, ChangeFits, TreesGoOn}
 use Rattle.pagable_laws.proofs.Trees.{same_some}
 use Rattle.pagable_laws.proofs.Following.{given-of, held-of, cell-of}

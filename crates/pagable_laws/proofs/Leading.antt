@@ -1,14 +1,14 @@
 -- Where a pager stands for trees, each value and key leads to its node's tree by its own references alone; and from this it stands for them again. So
 -- that a node keeps its tree is shown at each node by itself. And what is stored reads as it did while the storage only gains.
-use Rattle.std.proofs.Common.{◌≡◌, ℕ, zero, suc, ◌+◌, ◌<◌, ◌≤◌, ◌&&◌, Bool, true, false, not, List, [], ◌∷◌, Option, Some, None, refl, sym, ap, ◌∙◌, subst, arith}
+use Rattle.std.proofs.Common.{◌≡◌, ℕ, zero, ◌<◌, ◌&&◌, Bool, true, false, Option, Some, None, refl, sym, ap, ◌∙◌, subst}
 use Rattle.std.specs.Prelude.{is_some, nat_lt, ◌||◌}
 use Rattle.pagable_model.specs.declared.data_key.OptionalDataKey.TheVariants as optional
 use Rattle.pagable_model.specs.Meaning.{number, integer, text, pattern, none, pair, variant, reference, followed}
 use Rattle.pagable_model.specs.References.{references_in}
 use Rattle.pagable_model.specs.Trees.{KeyRef, ReadsAs, IsFollowed, number-followed, integer-followed, text-followed, pattern-followed, none-followed, pair-followed, variant-followed, reference-followed}
 use Rattle.pagable_world.specs.Plain.{OptionalDataKey, ArcRef, Blob, Meaning, Tree, tree, Types, type_of, ReadsTree, Among}
-use Rattle.pagable_world.specs.Kinds.{held, pins, is_in_memory, has_key}
-use Rattle.pagable_world.specs.World.{Core, Values, IsLawful, type_at, key_at}
+use Rattle.pagable_world.specs.Kinds.{held, is_in_memory}
+use Rattle.pagable_world.specs.World.{Core, Values, IsLawful, key_at}
 use Rattle.pagable_world.specs.Refusals.{IsReference}
 use Rattle.pagable_world.specs.Pager.{PagerState, WellFormed, NodeStands, here, away, MeaningStands, number-stands, integer-stands, text-stands, pattern-stands, none-stands, pair-stands, variant-stands, followed-stands, reference-stands, Represents}
 use Rattle.pagable_world.specs.Runs.{HoldsSettled}

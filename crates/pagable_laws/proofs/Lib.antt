@@ -38,3 +38,4 @@ mod Publishing
 mod Leading
 mod Going
 mod Taking
+mod Felt

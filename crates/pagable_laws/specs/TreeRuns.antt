@@ -2,13 +2,16 @@
 use Rattle.std.specs.Prelude.{ℕ, ◌≡◌, ◌+◌, Option, Some, None}
 use Rattle.pagable_world.specs.Plain.{Blob, Types, Tree, ReadsTree}
 use Rattle.pagable_world.specs.World.{World, Values, Seen, IsLawful}
-use Rattle.pagable_world.specs.Pager.{PagerState, WellFormed, Moves, Represents, SameTrees, EventBrings, ReadsNodeTree}
-use Rattle.pagable_world.specs.Runs.{HoldsSettled}
+use Rattle.pagable_world.specs.Pager.{PagerState, WellFormed, Moves, Represents, SameTrees, CallBrings, EventBrings, ReadsNodeTree}
+use Rattle.pagable_world.specs.Runs.{HoldsSettled, AsksWell}
 use Rattle.pagable_world.specs.declared.events.Event.{Event}
+use Rattle.pagable_world.specs.declared.calls.Call.{Call}
+use Rattle.pagable_world.specs.declared.calls.Reply.{Reply}
+use Rattle.pagable_world.specs.declared.handles.Owner.TheVariants as owners
 use Rattle.pagable_model.specs.declared.data_key.OptionalDataKey.TheVariants as optional
 use Rattle.pagable_world.specs.Plain.{OptionalDataKey, type_of}
 use Rattle.pagable_laws.specs.ReadLaws.{ValueLeads}
-use Rattle.pagable_laws.specs.TreeSteps.{Change, Sets, Knows, Bears, CoreGoes}
+use Rattle.pagable_laws.specs.TreeSteps.{Change, Sets, Knows, Bears, CoreGoes, CallFeels}
 
 -- A key reads as the same tree when the storage has gained blobs.
 abbrev pub IsKeptByGains : Type 0
@@ -27,3 +30,8 @@ pub record ChangeFits {N E : Type 0} (v : Values N) (c : Change) (comes : ℕ �
 abbrev pub TreesGoOn : {N B W : Type 0} → (E : Type 0) → Seen N B W → Type 0
 TreesGoOn {N} {B} {W} E m = IsLawful m.values → (u : World) (event : Event N B W) (c : Change) (s s' : PagerState N E) (trees trees' : ℕ → Tree) → HoldsSettled m.values s → WellFormed m.values s → WellFormed m.values s' → Represents m.values s trees
     → Moves (EventBrings m.values u event) s s' → CoreGoes c s.core s'.core → ChangeFits m.values c (EventBrings m.values u event) s s' trees trees' → Represents m.values s' trees'
+
+-- What a call brings fits some trees afterwards, where what it asks is so.
+abbrev pub CallsFit : {N B W : Type 0} → (E : Type 0) → Seen N B W → Type 0
+CallsFit {N} {B} {W} E m = IsLawful m.values → (c : Change) (call : Call N B) (reply : Reply N B) (s s' : PagerState N E) (trees : ℕ → Tree) → HoldsSettled m.values s → WellFormed m.values s → WellFormed m.values s' → Represents m.values s trees
+    → CoreGoes c s.core s'.core → AsksWell m.values s trees call reply → CallFeels m.values s.core owners.Caller call reply s'.core c → (trees' : ℕ → Tree) × ChangeFits m.values c (CallBrings s.core call) s s' trees trees'

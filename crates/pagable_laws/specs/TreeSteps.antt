@@ -167,7 +167,7 @@ pub record SetsThrough (u : World) (k : WorkerNumber) (key : ℕ) (row : HandleR
 -- What trees feel of an event. The values of a step that isn't a call or a load's come to no node.
 pub data EventFeels {N B W : Type 0} (v : Values N) (u : World) (event : Event N B W) (reply : EventReply N B W) (u' : World) : Change → Type 0 where
   by-call : (c : Change) (call : Call N B) (answer : Reply N B) → event ≡ events.Call call → reply ≡ answers.CallReply answer → CallFeels v u.core owners.Caller call answer u'.core c → KeepsReadings u u' → EventFeels v u event reply u' c
-  by-reading : (c : Change) (reading : Reading) (answer : Option (LoadAnswer N)) (frames : List Frame) → IsSteppedReading u event reading → ReadingFeels v u.core reading answer frames u'.core c → StepsReading u reading answer frames u'
+  by-reading : (c : Change) (reading : Reading) (answer : Option (LoadAnswer N)) (frames : List Frame) → IsSteppedReading u event reading → (answer ≡ None → (load : OpenLoad) × (u.core.loads reading.load.0 ≡ Some load)) → ReadingFeels v u.core reading answer frames u'.core c → StepsReading u reading answer frames u'
       → EventFeels v u event reply u' c
   by-key : (k : WorkerNumber) (key : ℕ) (row : HandleRow) → event ≡ events.WorkerStep k → SetsThrough u k key row → KeepsReadings u u' → EventFeels v u event reply u' (sets_key row.node.0 key)
   by-nothing : ((n : ℕ) (x : N) → EventBrings v u event n x → IsNewNode u.core n ⊎ StaysAway u.core u'.core n) → KeepsReadings u u' → EventFeels v u event reply u' nothing_felt

@@ -1,6 +1,6 @@
 //! The laws of runs: what holds of every chain of moments, however loads and workers take turns.
 
-ghost use Rattle.pagable_laws.specs.TreeRuns.{IsKeptByGains, TreesGoOn};
+ghost use Rattle.pagable_laws.specs.TreeRuns.{CallsFit, IsKeptByGains, TreesGoOn};
 
 use crate::world::SeenAs;
 
@@ -13,4 +13,9 @@ pub fn gains_keep_trees()
 /// Each node keeps its tree in a step whose change fits.
 pub fn trees_go_on<N: SeenAs<B, W>, B, W, E>()
     ensures { TreesGoOn E N.seen }
+{}
+
+/// What a call brings fits some trees afterwards.
+pub fn calls_fit<N: SeenAs<B, W>, B, W, E>()
+    ensures { CallsFit E N.seen }
 {}
