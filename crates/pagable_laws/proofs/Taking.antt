@@ -4,19 +4,21 @@ use Rattle.std.specs.Prelude.{is_some, nat_lt, slice_get}
 use Rattle.std.proofs.lemmas.Bool.Decides.{nat_tests}
 use Rattle.pagable_model.specs.declared.data_key.OptionalDataKey.TheVariants as optional
 use Rattle.pagable_world.specs.declared.handles.HandleRow.{HandleRow}
-use Rattle.pagable_world.specs.Plain.{OptionalDataKey, ArcRef, Kind, HandleNumber, Blob, Tree, ReadsTree, type_of, Among, one}
+use Rattle.pagable_world.specs.declared.handles.Owner.TheVariants as owners
+use Rattle.pagable_world.specs.Plain.{OptionalDataKey, ArcRef, Kind, HandleNumber, Blob, Types, Tree, ReadsTree, type_of, Among, one, is_eager}
 use Rattle.pagable_world.specs.Kinds.{find_row, is_handle, is_at, is_pin, is_pinning, held, pins, has_key, is_in_memory}
 use Rattle.pagable_world.specs.World.{Core, OpenLoad, Frame, Reading, row_at, key_at, is_here, Values, IsLawful}
-use Rattle.pagable_world.specs.Loads.{ReadsRoot, ReadsNode, root_frame, nested_frame, with_got}
+use Rattle.pagable_world.specs.Refusals.{IsReference}
+use Rattle.pagable_world.specs.Loads.{Next, reads, asks, is_faulty, next_in, need_at, need_of, needs_nested, needs_lazy, to_adopt, ReadsRoot, ReadsNode, root_frame, nested_frame, with_got}
 use Rattle.pagable_world.specs.Pager.{PagerState, HandlesAreWhole, IsWhole, WellFormed, NodeStands, here, away, ValueStands, ReadsNodeTree, FramesFit, FrameFits, SameTrees, Represents}
 use Rattle.pagable_world.specs.Runs.{ReadsItsTypes}
-use Rattle.pagable_world.specs.Headline.{GivesTree}
+use Rattle.pagable_world.specs.Headline.{ReadIsRight}
 use Rattle.pagable_laws.specs.TreeSteps.{Change, bears_known, CoreGoes, ReadingFeels, reads-root, reads-blob, gets-known, gets-lazy, makes-known, makes-node, reading-ends}
-use Rattle.pagable_laws.specs.ReadLaws.{KeepsStored, FramesGiven, FramesGoOn, PinStands}
+use Rattle.pagable_laws.specs.ReadLaws.{Decoded, FramesGiven, PinStands}
 use Rattle.pagable_laws.proofs.Sums.{at-most-sum, self-number}
 use Rattle.pagable_laws.proofs.Trees.{same_some}
-use Rattle.pagable_laws.proofs.Following.{cell-of}
-use Rattle.pagable_laws.proofs.Decoding.{read_stands}
+use Rattle.pagable_laws.proofs.Following.{cell-of, given-of}
+use Rattle.pagable_laws.proofs.Decoding.{decodes, read_stands}
 use Rattle.pagable_laws.proofs.Fitting.{node-stays, frames_go_on}
 
 -- ---- a live handle's node
@@ -115,12 +117,12 @@ module _ {N : Type 0} {v : Values N} {w w' : Core} {trees trees' : ℕ → Tree}
       }
 
   module _ (k t : ℕ) where
-    fit-made : {c : Change} → AtStep v c w w' trees trees' → (reading : Reading) (x : N) (reads : ReadsNode v reading x) (row : HandleRow) → row_at w' row.number ≡ Some row
-        → ReadsNodeTree v.types w'.stored trees' reads.top.key (type_of reads.top.kind.0) row.node.0 → FitAfter v w' trees' k t reading.frames → FitAfter v w' trees' k t (with_got reads.top.kind row reads.below)
-    fit-made h reading x reads row live read f =
-        let g = subst (λ fs. FitAfter v w' trees' k t fs) reads.frames f in
-        let under : FramesGiven w'.last.node reads.below = λ frame r among got. g.given frame r (suc among.0, among.1) got in
-        fit-got k t reads.below reads.top.kind row h.after.handles live under ((frames_go_on v.types k t).made w'.stored trees' reads.top reads.below row g.fit read)
+    fit-made : {c : Change} → AtStep v c w w' trees trees' → (reading : Reading) (x : N) (made : ReadsNode v reading x) (row : HandleRow) → row_at w' row.number ≡ Some row
+        → ReadsNodeTree v.types w'.stored trees' made.top.key (type_of made.top.kind.0) row.node.0 → FitAfter v w' trees' k t reading.frames → FitAfter v w' trees' k t (with_got made.top.kind row made.below)
+    fit-made h reading x made row live read f =
+        let g = subst (λ fs. FitAfter v w' trees' k t fs) made.frames f in
+        let under : FramesGiven w'.last.node made.below = λ frame r among got. g.given frame r (suc among.0, among.1) got in
+        fit-got k t made.below made.top.kind row h.after.handles live under ((frames_go_on v.types k t).made w'.stored trees' made.top made.below row g.fit read)
 
   -- After a load's step all that it reads fits.
   pub fit-after : (reading : Reading) (load : OpenLoad) (frames : List Frame) {c : Change} → AtStep v c w w' trees trees' → w.loads reading.load.0 ≡ Some load
@@ -144,10 +146,50 @@ module _ {N : Type 0} {v : Values N} {w w' : Core} {trees trees' : ℕ → Tree}
       let g = fit-still h f in
       let fit = (frames_go_on v.types load.key reading.node_type).got w'.stored trees' reading.frames kind key row g.fit (inr needs) (born-reads h kind key _ row refl got.at) in
       subst (λ fs. FitAfter v w' trees' load.key reading.node_type fs) (sym is) (fit-got load.key reading.node_type reading.frames kind row h.after.handles got.live g.given fit)
-  fit-after reading load frames h open_load f (makes-known x reads n row known got answer is) =
-      let read = known-reads h reads.top.kind reads.top.key n row known got.at in
-      subst (λ fs. FitAfter v w' trees' load.key reading.node_type fs) (sym is) (fit-made load.key reading.node_type h reading x reads row got.live read (fit-still h f))
-  fit-after reading load frames h open_load f (makes-node x reads row got answer is) =
-      let read = born-reads h reads.top.kind reads.top.key _ row refl got.at in
-      subst (λ fs. FitAfter v w' trees' load.key reading.node_type fs) (sym is) (fit-made load.key reading.node_type h reading x reads row got.live read (fit-still h f))
+  fit-after reading load frames h open_load f (makes-known x made n row known got answer is) =
+      let read = known-reads h made.top.kind made.top.key n row known got.at in
+      subst (λ fs. FitAfter v w' trees' load.key reading.node_type fs) (sym is) (fit-made load.key reading.node_type h reading x made row got.live read (fit-still h f))
+  fit-after reading load frames h open_load f (makes-node x made row got answer is) =
+      let read = born-reads h made.top.kind made.top.key _ row refl got.at in
+      subst (λ fs. FitAfter v w' trees' load.key reading.node_type fs) (sym is) (fit-made load.key reading.node_type h reading x made row got.live read (fit-still h f))
   fit-after reading load frames h open_load f (reading-ends end answer is) = absurd (cc)
+
+-- ---- what is read
+
+adopted-over : (below : List Frame) (next : Next) → need_at below next ≡ to_adopt → (frame : Frame) × (rest : List Frame) × (below ≡ frame ∷ rest)
+adopted-over (frame ∷ rest) next is = (frame, rest, refl)
+adopted-over [] (asks kind key) is = absurd (of (is_eager kind.0) is)
+  where
+    of : (t : Bool) → (if t then needs_nested kind key else needs_lazy kind key) ≡ to_adopt → ⊥
+    of true e = cc
+    of false e = cc
+adopted-over [] (reads own) is = absurd (cc)
+adopted-over [] (is_faulty e) is = absurd (cc)
+
+root-key : (types : Types) (stored : ℕ → Option Blob) (trees : ℕ → Tree) (k t : ℕ) (frame : Frame) → FramesFit types stored trees k t (frame ∷ []) → frame.key ≡ k
+unfolding FramesFit
+root-key types stored trees k t frame h = h.1
+
+module _ {N : Type 0} {v : Values N} (lawful : IsLawful v) (readable : ReadsItsTypes v.types) where
+  -- what becomes a node leads to a tree of its kind's type, as which its key reads
+  pub node-decoded : (stored : ℕ → Option Blob) (trees : ℕ → Tree) (k t : ℕ) (reading : Reading) (x : N) (r : ReadsNode v reading x) → FramesFit v.types stored trees k t reading.frames
+      → Decoded v stored trees r.top x × (r.top.node_type ≡ type_of r.top.kind.0)
+  node-decoded stored trees k t reading x r fit =
+      let law = frames_go_on v.types k t in
+      let here = subst (λ fs. FramesFit v.types stored trees k t fs) r.frames fit in
+      let over = adopted-over r.below (next_in v.types r.top) (sym (ap (need_of v.types) r.frames) ∙ r.needs) in
+      let there = subst (λ fs. FramesFit v.types stored trees k t (r.top ∷ fs)) over.2 here in
+      (decodes lawful readable r.top x (law.fits stored trees r.top r.below here) r.decoded, law.typed stored trees r.top over.0 over.1 there)
+
+  -- what a load of a key answers stands for the tree that the key reads as
+  pub root-right : {E : Type 0} (s : PagerState N E) (trees : ℕ → Tree) (reading : Reading) (x : N) (key : ℕ) → WellFormed v s → Represents v s trees → FramesFit v.types s.core.stored trees key reading.node_type reading.frames
+      → ReadsRoot v reading x → ((r : ArcRef) → Among (v.references x) r → IsReference s.core owners.Caller r) → ReadIsRight v s key x
+  root-right s trees reading x key whole represents fit root own =
+      let here = subst (λ fs. FramesFit v.types s.core.stored trees key reading.node_type fs) root.frames fit in
+      let fits = (frames_go_on v.types key reading.node_type).fits s.core.stored trees root.root [] here in
+      record { stands = λ t typed reads_tree. read_stands v lawful readable s trees root.root x t fits root.decoded nodes-stand (typed ∙ root.decoded.typed) (subst (λ n. ReadsTree s.core.stored v.types n t) (sym (root-key v.types s.core.stored trees key reading.node_type root.root here)) reads_tree); own = own }
+    where
+      nodes-stand : (r : ArcRef) → Among (v.references x) r → NodeStands v s r.node.0 (trees r.node.0)
+      nodes-stand r among =
+          let is = own r among in
+          represents.stands r.node.0 (given-of whole.whole.handles r.node.0 is.typed).0
