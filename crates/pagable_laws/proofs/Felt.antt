@@ -21,7 +21,8 @@ use Rattle.pagable_laws.specs.TreeSteps.{Change, nothing_felt, sets_key, knows_n
 use Rattle.pagable_laws.specs.TreeRuns.{ChangeFits, CallsFit}
 use Rattle.pagable_laws.proofs.Trees.{same_some}
 use Rattle.pagable_laws.proofs.Following.{given-of, cell-of}
-use Rattle.pagable_laws.proofs.Leading.{tree-on, leads-on, led, own-refs, value-leads}
+use Rattle.pagable_laws.proofs.Fitting.{tree-stays}
+use Rattle.pagable_laws.proofs.Leading.{leads-on, led, own-refs, value-leads}
 use Rattle.pagable_laws.proofs.Going.{either-side}
 
 -- ---- trees with one more
@@ -71,12 +72,12 @@ module _ {N E : Type 0} {v : Values N} {s s' : PagerState N E} {trees : ℕ → 
   none-comes n x goes none is (inl new) = (goes.new n new (live-after n x is)).born
   none-comes n x goes none is (inr away) = elim (either-side n last) [
     | inl within ↦
-      let was = (goes.old n within (live-after n x is)).was in
-      let gone : is_some (s.values n) ≡ false = ap is_some none in
-      let off = both-true (is_some (s.core.cells n)) (is_here s.core n) was (sym gone ∙ well.valued n) in
-      let off' = away off (live-after n x is) in
-      let on = came n x is in
-      absurd (cc)
+        let was = (goes.old n within (live-after n x is)).was in
+        let gone : is_some (s.values n) ≡ false = ap is_some none in
+        let off = both-true (is_some (s.core.cells n)) (is_here s.core n) was (sym gone ∙ well.valued n) in
+        let off' = away off (live-after n x is) in
+        let on = came n x is in
+        absurd (cc)
     | inr above ↦ (goes.new n above (live-after n x is)).born
   ]
 
@@ -182,46 +183,61 @@ module _ {N E : Type 0} {v : Values N} {s s' : PagerState N E} {trees : ℕ → 
   call-fits {B} c call reply goes well_asked (feels-nothing stays) = record { after = trees; fits = fits-nothing _ (λ n x brings none is. absurd (none-comes n x goes none is (stays n x brings))) }
   call-fits {B} c call reply goes well_asked (feels-birth x brought good) =
       let born = birth-tree x owners.Caller good in
-      record { after = updated (last + 1) born.0 trees; fits =
-        subst (λ t. ChangeFits v (bears_node t optional.None) (CallBrings s.core call) s s' trees (updated (last + 1) born.0 trees)) born.1 (fits-born born.0 _ optional.None (λ key is. absurd (cc))
-          (λ n y brings none is. value-born born.0 _ n y x goes is (brought n y brings).0 (brought n y brings).1 (good-given owners.Caller x good) born.2)) }
+      record {
+        after = updated (last + 1) born.0 trees;
+        fits =
+            subst (λ t. ChangeFits v (bears_node t optional.None) (CallBrings s.core call) s s' trees (updated (last + 1) born.0 trees)) born.1 (fits-born born.0 _ optional.None (λ key is. absurd (cc))
+            (λ n y brings none is. value-born born.0 _ n y x goes is (brought n y brings).0 (brought n y brings).1 (good-given owners.Caller x good) born.2));
+      }
   call-fits {B} c call reply goes well_asked (feels-away t key k called replied) =
       let P : Call N B → Reply N B → Type 0 = λ a b. AsksWell v s trees a b in
       let asked : ReadsAsType v s t key = subst (λ b. P (calls.NewPagedOut t key) b) replied (subst (λ a. P a reply) called well_asked) in
-      record { after = updated (last + 1) asked.read trees; fits =
-        subst (λ z. ChangeFits v (bears_node z (optional.Some key)) (CallBrings s.core call) s s' trees (updated (last + 1) asked.read trees)) asked.typed (fits-born asked.read _ (optional.Some key)
-          (λ q is. let e : key ≡ q = cc in subst (λ z. ReadsTree s'.core.stored v.types z asked.read) e (tree-on goes.stored asked.reads))
-          (λ n y brings none is. absurd (nothing-brought call (calls.NewPagedOut t key) n y called (λ b. b) brings))) }
+      record {
+        after = updated (last + 1) asked.read trees;
+        fits =
+            subst (λ z. ChangeFits v (bears_node z (optional.Some key)) (CallBrings s.core call) s s' trees (updated (last + 1) asked.read trees)) asked.typed (fits-born asked.read _ (optional.Some key)
+            (λ q is. let e : key ≡ q = cc in subst (λ z. ReadsTree s'.core.stored v.types z asked.read) e (tree-stays goes.stored asked.reads))
+            (λ n y brings none is. absurd (nothing-brought call (calls.NewPagedOut t key) n y called (λ b. b) brings)));
+      }
   call-fits {B} c call reply goes well_asked (feels-key h key row called owns) =
       let asked : (z : HandleRow) → Owns s.core owners.Caller h is_loose z → ReadsTree s.core.stored v.types key (trees z.node.0) = subst (λ a. AsksWell v s trees a reply) called well_asked in
-      record { after = trees; fits = fits-key _ row.node.0 key (λ n y brings. nothing-brought call (calls.SetDataKey h key) n y called (λ b. b) brings) (tree-on goes.stored (asked row owns)) }
+      record { after = trees; fits = fits-key _ row.node.0 key (λ n y brings. nothing-brought call (calls.SetDataKey h key) n y called (λ b. b) brings) (tree-stays goes.stored (asked row owns)) }
   call-fits {B} c call reply goes well_asked (feels-known kind key h row called replied owns typed) =
       let P : Call N B → Reply N B → Type 0 = λ a b. AsksWell v s trees a b in
       let asked : (z : HandleRow) → Owns s.core owners.Caller h any_mode z → ReadsTree s.core.stored v.types key (trees z.node.0) = subst (λ b. P (calls.OnArcDeserialized kind key h) b) replied (subst (λ a. P a reply) called well_asked) in
       let live = given-of well.whole.handles row.node.0 typed in
       let is_typed : (trees row.node.0).type ≡ type_of kind.0 = same_some _ _ (sym (stands.typed row.node.0 live.0) ∙ typed) in
-      record { after = trees; fits = fits-known _ kind.0 key row.node.0 (λ n y brings. nothing-brought call (calls.OnArcDeserialized kind key h) n y called (λ b. b) brings) (record { typed = is_typed; reads = tree-on goes.stored (asked row owns) }) }
+      record { after = trees; fits = fits-known _ kind.0 key row.node.0 (λ n y brings. nothing-brought call (calls.OnArcDeserialized kind key h) n y called (λ b. b) brings) (record { typed = is_typed; reads = tree-stays goes.stored (asked row owns) }) }
   call-fits {B} c call reply goes well_asked (feels-adopted l kind key x k called replied typed good) =
       let P : Call N B → Reply N B → Type 0 = λ a b. AsksWell v s trees a b in
       let asked : ReadsAsValue v s x key = subst (λ b. P (calls.LoadAdopt l kind key x) b) replied (subst (λ a. P a reply) called well_asked) in
       let leads = value-leads lawful settled well stands x asked.stands.own asked.read (owners.Load l) asked.stands.typed asked.stands.means asked.stands.stands good in
-      record { after = updated (last + 1) asked.read trees; fits =
-        fits-born-known asked.read _ kind.0 key (first_key kind.0 key) (sym asked.stands.typed ∙ typed) (λ q is. first-of (is_pinned_kind kind.0) key q is) (tree-on goes.stored asked.reads)
-          (λ n y brings none is. let b : (y ≡ x) × IsNewNode s.core n = subst (λ a. CallBrings s.core a n y) called brings in value-born asked.read _ n y x goes is b.0 b.1 (good-given (owners.Load l) x good) leads) }
+      record {
+        after = updated (last + 1) asked.read trees;
+        fits =
+            fits-born-known asked.read _ kind.0 key (first_key kind.0 key) (sym asked.stands.typed ∙ typed) (λ q is. first-of (is_pinned_kind kind.0) key q is) (tree-stays goes.stored asked.reads)
+            (λ n y brings none is. let b : (y ≡ x) × IsNewNode s.core n = subst (λ a. CallBrings s.core a n y) called brings in value-born asked.read _ n y x goes is b.0 b.1 (good-given (owners.Load l) x good) leads);
+      }
   call-fits {B} c call reply goes well_asked (feels-lazy l kind key k called replied) =
       let P : Call N B → Reply N B → Type 0 = λ a b. AsksWell v s trees a b in
       let asked : ReadsAsType v s (type_of kind.0) key = subst (λ b. P (calls.LoadLazy l kind key) b) replied (subst (λ a. P a reply) called well_asked) in
-      record { after = updated (last + 1) asked.read trees; fits =
-        fits-born-known asked.read _ kind.0 key (optional.Some key) asked.typed (λ q is. cc) (tree-on goes.stored asked.reads)
-          (λ n y brings none is. absurd (nothing-brought call (calls.LoadLazy l kind key) n y called (λ b. b) brings)) }
+      record {
+        after = updated (last + 1) asked.read trees;
+        fits =
+            fits-born-known asked.read _ kind.0 key (optional.Some key) asked.typed (λ q is. cc) (tree-stays goes.stored asked.reads)
+            (λ n y brings none is. absurd (nothing-brought call (calls.LoadLazy l kind key) n y called (λ b. b) brings));
+      }
   call-fits {B} c call reply goes well_asked (feels-end l x k called replied good) =
       let P : Call N B → Reply N B → Type 0 = λ a b. AsksWell v s trees a b in
       let asked : (n : ℕ) → IsCellOf s.core l n → ValueStands v s x (trees n) = subst (λ b. P (calls.LoadEnd l x) b) replied (subst (λ a. P a reply) called well_asked) in
-      record { after = trees; fits = fits-nothing _ (λ n y brings none is.
-        let b : (y ≡ x) × IsCellOf s.core l n = subst (λ a. CallBrings s.core a n y) called brings in
-        let meant = asked n b.1 in
-        let leads = value-leads lawful settled well stands x meant.own (trees n) (owners.Load l) meant.typed meant.means meant.stands good in
-        subst (λ z. ValueLeads v trees z (trees n)) (sym b.0) leads) }
+      record {
+        after = trees;
+        fits = fits-nothing _ (λ n y brings none is.
+            let b : (y ≡ x) × IsCellOf s.core l n = subst (λ a. CallBrings s.core a n y) called brings in
+            let meant = asked n b.1 in
+            let leads = value-leads lawful settled well stands x meant.own (trees n) (owners.Load l) meant.typed meant.means meant.stands good in
+            subst (λ z. ValueLeads v trees z (trees n)) (sym b.0) leads);
+      }
 
 pub calls_fit : {N B W E : Type 0} (m : Seen N B W) → CallsFit E m
 calls_fit m lawful c call reply s s' trees settled well well' stands goes asked feels = let f = call-fits lawful settled well well' stands c call reply goes asked feels in (f.after, f.fits)

@@ -13,10 +13,11 @@ use Rattle.pagable_laws.specs.TreeSteps.{Change, Bears, CoreGoes, SameNode, NewN
 use Rattle.pagable_laws.specs.TreeRuns.{IsKeptByGains, ChangeFits, TreesGoOn}
 use Rattle.pagable_laws.proofs.Trees.{same_some}
 use Rattle.pagable_laws.proofs.Following.{given-of, held-of, cell-of}
-use Rattle.pagable_laws.proofs.Leading.{tree-on, leads-on, own-refs, leads-all, stands-again}
+use Rattle.pagable_laws.proofs.Fitting.{tree-stays}
+use Rattle.pagable_laws.proofs.Leading.{leads-on, own-refs, leads-all, stands-again}
 
 pub kept : IsKeptByGains
-kept store more types key t stays reads = tree-on stays reads
+kept store more types key t stays reads = tree-stays stays reads
 
 pub either-side : (n last : ℕ) → (n ≤ last) ⊎ (last < n)
 either-side n last = at (nat_lt last n) refl
@@ -37,7 +38,7 @@ module _ {N E : Type 0} {v : Values N} {c : Change} {comes : ℕ → N → Type 
   moved-tree n {key} within reads = subst (λ t. ReadsTree s'.core.stored v.types key t) (sym (fits.same n within)) reads
 
   moved-node : (n t : ℕ) {key : ℕ} → n ≤ s.core.last.node → ReadsNodeTree v.types s.core.stored trees key t n → ReadsNodeTree v.types s'.core.stored trees' key t n
-  moved-node n t within reads = record { typed = ap (λ (z : Tree). z.type) (fits.same n within) ∙ reads.typed; reads = moved-tree n within (tree-on goes.stored reads.reads) }
+  moved-node n t within reads = record { typed = ap (λ (z : Tree). z.type) (fits.same n within) ∙ reads.typed; reads = moved-tree n within (tree-stays goes.stored reads.reads) }
 
   moved-value : (n : ℕ) (x : N) → s.values n ≡ Some x → ValueLeads v trees' x (trees' n)
   moved-value n x is =
@@ -53,7 +54,7 @@ module _ {N E : Type 0} {v : Values N} {c : Change} {comes : ℕ → N → Type 
 
   keyed-old : (n : ℕ) → n ≤ s.core.last.node → SameNode c s.core s'.core n → KeyFits v s' n (trees' n)
   keyed-old n within same key is = elim same.key [
-    | inl stays ↦ moved-tree n within (tree-on goes.stored ((was n (held-of well.whole.handles n same.was)).keyed key (sym stays ∙ is)))
+    | inl stays ↦ moved-tree n within (tree-stays goes.stored ((was n (held-of well.whole.handles n same.was)).keyed key (sym stays ∙ is)))
     | inr (k, sets, set) ↦ let e : k ≡ key = some-key (sym set ∙ is) in subst (λ q. ReadsTree s'.core.stored v.types q (trees' n)) e (moved-tree n within (fits.sets n k sets))
   ]
 
@@ -83,10 +84,10 @@ module _ {N E : Type 0} {v : Values N} {c : Change} {comes : ℕ → N → Type 
   loads-again l load node t h is root = elim (goes.loads l load is) [
     | inl stays ↦ moved-node node.0 t (well.whole.loads.roots l load node t h stays root).given.1 (stands.loads l load node t h stays root)
     | inr (above, begins) ↦
-      let b = begins node t h root in
-      let live = given-of well.whole.handles node.0 b.0 in
-      let typed : (trees node.0).type ≡ t = same_some _ _ (sym (stands.typed node.0 live.0) ∙ b.0) in
-      moved-node node.0 t live.1 (record { typed = typed; reads = (was node.0 live.0).keyed load.key b.1 })
+        let b = begins node t h root in
+        let live = given-of well.whole.handles node.0 b.0 in
+        let typed : (trees node.0).type ≡ t = same_some _ _ (sym (stands.typed node.0 live.0) ∙ b.0) in
+        moved-node node.0 t live.1 (record { typed = typed; reads = (was node.0 live.0).keyed load.key b.1 })
   ]
 
   cache-again : (kind key n : ℕ) → s'.core.cache kind key ≡ Some n → ReadsNodeTree v.types s'.core.stored trees' key (type_of kind) n

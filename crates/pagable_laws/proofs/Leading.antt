@@ -1,12 +1,11 @@
 -- Where a pager stands for trees, each value and key leads to its node's tree by its own references alone; and from this it stands for them again. So
--- that a node keeps its tree is shown at each node by itself. And what is stored reads as it did while the storage only gains.
+-- that a node keeps its tree is shown at each node by itself.
 use Rattle.std.proofs.Common.{◌≡◌, ℕ, zero, ◌<◌, ◌&&◌, Bool, true, false, Option, Some, None, refl, sym, ap, ◌∙◌, subst}
 use Rattle.std.specs.Prelude.{is_some, nat_lt, ◌||◌}
 use Rattle.pagable_model.specs.declared.data_key.OptionalDataKey.TheVariants as optional
 use Rattle.pagable_model.specs.Meaning.{number, integer, text, pattern, none, pair, variant, reference, followed}
 use Rattle.pagable_model.specs.References.{references_in}
-use Rattle.pagable_model.specs.Trees.{KeyRef, ReadsAs, IsFollowed, number-followed, integer-followed, text-followed, pattern-followed, none-followed, pair-followed, variant-followed, reference-followed}
-use Rattle.pagable_world.specs.Plain.{OptionalDataKey, ArcRef, Blob, Meaning, Tree, tree, Types, type_of, ReadsTree, Among}
+use Rattle.pagable_world.specs.Plain.{OptionalDataKey, ArcRef, Meaning, Tree, tree, type_of, ReadsTree, Among}
 use Rattle.pagable_world.specs.Kinds.{held, is_in_memory}
 use Rattle.pagable_world.specs.World.{Core, Values, IsLawful, key_at}
 use Rattle.pagable_world.specs.Refusals.{IsReference}
@@ -17,25 +16,6 @@ use Rattle.pagable_laws.specs.TreeSteps.{NodeLeads}
 use Rattle.pagable_laws.proofs.Trees.{same_some, tree_is}
 use Rattle.pagable_laws.proofs.Decoding.{among-left, among-right, meant-refs}
 use Rattle.pagable_laws.proofs.Following.{one-node, given-of, cell-of}
-
--- ---- the storage gains
-
-module _ {store more : ℕ → Option Blob} (stays : (q : ℕ) (b : Blob) → store q ≡ Some b → more q ≡ Some b) {types : Types} where
-  reads-on : {type key : ℕ} {m : Meaning KeyRef} → ReadsAs store types type key m → ReadsAs more types type key m
-  reads-on {type} {key} {m} h = record { blob = h.blob; stored = stays key h.blob h.stored; rest = h.rest; reads = h.reads }
-
-  followed-on : {m : Meaning KeyRef} {a : Meaning ⊥} → IsFollowed (ReadsAs store types) m a → IsFollowed (ReadsAs more types) m a
-  followed-on (number-followed n) = number-followed n
-  followed-on (integer-followed z) = integer-followed z
-  followed-on (text-followed t) = text-followed t
-  followed-on (pattern-followed t) = pattern-followed t
-  followed-on none-followed = none-followed
-  followed-on (pair-followed x y a b h g) = pair-followed x y a b (followed-on h) (followed-on g)
-  followed-on (variant-followed n x a h) = variant-followed n x a (followed-on h)
-  followed-on (reference-followed r x a p h) = reference-followed r x a (reads-on p) (followed-on h)
-
-  pub tree-on : {key : ℕ} {t : Tree} → ReadsTree store types key t → ReadsTree more types key t
-  tree-on h = record { own = h.own; reads = reads-on h.reads; follows = followed-on h.follows }
 
 -- ---- other trees, the same at the nodes that are referred to
 
@@ -111,8 +91,10 @@ module _ {N E : Type 0} {v : Values N} {s : PagerState N E} {trees : ℕ → Tre
     node-leads : {n : ℕ} {t : Tree} → NodeStands v s n t → t ≡ trees n → NodeLeads v s trees n
     node-leads (here n x own t is typed means meant fits) e =
         let leads = value-leads x own t _ typed means meant (λ r among. well.references n x r is among) in
-        record { keyed = subst (λ z. (key : ℕ) → key_at s.core n ≡ optional.Some key → ReadsTree s.core.stored v.types key z) e fits;
-          valued = λ y at. let same : x ≡ y = same_some _ _ (sym is ∙ at) in subst (λ z. ValueLeads v trees z (trees n)) same (subst (λ z. ValueLeads v trees x z) e leads) }
+        record {
+          keyed = subst (λ z. (key : ℕ) → key_at s.core n ≡ optional.Some key → ReadsTree s.core.stored v.types key z) e fits;
+          valued = λ y at. let same : x ≡ y = same_some _ _ (sym is ∙ at) in subst (λ z. ValueLeads v trees z (trees n)) same (subst (λ z. ValueLeads v trees x z) e leads);
+        }
     node-leads (away n key t nothing_there keyed fits) e =
         record { keyed = subst (λ z. (k : ℕ) → key_at s.core n ≡ optional.Some k → ReadsTree s.core.stored v.types k z) e fits; valued = λ y at. absurd (cc) }
 

@@ -2,8 +2,8 @@
 //! Of the product only a law of `pagable` for carried types stands on this crate.
 #![tactic(auto)]
 
-pub mod runs;
 pub mod keys;
+pub mod runs;
 pub mod values;
 pub mod worked;
 pub mod world;
