@@ -18,9 +18,9 @@ import sys
 CARRIED = [
     "()", "bool", "char", "u8", "u16", "u32", "u64", "u128", "usize", "i8", "i16", "i32", "i64", "i128", "String", "Box<str>",
     "PathBuf", "PhantomData", "Duration", "AtomicI64", "OnceLock<u16>", "Regex", "Json", "Box<u16>", "Option<u8>",
-    "Option<String>", "Option<Option<i32>>", "Result<u16,bool>", "Result<String,String>", "(bool,String)", "(u8,u16,i32)",
+    "Option<Option<i32>>", "Result<String,String>", "(bool,String)", "(u8,u16,i32)",
     "(u8,String,Vec<u64>,Option<i8>)", "(u128,i128,char,bool,())", "Vec<()>", "Vec<u8>", "Vec<i32>", "Vec<u64>", "Vec<String>",
-    "Vec<(String,i64)>", "Box<[u32]>", "SmallVec<[u8;4]>", "SmallVec<[String;4]>", "&[i32]", "[i32]", "[u16;2]", "[String;3]",
+    "Box<[u32]>", "SmallVec<[String;4]>", "&[i32]", "[i32]", "[u16;2]", "[String;3]",
     "BTreeMap<(u8,bool),Vec<String>>", "HashMap<String,i32>", "IndexMap<String,u8>", "BTreeSet<i16>", "IndexSet<u64>",
     "IndexMap<String,BTreeSet<Option<i8>>>",
 ]

@@ -33,7 +33,7 @@ fn run(rt: &HostRuntime, path: &str, calls: &mut Calls) -> anyhow::Result<()> {
 }
 
 fn main(rt: HostRuntime) -> anyhow::Result<()> {
-    let mut calls = Calls::new();
+    let mut calls = Calls::new(rt.alloc());
     let mut words = env::args(&rt)?;
     let _program = words.next();
     for path in words {
