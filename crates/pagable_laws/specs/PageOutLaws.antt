@@ -6,12 +6,14 @@ use Rattle.pagable_model.specs.Form.{Form}
 use Rattle.pagable_model.specs.Writing.{kind_of_arc}
 use Rattle.pagable_model.specs.Merkle.{blob_of, KeyOf, StoredTree}
 use Rattle.pagable_world.specs.Plain.{ArcRef, Identity, Blob, Meaning, Shape, Tree, Types, type_of, Among}
-use Rattle.pagable_world.specs.Kinds.{identity_of, has_key}
-use Rattle.pagable_world.specs.World.{Core, Shelf, Slot, no_result, published, Written, Open, Todo, to_start, to_pin, to_load, to_write, to_finish, to_item, to_set, to_publish, to_release, to_fail, Task, of_item, of_entry, Walking, Values, Seen, IsLawful, digest, key_at}
+use Rattle.pagable_world.specs.declared.events.Event.{Event}
+use Rattle.pagable_world.specs.declared.events.EventReply.{EventReply}
+use Rattle.pagable_world.specs.Kinds.{identity_of}
+use Rattle.pagable_world.specs.World.{Core, Shelf, Slot, no_result, published, Written, Open, Todo, to_start, to_pin, to_load, to_write, to_finish, to_item, to_set, to_publish, to_release, to_fail, Task, of_item, of_entry, Walking, Values, Seen}
 use Rattle.pagable_world.specs.Workers.{IsPublished}
 use Rattle.pagable_world.specs.Pager.{MachineState, IsMachineWhole, IsIdle, StandsFor, SameTrees}
 use Rattle.pagable_world.specs.Runs.{Does, HoldsSettled, ReadsItsTypes}
-use Rattle.pagable_world.specs.Headline.{AreKeysOf, AnswerIsKey}
+use Rattle.pagable_world.specs.Headline.{AreKeysOf}
 
 -- what is stored, the last node, and the trees of nodes
 pub record Ground : Type 0 where
@@ -151,3 +153,9 @@ pub record GoesOn (w w' : Core) : Type 0 where
 -- it fits where nobody works yet
 abbrev pub FitsAtFirst : {N : Type 0} → (E : Type 0) → Values N → Type 0
 FitsAtFirst {N} E v = (s : MachineState N E) (trees : ℕ → Tree) → IsIdle s → WorkFits v s trees
+
+-- Each event that goes on with what is stored keeps it, where the machine is whole and stands for the trees, and each node keeps its tree.
+abbrev pub FitsOn : {N B W : Type 0} → (E : Type 0) → Seen N B W → Type 0
+FitsOn {N} {B} {W} E m =
+    (s s' : MachineState N E) (event : Event N B W) (reply : EventReply N B W) (trees trees' : ℕ → Tree) → IsMachineWhole m.values s → HoldsSettled m.values s.pager → ReadsItsTypes m.values.types → StandsFor m.values s trees
+    → SameTrees s.pager.core.last.node trees trees' → GoesOn s.pager.core s'.pager.core → Does m s event reply s' → WorkFits m.values s trees → WorkFits m.values s' trees'
