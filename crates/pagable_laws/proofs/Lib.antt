@@ -33,3 +33,4 @@ mod Following
 mod Shelves
 mod Stepping
 mod Publishing
+mod Answering

@@ -136,7 +136,7 @@ pub record Spares {N : Type 0} (v : Values N) (g' : Ground) (n : ℕ) (shelf she
   pub others : (u : ℕ) (i : Identity) (w : Option Written) → (u ≡ n → ⊥) → IsMine shelf u i w → IsMine shelf' u i w
   pub slots : (i : Identity) (slot : Slot) → shelf'.slots i ≡ Some slot → SlotFits v g' shelf' i slot
 
-keys-same : {shelf shelf' : Shelf} → ((i : Identity) → shelf'.slots i ≡ shelf.slots i) → KeepsKeys shelf shelf'
+pub keys-same : {shelf shelf' : Shelf} → ((i : Identity) → shelf'.slots i ≡ shelf.slots i) → KeepsKeys shelf shelf'
 keys-same same i key height p = record { slot = p.slot; claimed = same i ∙ p.claimed; known = p.known }
 
 pub mine-same : {shelf shelf' : Shelf} → ((i : Identity) → shelf'.slots i ≡ shelf.slots i) → (u : ℕ) (i : Identity) (w : Option Written) → IsMine shelf u i w → IsMine shelf' u i w

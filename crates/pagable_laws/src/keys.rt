@@ -1,7 +1,7 @@
 //! The laws of page-outs by trees: each is the contract of a function that does nothing.
 
 ghost use Rattle.pagable_world.specs.World.{Seen};
-ghost use Rattle.pagable_laws.specs.PageOutLaws.{FitsAtFirst, FitsOn};
+ghost use Rattle.pagable_laws.specs.PageOutLaws.{FitsAtFirst, FitsOn, FitsGiveKeys};
 
 use crate::world::SeenAs;
 
@@ -15,4 +15,9 @@ pub fn fits_at_first<N: SeenAs<B, W>, B, W, E>()
 #[tactic(auto, using(crate::proofs::Publishing::fits_on))]
 pub fn fits_on<N: SeenAs<B, W>, B, W, E>()
     ensures { FitsOn E N.seen }
+{}
+
+/// What is published is its tree's key, what is answered is its task's, and all that was met then is left paged out.
+pub fn fits_give_keys<N: SeenAs<B, W>, B, W, E>()
+    ensures { FitsGiveKeys E N.seen }
 {}
