@@ -1,9 +1,10 @@
 -- What follows for keys: each that is published is its tree's, each that is answered is its task's, and what a worker met that answers one is left paged out.
-use Rattle.std.proofs.Common.{◌≡◌, ℕ, ◌==◌, true, List, [], ◌∷◌, Option, Some, None, Ok, Err, if◌then◌else◌, refl, sym, ap, subst, ◌∙◌, arith}
+use Rattle.std.proofs.Common.{◌≡◌, ℕ, ◌==◌, true, List, [], ◌∷◌, Some, None, Ok, Err, if◌then◌else◌, sym, ap, subst, ◌∙◌, arith}
 use Rattle.std.proofs.lemmas.Bool.Decides.{nat_tests}
-use Rattle.pagable_model.specs.Blob.{key_of}
+use Rattle.pagable_model.specs.Meaning.{number, integer, text, pattern, none, pair, variant, reference, followed}
+use Rattle.pagable_model.specs.Canonical.{EachType}
 use Rattle.pagable_model.specs.Merkle.{blob_of, KeyOf, KeyOfItem}
-use Rattle.pagable_world.specs.Plain.{ArcRef, Identity, Tree, Among, WorkerNumber, updated}
+use Rattle.pagable_world.specs.Plain.{Identity, Meaning, Tree, WorkerNumber, type_of, updated}
 use Rattle.pagable_world.specs.declared.events.Event.TheVariants as events
 use Rattle.pagable_world.specs.declared.events.Event.{Event}
 use Rattle.pagable_world.specs.declared.events.EventReply.TheVariants as answers
@@ -13,13 +14,13 @@ use Rattle.pagable_world.specs.declared.events.Took.{Took}
 use Rattle.pagable_world.specs.declared.events.WorkerAnswer.TheVariants as finals
 use Rattle.pagable_world.specs.declared.events.WorkerReply.{WorkerReply}
 use Rattle.pagable_world.specs.Kinds.{identity_of}
-use Rattle.pagable_world.specs.World.{Shelf, Slot, Written, Fault, was_refused, was_failed, Todo, to_start, to_pin, to_load, to_write, to_finish, to_item, to_set, to_publish, to_release, to_fail, Task, of_item, of_entry, Walking, Values, Seen}
+use Rattle.pagable_world.specs.World.{Shelf, Slot, Written, Fault, was_refused, was_failed, Todo, to_item, to_publish, to_release, to_fail, Task, of_item, of_entry, Walking, Values, Seen}
 use Rattle.pagable_world.specs.Workers.{Site, Does, IsPublished, answer_after}
 use Rattle.pagable_world.specs.Events.{WorkerSteps, Happens}
 use Rattle.pagable_world.specs.Pager.{MachineState, world_of, kids_of}
 use Rattle.pagable_world.specs.Headline.{Meets, meets-of-item, meets-entry, meets-below, AreKeysOf, IsLeftPagedOut, IsKeyOfTask}
-use Rattle.pagable_laws.specs.PageOutLaws.{Ground, ground_of, SlotFits, KeysSoFar, IsOfEntry, Waits, Walks, WorkFits, KeysAreRight, FitsGiveKeys, IsDone}
-use Rattle.pagable_laws.proofs.Merkle.{one_key, one_item_key}
+use Rattle.pagable_laws.specs.PageOutLaws.{Ground, ground_of, IsOfEntry, Waits, Walks, WorkFits, KeysAreRight, FitsGiveKeys, IsDone, SetsReadKeys}
+use Rattle.pagable_laws.proofs.Merkle.{one_key, one_item_key, tree_readable}
 use Rattle.pagable_laws.proofs.Trees.{same_some}
 use Rattle.pagable_laws.proofs.Following.{IdentityStands, known-of, keys-of, tree-form}
 use Rattle.pagable_laws.proofs.Shelves.{KeepsKeys, keys-on, keys-same}
@@ -158,3 +159,23 @@ module _ {N B W E : Type 0} (m : Seen N B W) (s s' : MachineState N E) (trees tr
 
 pub fits_give_keys : {N B W : Type 0} (E : Type 0) (m : Seen N B W) → FitsGiveKeys E m
 fits_give_keys E m s s' event reply trees trees' does before after = keys-right m s s' trees trees' before after event reply does.step.happens
+
+-- ---- what a worker is about to set
+
+each-type : {P : ℕ → Type 0} → ((t : ℕ) → P t) → (m : Meaning ⊥) → EachType P m
+unfolding EachType
+each-type all (number n) = tt
+each-type all (integer z) = tt
+each-type all (text t) = tt
+each-type all (pattern t) = tt
+each-type all none = tt
+each-type all (pair a b) = (each-type all a, each-type all b)
+each-type all (variant n a) = each-type all a
+each-type all (reference a) = absurd a
+each-type all (followed kind a) = (all (type_of kind), each-type all a)
+
+-- a key that a worker is about to set reads as its node's tree
+pub sets_key : {N B W : Type 0} (E : Type 0) (m : Seen N B W) → SetsReadKeys E m
+sets_key E m s trees reads fit n walking r through key height below there is =
+    let walks = subst (λ t. Walks m.values (ground_of s trees) (s.work.shelves walking.table) n walking.task t) is (fit.walks n walking there) in
+    tree_readable s.pager.core.stored m.values.types (trees r.node.0) key (reads (trees r.node.0).type, each-type reads (trees r.node.0).meaning) walks.0.stands.right.stands

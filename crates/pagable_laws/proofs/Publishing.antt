@@ -1,5 +1,5 @@
 -- Page-outs by trees: what tables and workers hold fits at first and after each event.
-use Rattle.std.proofs.Common.{◌≡◌, ℕ, ◌+◌, ◌≤◌, ◌==◌, Bool, true, false, [], Option, Some, None, Ok, Err, refl, sym, ap, subst, ◌∙◌, if◌then◌else◌, arith}
+use Rattle.std.proofs.Common.{◌≡◌, ℕ, ◌≤◌, ◌==◌, Bool, true, false, [], Option, Some, None, Ok, Err, refl, sym, ap, subst, ◌∙◌, if◌then◌else◌, arith}
 use Rattle.std.specs.Prelude.{not}
 use Rattle.std.proofs.lemmas.Bool.Decides.{nat_tests}
 use Rattle.pagable_world.specs.Plain.{ArcRef, Identity, Blob, Tree, WorkerNumber, type_of, updated, if_there, or_else}
@@ -14,13 +14,13 @@ use Rattle.pagable_world.specs.declared.events.Took.{Took}
 use Rattle.pagable_world.specs.declared.events.WorkerReply.{WorkerReply}
 use Rattle.pagable_world.specs.declared.handles.HandleRow.{HandleRow}
 use Rattle.pagable_world.specs.Kinds.{fits_mode}
-use Rattle.pagable_world.specs.World.{Core, Shelf, Slot, Written, Task, of_item, of_entry, Walking, Work, SameShelf, Values, Seen, type_at, row_at}
+use Rattle.pagable_world.specs.World.{Core, Shelf, Slot, Task, of_item, of_entry, Walking, Values, Seen, type_at, row_at}
 use Rattle.pagable_world.specs.Refusals.{row_fault, is_type, refused_if}
 use Rattle.pagable_world.specs.Workers.{Site, claim_fault, first_todo, answer_after}
 use Rattle.pagable_world.specs.Events.{WorkStays, WorkIs, no_shelf, new_walking, Starts, Ends, WorkerSteps, Happens}
-use Rattle.pagable_world.specs.Pager.{MachineState, world_of, HandlesAreWhole, IsMachineWhole, Represents, StandsFor, IsWrittenOf, TookWrites, ReplyWrites}
-use Rattle.pagable_world.specs.Runs.{Does, HoldsSettled, ReadsItsTypes}
-use Rattle.pagable_laws.specs.PageOutLaws.{Ground, ground_of, SlotFits, WroteTree, IsMine, KeysSoFar, Waits, Walks, WorkFits, FitsAtFirst, FitsOn}
+use Rattle.pagable_world.specs.Pager.{MachineState, world_of, IsMachineWhole, Represents, TookWrites, ReplyWrites}
+use Rattle.pagable_world.specs.Runs.{HoldsSettled, ReadsItsTypes}
+use Rattle.pagable_laws.specs.PageOutLaws.{Ground, ground_of, SlotFits, WroteTree, KeysSoFar, Waits, Walks, WorkFits, FitsAtFirst, FitsOn}
 use Rattle.pagable_laws.proofs.Trees.{same_some}
 use Rattle.pagable_laws.proofs.Following.{given-of, wrote}
 use Rattle.pagable_laws.proofs.Shelves.{GroundGoes, Spares, mine-same, spares-all, walks-on}

@@ -5,14 +5,14 @@ use Rattle.pagable_model.specs.Reading.{deepest}
 use Rattle.pagable_model.specs.Form.{Form}
 use Rattle.pagable_model.specs.Writing.{kind_of_arc}
 use Rattle.pagable_model.specs.Merkle.{blob_of, KeyOf, StoredTree}
-use Rattle.pagable_world.specs.Plain.{ArcRef, Identity, Blob, Meaning, Shape, Tree, Types, type_of, Among}
+use Rattle.pagable_world.specs.Plain.{ArcRef, HandleNumber, Identity, Blob, Meaning, Shape, Tree, Types, ReadsTree, type_of, Among}
 use Rattle.pagable_world.specs.declared.events.Took.TheVariants as took
 use Rattle.pagable_world.specs.declared.events.Event.TheVariants as events
 use Rattle.pagable_world.specs.declared.events.EventReply.TheVariants as answers
 use Rattle.pagable_world.specs.declared.events.Event.{Event}
 use Rattle.pagable_world.specs.declared.events.EventReply.{EventReply}
 use Rattle.pagable_world.specs.Kinds.{identity_of}
-use Rattle.pagable_world.specs.World.{Core, Shelf, Slot, no_result, published, Written, Open, Todo, to_start, to_pin, to_load, to_write, to_finish, to_item, to_set, to_publish, to_release, to_fail, Task, of_item, of_entry, Walking, Values, Seen, digest}
+use Rattle.pagable_world.specs.World.{Core, Shelf, Slot, no_result, published, Written, Todo, to_start, to_pin, to_load, to_write, to_finish, to_item, to_set, to_publish, to_release, to_fail, Task, of_item, of_entry, Walking, Values, Seen, digest}
 use Rattle.pagable_world.specs.Workers.{IsPublished}
 use Rattle.pagable_world.specs.Pager.{MachineState, IsMachineWhole, IsIdle, StandsFor, SameTrees}
 use Rattle.pagable_world.specs.Runs.{Fact, Does, HoldsSettled, ReadsItsTypes}
@@ -187,3 +187,9 @@ FitsGiveKeys {N} {B} {W} E m =
 abbrev pub IsDone : {N : Type 0} → Values N → Shelf → Task → ℕ → Type 0
 IsDone v shelf (of_item written) key = (keys : List ℕ) × AreKeysOf shelf written.references keys × (key ≡ digest v (blob_of written.bytes keys))
 IsDone v shelf (of_entry h i) key = (height : ℕ) × IsPublished shelf i key height
+
+-- The key that a worker is about to set reads as the tree of its reference's node.
+abbrev pub SetsReadKeys : {N B W : Type 0} → (E : Type 0) → Seen N B W → Type 0
+SetsReadKeys {N} E m =
+    (s : MachineState N E) (trees : ℕ → Tree) → ReadsItsTypes m.values.types → WorkFits m.values s trees → (n : ℕ) (walking : Walking) (r : ArcRef) (through : HandleNumber) (key height : ℕ) (below : List Todo)
+    → s.work.walkings n ≡ Some walking → walking.todo ≡ to_set r through key height ∷ below → ReadsTree s.pager.core.stored m.values.types key (trees r.node.0)

@@ -1,7 +1,7 @@
 //! The laws of page-outs by trees: each is the contract of a function that does nothing.
 
 ghost use Rattle.pagable_world.specs.World.{Seen};
-ghost use Rattle.pagable_laws.specs.PageOutLaws.{FitsAtFirst, FitsOn, FitsGiveKeys};
+ghost use Rattle.pagable_laws.specs.PageOutLaws.{FitsAtFirst, FitsOn, FitsGiveKeys, SetsReadKeys};
 
 use crate::world::SeenAs;
 
@@ -20,4 +20,9 @@ pub fn fits_on<N: SeenAs<B, W>, B, W, E>()
 /// What is published is its tree's key, what is answered is its task's, and all that was met then is left paged out.
 pub fn fits_give_keys<N: SeenAs<B, W>, B, W, E>()
     ensures { FitsGiveKeys E N.seen }
+{}
+
+/// A key that a worker is about to set reads as its node's tree.
+pub fn sets_key_that_reads<N: SeenAs<B, W>, B, W, E>()
+    ensures { SetsReadKeys E N.seen }
 {}
