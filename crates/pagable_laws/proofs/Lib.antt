@@ -39,3 +39,4 @@ mod Leading
 mod Going
 mod Taking
 mod Felt
+mod Answering

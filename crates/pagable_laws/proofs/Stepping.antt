@@ -1,21 +1,21 @@
 -- A worker's step, case by case: its table and its to-do list fit afterwards.
-use Rattle.std.proofs.Common.{◌≡◌, ℕ, ◌+◌, ◌≤◌, ◌==◌, true, List, [], ◌∷◌, ◌++◌, length, Option, Some, None, Ok, Err, if◌then◌else◌, refl, sym, ap, subst, ◌∙◌, arith}
+use Rattle.std.proofs.Common.{◌≡◌, ℕ, ◌≤◌, ◌==◌, true, List, [], ◌∷◌, ◌++◌, length, Option, Some, None, Ok, Err, if◌then◌else◌, refl, sym, ap, subst, ◌∙◌, arith}
 use Rattle.std.specs.Prelude.{drop}
 use Rattle.std.proofs.lemmas.Bool.Decides.{nat_tests}
 use Rattle.pagable_model.specs.Merkle.{blob_of}
-use Rattle.pagable_world.specs.Plain.{ArcRef, Identity, Blob, HandleNumber, Tree, type_of, Among, if_there}
+use Rattle.pagable_world.specs.Plain.{ArcRef, Identity, Blob, HandleNumber, Tree, type_of, if_there}
 use Rattle.pagable_world.specs.declared.events.Claim.TheVariants as claims
 use Rattle.pagable_world.specs.declared.events.PinStep.TheVariants as pinsteps
 use Rattle.pagable_world.specs.declared.events.Took.TheVariants as took
 use Rattle.pagable_world.specs.declared.events.Took.{Took}
 use Rattle.pagable_world.specs.Kinds.{identity_of}
-use Rattle.pagable_world.specs.World.{Shelf, Slot, no_result, published, Written, Open, Fault, Todo, was_failed, was_refused, to_start, to_pin, to_load, to_write, to_finish, to_item, to_set, to_publish, to_release, to_fail, Task, is_identity, Values, Seen, SameShelf, digest}
+use Rattle.pagable_world.specs.World.{Shelf, Slot, no_result, published, Written, Open, Fault, Todo, was_failed, was_refused, to_start, to_pin, to_load, to_write, to_finish, to_item, to_set, to_publish, to_release, to_fail, Task, is_identity, Values, Seen, digest}
 use Rattle.pagable_world.specs.Calls.{Stores}
-use Rattle.pagable_world.specs.Workers.{Site, Does, IsPublished, claim_fault, next_start, settle, give, give_known, open_node, with_outcome, answer_after}
+use Rattle.pagable_world.specs.Workers.{Site, Does, IsPublished, claim_fault, next_start, give, give_known, open_node, with_outcome, answer_after}
 use Rattle.pagable_world.specs.Headline.{AreKeysOf}
-use Rattle.pagable_laws.specs.PageOutLaws.{Ground, WroteTree, BlobStands, SlotFits, IsMine, KeysSoFar, IsNextOf, Expects, EachOpen, Apart, Waits, Above, HasBlob, Walks}
+use Rattle.pagable_laws.specs.PageOutLaws.{Ground, WroteTree, BlobStands, SlotFits, IsMine, KeysSoFar, Expects, EachOpen, Apart, Waits, Above, HasBlob, Walks}
 use Rattle.pagable_laws.proofs.Following.{IdentityStands, key-stands}
-use Rattle.pagable_laws.proofs.Shelves.{GroundGoes, KeepsKeys, so-far-on, wrote-on, blob-on, waits-on, all-wait-on, above-on, has-blob-on, walks-on, Spares, mine-same, spares-all, SlotIs, at-itself, one-apart, spares-but, spares-failed}
+use Rattle.pagable_laws.proofs.Shelves.{GroundGoes, KeepsKeys, so-far-on, wrote-on, blob-on, waits-on, all-wait-on, above-on, has-blob-on, Spares, mine-same, spares-all, SlotIs, at-itself, one-apart, spares-but, spares-failed}
 
 -- ---- lists
 
