@@ -37,7 +37,7 @@ both-true : (a b : Bool) → a ≡ true → false ≡ (a && b) → b ≡ false
 both-true true b e f = sym f
 both-true false b e f = absurd (cc)
 
-first-of : (b : Bool) (key k : ℕ) → (if b then optional.Some key else optional.None) ≡ optional.Some k → k ≡ key
+pub first-of : (b : Bool) (key k : ℕ) → (if b then optional.Some key else optional.None) ≡ optional.Some k → k ≡ key
 first-of true key k e = cc
 first-of false key k e = absurd (cc)
 
@@ -53,7 +53,7 @@ module _ {N E : Type 0} {v : Values N} {s s' : PagerState N E} {trees : ℕ → 
   good-given owner x good r among = (given-of well.whole.handles r.node.0 (good r among).typed).1
 
   -- a value came to a live node
-  live-after : (n : ℕ) (x : N) → s'.values n ≡ Some x → is_some (s'.core.cells n) ≡ true
+  pub live-after : (n : ℕ) (x : N) → s'.values n ≡ Some x → is_some (s'.core.cells n) ≡ true
   live-after n x is = cell-of well'.whole.handles n (given-of well'.whole.handles n (well'.typed n x is)).0
 
   came : (n : ℕ) (x : N) → s'.values n ≡ Some x → is_here s'.core n ≡ true

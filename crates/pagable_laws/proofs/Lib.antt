@@ -40,3 +40,4 @@ mod Going
 mod Taking
 mod Felt
 mod Answering
+mod Brought

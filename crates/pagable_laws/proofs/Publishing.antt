@@ -135,10 +135,10 @@ module _ {N E : Type 0} (v : Values N) (s s' : MachineState N E) (trees trees' :
       others : (n : ℕ) (w : Walking) → (n ≡ u → ⊥) → s.work.walkings n ≡ Some w → Walks v g' (s'.work.shelves w.table) n w.task w.todo
       others n w other e = at-number (λ old. ((j : Identity) → (s'.work.shelves w.table).slots j ≡ old.slots j) → Walks v g' (s'.work.shelves w.table) n w.task w.todo) walking.table shelf s.work.shelves w.table
           (λ at same.
-            let there = subst (λ (t : ℕ). Walks v (ground_of s trees) (s.work.shelves t) n w.task w.todo) at (fit.walks n w e) in
-            let once = walks-on v goes spares.keys (λ i x p. spares.others n i x other p) (fit.slots walking.table) w.task w.todo there in
-            let k = spares-all stay spares.slots n same in
-            walks-on v stay k.keys (λ i x p. mine-same same n i x p) spares.slots w.task w.todo once)
+          let there = subst (λ (t : ℕ). Walks v (ground_of s trees) (s.work.shelves t) n w.task w.todo) at (fit.walks n w e) in
+          let once = walks-on v goes spares.keys (λ i x p. spares.others n i x other p) (fit.slots walking.table) w.task w.todo there in
+          let k = spares-all stay spares.slots n same in
+          walks-on v stay k.keys (λ i x p. mine-same same n i x p) spares.slots w.task w.todo once)
           (λ apart same. walk-stays n w e (s'.work.shelves w.table) same) (is.same_shelves w.table).slots
 
 module _ {N B W E : Type 0} (m : Seen N B W) (s s' : MachineState N E) (trees trees' : ℕ → Tree) (goes : GroundGoes (ground_of s trees) (ground_of s' trees')) (fit : WorkFits m.values s trees)
@@ -156,7 +156,7 @@ module _ {N B W E : Type 0} (m : Seen N B W) (s s' : MachineState N E) (trees tr
   worker-steps n reply w writes =
       let site : Site = record { core = s.pager.core; shelf = s.work.shelves w.walking.table; todo = w.walking.todo } in
       let ends : answer_after w.walking.todo reply.took ≡ None → (key : ℕ) (b : Blob) → w.after.core.stored key ≡ Some b → s'.pager.core.stored key ≡ Some b =
-            λ none key b is. let e = subst (λ a. Ends a n.0 w.after.core s'.pager.core) (w.answers ∙ none) w.ends in e.stored key ∙ is in
+      λ none key b is. let e = subst (λ a. Ends a n.0 w.after.core s'.pager.core) (w.answers ∙ none) w.ends in e.stored key ∙ is in
       let d = walk-steps m n.0 w.walking.task site w.after goes (fit.slots w.walking.table) claimable reply.took w.does.does (wrote-it reply.took writes) ends (fit.walks n.0 w.walking w.at) in
       a-step m.values s s' trees trees' goes fit n.0 w.walking (record w.walking { todo = w.after.todo; steps = reply.steps; answer = reply.answer }) w.after.shelf s.work.last_table refl d.spares d.walks w.work
 

@@ -166,7 +166,7 @@ adopted-over [] (asks kind key) is = absurd (of (is_eager kind.0) is)
 adopted-over [] (reads own) is = absurd (cc)
 adopted-over [] (is_faulty e) is = absurd (cc)
 
-root-key : (types : Types) (stored : ℕ → Option Blob) (trees : ℕ → Tree) (k t : ℕ) (frame : Frame) → FramesFit types stored trees k t (frame ∷ []) → frame.key ≡ k
+pub root-key : (types : Types) (stored : ℕ → Option Blob) (trees : ℕ → Tree) (k t : ℕ) (frame : Frame) → FramesFit types stored trees k t (frame ∷ []) → frame.key ≡ k
 unfolding FramesFit
 root-key types stored trees k t frame h = h.1
 

@@ -1,17 +1,18 @@
 -- The laws of trees along runs.
-use Rattle.std.specs.Prelude.{ℕ, ◌≡◌, ◌+◌, Option, Some, None}
+use Rattle.std.specs.Prelude.{List, ℕ, ◌≡◌, ◌+◌, Option, Some, None}
 use Rattle.pagable_world.specs.Plain.{Blob, Types, Tree, ReadsTree}
-use Rattle.pagable_world.specs.World.{World, Values, Seen, IsLawful}
-use Rattle.pagable_world.specs.Pager.{PagerState, WellFormed, Moves, Represents, SameTrees, CallBrings, EventBrings, ReadsNodeTree}
-use Rattle.pagable_world.specs.Runs.{HoldsSettled, AsksWell}
+use Rattle.pagable_world.specs.World.{World, Values, Seen, IsLawful, OpenLoad, Reading, Frame}
+use Rattle.pagable_world.specs.Pager.{PagerState, WellFormed, Moves, Represents, SameTrees, CallBrings, ReadingBrings, ReadingFits, EventBrings, ReadsNodeTree}
+use Rattle.pagable_world.specs.Runs.{HoldsSettled, ReadsItsTypes, AsksWell, TakesWell}
 use Rattle.pagable_world.specs.declared.events.Event.{Event}
+use Rattle.pagable_world.specs.declared.events.LoadAnswer.{LoadAnswer}
 use Rattle.pagable_world.specs.declared.calls.Call.{Call}
 use Rattle.pagable_world.specs.declared.calls.Reply.{Reply}
 use Rattle.pagable_world.specs.declared.handles.Owner.TheVariants as owners
 use Rattle.pagable_model.specs.declared.data_key.OptionalDataKey.TheVariants as optional
 use Rattle.pagable_world.specs.Plain.{OptionalDataKey, type_of}
-use Rattle.pagable_laws.specs.ReadLaws.{ValueLeads}
-use Rattle.pagable_laws.specs.TreeSteps.{Change, Sets, Knows, Bears, CoreGoes, CallFeels}
+use Rattle.pagable_laws.specs.ReadLaws.{ValueLeads, FramesGiven}
+use Rattle.pagable_laws.specs.TreeSteps.{Change, Sets, Knows, Bears, CoreGoes, CallFeels, ReadingFeels}
 
 -- A key reads as the same tree when the storage has gained blobs.
 abbrev pub IsKeptByGains : Type 0
@@ -35,3 +36,10 @@ TreesGoOn {N} {B} {W} E m = IsLawful m.values → (u : World) (event : Event N B
 abbrev pub CallsFit : {N B W : Type 0} → (E : Type 0) → Seen N B W → Type 0
 CallsFit {N} {B} {W} E m = IsLawful m.values → (c : Change) (call : Call N B) (reply : Reply N B) (s s' : PagerState N E) (trees : ℕ → Tree) → HoldsSettled m.values s → WellFormed m.values s → WellFormed m.values s' → Represents m.values s trees
     → CoreGoes c s.core s'.core → AsksWell m.values s trees call reply → CallFeels m.values s.core owners.Caller call reply s'.core c → (trees' : ℕ → Tree) × ChangeFits m.values c (CallBrings s.core call) s s' trees trees'
+
+-- What a load's step brings fits some trees afterwards, where what was read fits, and what is taken unread reads as something.
+abbrev pub ReadingsFit : {N B W : Type 0} → (E : Type 0) → Seen N B W → Type 0
+ReadingsFit {N} E m = IsLawful m.values → ReadsItsTypes m.values.types → (c : Change) (reading : Reading) (answer : Option (LoadAnswer N)) (frames : List Frame) (s s' : PagerState N E) (trees : ℕ → Tree)
+    → HoldsSettled m.values s → WellFormed m.values s → WellFormed m.values s' → Represents m.values s trees → ReadingFits m.values s trees reading → FramesGiven s.core.last.node reading.frames
+    → CoreGoes c s.core s'.core → TakesWell m.values s reading → (answer ≡ None → (load : OpenLoad) × (s.core.loads reading.load.0 ≡ Some load)) → ReadingFeels m.values s.core reading answer frames s'.core c
+    → (trees' : ℕ → Tree) × ChangeFits m.values c (ReadingBrings m.values s.core reading) s s' trees trees'

@@ -1,6 +1,6 @@
 //! The laws of runs: what holds of every chain of moments, however loads and workers take turns.
 
-ghost use Rattle.pagable_laws.specs.TreeRuns.{CallsFit, IsKeptByGains, TreesGoOn};
+ghost use Rattle.pagable_laws.specs.TreeRuns.{CallsFit, IsKeptByGains, ReadingsFit, TreesGoOn};
 
 use crate::world::SeenAs;
 
@@ -18,4 +18,9 @@ pub fn trees_go_on<N: SeenAs<B, W>, B, W, E>()
 /// What a call brings fits some trees afterwards.
 pub fn calls_fit<N: SeenAs<B, W>, B, W, E>()
     ensures { CallsFit E N.seen }
+{}
+
+/// What a load's step brings fits some trees afterwards.
+pub fn readings_fit<N: SeenAs<B, W>, B, W, E>()
+    ensures { ReadingsFit E N.seen }
 {}

@@ -1,0 +1,109 @@
+-- What a load's step brings fits some trees afterwards: the value of a node that is born leads to the tree that its key reads as, and that of a root to its cell's.
+use Rattle.std.proofs.Common.{◌≡◌, ℕ, zero, ◌+◌, ◌≤◌, List, [], ◌∷◌, Option, Some, None, inl, inr, refl, sym, ap, ◌∙◌, subst}
+use Rattle.pagable_model.specs.declared.data_key.OptionalDataKey.TheVariants as optional
+use Rattle.pagable_world.specs.declared.events.LoadAnswer.{LoadAnswer}
+use Rattle.pagable_world.specs.Plain.{ArcRef, Kind, Tree, ReadsTree, Among, updated, is_pinned_kind}
+use Rattle.pagable_world.specs.World.{OpenLoad, Reading, Frame, Values, Seen, IsLawful}
+use Rattle.pagable_world.specs.LoadCalls.{first_key}
+use Rattle.pagable_world.specs.Loads.{ReadsRoot, Need, to_adopt, needs_lazy}
+use Rattle.pagable_world.specs.Pager.{PagerState, WellFormed, Represents, ReadingBrings, IsCellOf, FramesFit, ReadingFits}
+use Rattle.pagable_world.specs.Runs.{HoldsSettled, ReadsItsTypes, TakesWell}
+use Rattle.pagable_laws.specs.ReadLaws.{ValueLeads, FramesGiven}
+use Rattle.pagable_laws.specs.TreeSteps.{Change, CoreGoes, nothing_felt, ReadingFeels, reads-root, reads-blob, gets-known, gets-lazy, makes-known, makes-node, reading-ends}
+use Rattle.pagable_laws.specs.TreeRuns.{ChangeFits, ReadingsFit}
+use Rattle.pagable_laws.proofs.Trees.{same_some, one_tree}
+use Rattle.pagable_laws.proofs.Following.{held-of}
+use Rattle.pagable_laws.proofs.Fitting.{tree-stays, frames_go_on}
+use Rattle.pagable_laws.proofs.Decoding.{decodes}
+use Rattle.pagable_laws.proofs.Taking.{root-key, node-decoded}
+use Rattle.pagable_laws.proofs.Felt.{with-below, first-of, value-on, value-born, live-after, fits-nothing, fits-born-known}
+
+-- a need is one
+two-needs : {A : Type 0} (kind : Kind) (key : ℕ) (need : Need) → need ≡ to_adopt → need ≡ needs_lazy kind key → A
+two-needs kind key need e f = absurd (cc)
+
+same-top : (frames : List Frame) (a b : Frame) (xs ys : List Frame) → frames ≡ a ∷ xs → frames ≡ b ∷ ys → b ≡ a
+same-top frames a b xs ys e f = cc
+
+at-front : (frames : List Frame) (a : Frame) (xs : List Frame) → frames ≡ a ∷ xs → Among frames a
+at-front frames a xs e = subst (λ fs. Among fs a) (sym e) (zero, refl)
+
+module _ {N E : Type 0} {v : Values N} {s s' : PagerState N E} {trees : ℕ → Tree} (lawful : IsLawful v) (readable : ReadsItsTypes v.types) (settled : HoldsSettled v s) (well : WellFormed v s) (well' : WellFormed v s') (stands : Represents v s trees)
+    (reading : Reading) (fits : ReadingFits v s trees reading) (given : FramesGiven s.core.last.node reading.frames) {c : Change} (goes : CoreGoes c s.core s'.core) where
+  pub record RootLeads (n : ℕ) (x : N) : Type 0 where
+    pub within : n ≤ s.core.last.node
+    pub leads : ValueLeads v trees x (trees n)
+    pub few : (r : ArcRef) → Among (v.references x) r → r.node.0 ≤ s.core.last.node
+
+  -- the value of a root that was read leads to its cell's tree
+  root-leads : (n : ℕ) (x : N) → s'.values n ≡ Some x → ReadsRoot v reading x → IsCellOf s.core reading.load n → RootLeads n x
+  root-leads n x is root cell =
+      let fit = fits cell.load cell.open_load in
+      let here = subst (λ fs. FramesFit v.types s.core.stored trees cell.load.key reading.node_type fs) root.frames fit in
+      let law = frames_go_on v.types cell.load.key reading.node_type in
+      let d = decodes lawful readable root.root x (law.fits s.core.stored trees root.root [] here) root.decoded in
+      let under = subst (λ q. ReadsTree s.core.stored v.types q d.t) (root-key v.types s.core.stored trees cell.load.key reading.node_type root.root here) d.reads in
+      let within : n ≤ s.core.last.node = subst (λ m. m ≤ s.core.last.node) cell.is (well.whole.loads.roots reading.load.0 cell.load cell.node cell.t cell.h cell.open_load cell.root).given.1 in
+      let old = goes.old n within (live-after lawful settled well well' stands n x is) in
+      let typed : (trees n).type ≡ v.node_type x = same_some _ _ (sym (stands.typed n (held-of well.whole.handles n old.was)) ∙ sym old.typed ∙ well'.typed n x is) in
+      let cells : ReadsTree s.core.stored v.types cell.load.key (trees n) = subst (λ m. ReadsTree s.core.stored v.types cell.load.key (trees m)) cell.is (stands.loads reading.load.0 cell.load cell.node cell.t cell.h cell.open_load cell.root).reads in
+      let same : d.t ≡ trees n = one_tree s.core.stored v.types cell.load.key d.t (trees n) (sym d.leads.typed ∙ sym typed) under cells in
+      record { within = within; leads = subst (λ z. ValueLeads v trees x z) same d.leads; few = λ r among. given root.root r (at-front reading.frames root.root [] root.frames) (d.got r among) }
+
+  -- nothing is felt
+  quiet : (n : ℕ) (x : N) → c ≡ nothing_felt → ReadingBrings v s.core reading n x → s'.values n ≡ Some x → ValueLeads v trees x (trees n)
+  quiet n x nothing (inl (reads, new)) is =
+      let g = subst (λ z. CoreGoes z s.core s'.core) nothing goes in
+      absurd ((g.new n new (live-after lawful settled well well' stands n x is)).born)
+  quiet n x nothing (inr (root, cell)) is = (root-leads n x is root cell).leads
+
+  -- a node is born, and the root's value comes to an old one
+  root-on : (t0 : Tree) (n : ℕ) (x : N) → s'.values n ≡ Some x → ReadsRoot v reading x → IsCellOf s.core reading.load n → ValueLeads v (updated (s.core.last.node + 1) t0 trees) x (updated (s.core.last.node + 1) t0 trees n)
+  root-on t0 n x is root cell =
+      let r = root-leads n x is root cell in
+      let led = value-on lawful settled well well' stands (with-below s.core.last.node t0 trees) r.few r.leads in
+      subst (λ z. ValueLeads v (updated (s.core.last.node + 1) t0 trees) x z) (sym (with-below s.core.last.node t0 trees n r.within)) led
+
+module _ {N E : Type 0} {v : Values N} {s s' : PagerState N E} {trees : ℕ → Tree} (lawful : IsLawful v) (readable : ReadsItsTypes v.types) (settled : HoldsSettled v s) (well : WellFormed v s) (well' : WellFormed v s') (stands : Represents v s trees)
+    (reading : Reading) (fits : ReadingFits v s trees reading) (given : FramesGiven s.core.last.node reading.frames) where
+  still : CoreGoes nothing_felt s.core s'.core → (after : ℕ → Tree) × ChangeFits v nothing_felt (ReadingBrings v s.core reading) s s' trees after
+  still goes = (trees, fits-nothing lawful settled well well' stands _ (λ n x brings none is. quiet lawful readable settled well well' stands reading fits given goes n x refl brings is))
+
+  pub reading-fits : {c : Change} {answer : Option (LoadAnswer N)} {frames : List Frame} → CoreGoes c s.core s'.core → TakesWell v s reading → (answer ≡ None → (load : OpenLoad) × (s.core.loads reading.load.0 ≡ Some load))
+      → ReadingFeels v s.core reading answer frames s'.core c → (after : ℕ → Tree) × ChangeFits v c (ReadingBrings v s.core reading) s s' trees after
+  reading-fits goes takes opens (reads-root load blob none_read at stored answer is) = still goes
+  reading-fits goes takes opens (reads-blob kind key blob needs stored answer is) = still goes
+  reading-fits goes takes opens (gets-known kind key n row needs known got answer is) = still goes
+  reading-fits goes takes opens (makes-known x reads n row known got answer is) = still goes
+  reading-fits goes takes opens (reading-ends end answer is) = still goes
+  reading-fits goes takes opens (gets-lazy kind key row needs got answer is) =
+      let asked = takes kind key needs in (
+        updated (s.core.last.node + 1) asked.read trees,
+        fits-born-known lawful settled well well' stands asked.read _ kind.0 key (optional.Some key) asked.typed (λ q e. cc) (tree-stays goes.stored asked.reads)
+            (λ n x brings none at. elim brings [
+              | inl (reads, new) ↦ two-needs kind key _ reads.needs needs
+              | inr (root, cell) ↦ root-on lawful readable settled well well' stands reading fits given goes asked.read n x at root cell
+            ]),
+      )
+  reading-fits goes takes opens (makes-node x reads row got answer is) =
+      let load = opens answer in
+      let fit = fits load.0 load.1 in
+      let made = node-decoded lawful readable s.core.stored trees load.0.key reading.node_type reading x reads fit in
+      let t0 = made.0.t in (
+        updated (s.core.last.node + 1) t0 trees,
+        fits-born-known lawful settled well well' stands t0 _ reads.top.kind.0 reads.top.key (first_key reads.top.kind.0 reads.top.key) (made.0.typed ∙ made.1)
+            (λ q e. first-of (is_pinned_kind reads.top.kind.0) reads.top.key q e) (tree-stays goes.stored made.0.reads)
+            (λ n y brings none at. elim brings [
+              | inl (reads2, new) ↦
+                  let other = (node-decoded lawful readable s.core.stored trees load.0.key reading.node_type reading y reads2 fit).0 in
+                  let top : reads2.top ≡ reads.top = same-top reading.frames reads.top reads2.top reads.below reads2.below reads.frames reads2.frames in
+                  let moved : ReadsTree s.core.stored v.types reads.top.key other.t = subst (λ (f : Frame). ReadsTree s.core.stored v.types f.key other.t) top other.reads in
+                  let same : other.t ≡ t0 = one_tree s.core.stored v.types reads.top.key other.t t0 (other.typed ∙ ap (λ (f : Frame). f.node_type) top ∙ sym made.0.typed) moved made.0.reads in
+                  let few = λ (r : ArcRef) (among : Among (v.references y) r). given reads2.top r (at-front reading.frames reads2.top reads2.below reads2.frames) (other.got r among) in
+                  value-born lawful settled well well' stands t0 _ n y y goes at refl new few (subst (λ z. ValueLeads v trees y z) same other.leads)
+              | inr (root, cell) ↦ root-on lawful readable settled well well' stands reading fits given goes t0 n y at root cell
+            ]),
+      )
+
+pub readings_fit : {N B W E : Type 0} (m : Seen N B W) → ReadingsFit E m
+readings_fit m lawful readable c reading answer frames s s' trees settled well well' stands fits given goes takes opens feels = reading-fits lawful readable settled well well' stands reading fits given goes takes opens feels
