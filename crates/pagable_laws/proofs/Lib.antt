@@ -41,3 +41,4 @@ mod Taking
 mod Felt
 mod Answering
 mod Brought
+mod Staying

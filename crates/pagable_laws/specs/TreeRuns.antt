@@ -1,18 +1,19 @@
 -- The laws of trees along runs.
-use Rattle.std.specs.Prelude.{List, ℕ, ◌≡◌, ◌+◌, Option, Some, None}
+use Rattle.std.specs.Prelude.{List, ◌≤◌, ℕ, ◌≡◌, ◌+◌, Option, Some, None}
 use Rattle.pagable_world.specs.Plain.{Blob, Types, Tree, ReadsTree}
 use Rattle.pagable_world.specs.World.{World, Values, Seen, IsLawful, OpenLoad, Reading, Frame}
-use Rattle.pagable_world.specs.Pager.{PagerState, WellFormed, Moves, Represents, SameTrees, CallBrings, ReadingBrings, ReadingFits, EventBrings, ReadsNodeTree}
-use Rattle.pagable_world.specs.Runs.{HoldsSettled, ReadsItsTypes, AsksWell, TakesWell}
+use Rattle.pagable_world.specs.Pager.{MachineState, world_of, IsMachineWhole, StandsFor, IsReadingOf, PagerState, WellFormed, Moves, Represents, SameTrees, CallBrings, ReadingBrings, ReadingFits, EventBrings, ReadsNodeTree}
+use Rattle.pagable_world.specs.Runs.{HoldsSettled, ReadsItsTypes, AsksWell, TakesWell, IsWellAsked}
 use Rattle.pagable_world.specs.declared.events.Event.{Event}
 use Rattle.pagable_world.specs.declared.events.LoadAnswer.{LoadAnswer}
+use Rattle.pagable_world.specs.declared.events.EventReply.{EventReply}
 use Rattle.pagable_world.specs.declared.calls.Call.{Call}
 use Rattle.pagable_world.specs.declared.calls.Reply.{Reply}
 use Rattle.pagable_world.specs.declared.handles.Owner.TheVariants as owners
 use Rattle.pagable_model.specs.declared.data_key.OptionalDataKey.TheVariants as optional
 use Rattle.pagable_world.specs.Plain.{OptionalDataKey, type_of}
 use Rattle.pagable_laws.specs.ReadLaws.{ValueLeads, FramesGiven}
-use Rattle.pagable_laws.specs.TreeSteps.{Change, Sets, Knows, Bears, CoreGoes, CallFeels, ReadingFeels}
+use Rattle.pagable_laws.specs.TreeSteps.{Change, Sets, Knows, Bears, CoreGoes, CallFeels, ReadingFeels, KeysAreReady, StepFeels}
 
 -- A key reads as the same tree when the storage has gained blobs.
 abbrev pub IsKeptByGains : Type 0
@@ -43,3 +44,13 @@ ReadingsFit {N} E m = IsLawful m.values → ReadsItsTypes m.values.types → (c 
     → HoldsSettled m.values s → WellFormed m.values s → WellFormed m.values s' → Represents m.values s trees → ReadingFits m.values s trees reading → FramesGiven s.core.last.node reading.frames
     → CoreGoes c s.core s'.core → TakesWell m.values s reading → (answer ≡ None → (load : OpenLoad) × (s.core.loads reading.load.0 ≡ Some load)) → ReadingFeels m.values s.core reading answer frames s'.core c
     → (trees' : ℕ → Tree) × ChangeFits m.values c (ReadingBrings m.values s.core reading) s s' trees trees'
+
+-- The load of each reading was given, and so were the nodes of what it got.
+abbrev pub ReadingsGiven : {N E : Type 0} → MachineState N E → Type 0
+ReadingsGiven s = (reading : Reading) → IsReadingOf s.work reading → (reading.load.0 ≤ s.pager.core.last.load) × FramesGiven s.pager.core.last.node reading.frames
+
+-- What an event brings fits some trees afterwards, where what is asked of it is so, and a key that a worker sets is ready.
+abbrev pub EventsFit : {N B W : Type 0} → (E : Type 0) → Seen N B W → Type 0
+EventsFit {N} {B} {W} E m = IsLawful m.values → ReadsItsTypes m.values.types → (s s' : MachineState N E) (trees : ℕ → Tree) (event : Event N B W) (reply : EventReply N B W) → StandsFor m.values s trees → ReadingsGiven s → HoldsSettled m.values s.pager
+    → IsMachineWhole m.values s → IsMachineWhole m.values s' → KeysAreReady m.values s trees → IsWellAsked m.values s trees event reply → (feels : StepFeels m.values (world_of s) event reply (world_of s'))
+    → (trees' : ℕ → Tree) × ChangeFits m.values feels.change (EventBrings m.values (world_of s) event) s.pager s'.pager trees trees'

@@ -1,6 +1,6 @@
 //! The laws of runs: what holds of every chain of moments, however loads and workers take turns.
 
-ghost use Rattle.pagable_laws.specs.TreeRuns.{CallsFit, IsKeptByGains, ReadingsFit, TreesGoOn};
+ghost use Rattle.pagable_laws.specs.TreeRuns.{CallsFit, EventsFit, IsKeptByGains, ReadingsFit, TreesGoOn};
 
 use crate::world::SeenAs;
 
@@ -23,4 +23,9 @@ pub fn calls_fit<N: SeenAs<B, W>, B, W, E>()
 /// What a load's step brings fits some trees afterwards.
 pub fn readings_fit<N: SeenAs<B, W>, B, W, E>()
     ensures { ReadingsFit E N.seen }
+{}
+
+/// What an event brings fits some trees afterwards.
+pub fn events_fit<N: SeenAs<B, W>, B, W, E>()
+    ensures { EventsFit E N.seen }
 {}

@@ -1,0 +1,88 @@
+-- Each event keeps trees: what it brings fits some trees afterwards, for which the machine stands then, with all that its loads read.
+use Rattle.std.proofs.Common.{◌≡◌, ℕ, ◌≤◌, List, [], ◌∷◌, inl, inr, sym, ap, ◌∙◌, subst}
+use Rattle.std.specs.Prelude.{◌⊎◌}
+use Rattle.pagable_world.specs.declared.calls.Call.{Call}
+use Rattle.pagable_world.specs.declared.events.Event.{Event}
+use Rattle.pagable_world.specs.declared.events.Event.TheVariants as events
+use Rattle.pagable_world.specs.declared.events.EventReply.{EventReply}
+use Rattle.pagable_world.specs.Plain.{Tree, Among}
+use Rattle.pagable_world.specs.World.{Reading, Frame, to_load, Walking, Values, Seen, IsLawful}
+use Rattle.pagable_world.specs.Pager.{MachineState, PagerState, world_of, IsMachineWhole, StandsFor, FramesFit, ReadingFits, ReadingBrings, TodoBrings, EventBrings, IsReadingOf, of_worker}
+use Rattle.pagable_world.specs.Runs.{HoldsSettled, ReadsItsTypes, TakesWell, TodoTakesWell, AsksWell, IsWellAsked}
+use Rattle.pagable_laws.specs.ReadLaws.{FramesGiven}
+use Rattle.pagable_laws.specs.TreeSteps.{Change, CoreGoes, IsSteppedReading, EventFeels, by-call, by-reading, by-key, by-nothing, KeysAreReady}
+use Rattle.pagable_laws.specs.TreeRuns.{ChangeFits, ReadingsGiven, EventsFit}
+use Rattle.pagable_laws.proofs.Trees.{same_some}
+use Rattle.pagable_laws.proofs.Fitting.{tree-stays}
+use Rattle.pagable_laws.proofs.Felt.{none-comes, fits-nothing, fits-key, calls_fit}
+use Rattle.pagable_laws.proofs.Brought.{readings_fit}
+
+module _ {N E : Type 0} {v : Values N} {c : Change} {s s' : PagerState N E} {trees trees' : ℕ → Tree} where
+  -- what comes is said in other words
+  comes-from : (comes other : ℕ → N → Type 0) → ((n : ℕ) (x : N) → other n x → comes n x) → ChangeFits v c comes s s' trees trees' → ChangeFits v c other s s' trees trees'
+  comes-from comes other from f =
+      record { same = f.same; sets = f.sets; born = f.born; keyed = f.keyed; knows = f.knows; comes_well = λ n x is none here. f.comes_well n x (from n x is) none here }
+
+module _ {N E B W : Type 0} (m : Seen N B W) (s : MachineState N E) (trees : ℕ → Tree) where
+  -- the reading that makes the step is what brings values
+  reading-brings : (event : Event N B W) (reading : Reading) (n : ℕ) (x : N) → IsSteppedReading (world_of s) event reading → EventBrings m.values (world_of s) event n x → ReadingBrings m.values s.pager.core reading n x
+  reading-brings (events.LoadStep l) reading n x stepped (other, at, brings) =
+      let same : other ≡ reading = same_some _ _ (sym at ∙ stepped.0) in
+      subst (λ z. ReadingBrings m.values s.pager.core z n x) same brings
+  reading-brings (events.WorkerStep k) reading n x (walking, r, place, through, below, there, todo) (other, at, brings) =
+      let same : other ≡ walking = same_some _ _ (sym at ∙ there) in
+      let front : other.todo ≡ to_load r place through reading ∷ below = ap (λ (z : Walking). z.todo) same ∙ todo in
+      subst (λ z. TodoBrings m.values s.pager.core z n x) front brings
+  reading-brings event reading n x stepped brings = absurd stepped
+
+  reading-takes : (event : Event N B W) (reply : EventReply N B W) (reading : Reading) → IsSteppedReading (world_of s) event reading → IsWellAsked m.values s trees event reply → TakesWell m.values s.pager reading
+  reading-takes (events.LoadStep l) reply reading stepped well = well reading stepped.0
+  reading-takes (events.WorkerStep k) reply reading (walking, r, place, through, below, there, todo) well = subst (λ z. TodoTakesWell m.values s.pager z) todo (well walking there)
+  reading-takes event reply reading stepped well = absurd stepped
+
+  -- it is one of the machine's, or has just begun
+  reading-is : (event : Event N B W) (reading : Reading) → IsSteppedReading (world_of s) event reading → IsReadingOf s.work reading ⊎ ((reading.frames ≡ []) × (reading.load.0 ≤ s.pager.core.last.load))
+  reading-is (events.LoadStep l) reading stepped = stepped.1
+  reading-is (events.WorkerStep k) reading (walking, r, place, through, below, there, todo) = inl (of_worker k.0 place walking r through below there todo)
+  reading-is event reading stepped = absurd stepped
+
+  nothing-yet : (reading : Reading) → reading.frames ≡ [] → ReadingFits m.values s.pager trees reading
+  unfolding FramesFit
+  nothing-yet reading none load is = subst (λ fs. FramesFit m.values.types s.pager.core.stored trees load.key reading.node_type fs) (sym none) tt
+
+  none-given : (last : ℕ) (frames : List Frame) → frames ≡ [] → FramesGiven last frames
+  none-given last frames none f r among got = let there = subst (λ fs. Among fs f) none among in absurd (let e = there.1 in cc)
+
+  module _ (stands : StandsFor m.values s trees) (given : ReadingsGiven s) where
+    fits-of : (reading : Reading) → IsReadingOf s.work reading ⊎ ((reading.frames ≡ []) × (reading.load.0 ≤ s.pager.core.last.load)) → ReadingFits m.values s.pager trees reading
+    fits-of reading (inl is) = stands.readings reading is
+    fits-of reading (inr is) = nothing-yet reading is.0
+
+    given-of : (reading : Reading) → IsReadingOf s.work reading ⊎ ((reading.frames ≡ []) × (reading.load.0 ≤ s.pager.core.last.load)) → FramesGiven s.pager.core.last.node reading.frames
+    given-of reading (inl is) = (given reading is).1
+    given-of reading (inr is) = none-given s.pager.core.last.node reading.frames is.0
+
+    pub event-fits : (lawful : IsLawful m.values) (readable : ReadsItsTypes m.values.types) (s' : MachineState N E) → HoldsSettled m.values s.pager → IsMachineWhole m.values s → IsMachineWhole m.values s' → KeysAreReady m.values s trees
+        → (event : Event N B W) (reply : EventReply N B W) {c : Change} → CoreGoes c s.pager.core s'.pager.core → IsWellAsked m.values s trees event reply → EventFeels m.values (world_of s) event reply (world_of s') c
+        → (trees' : ℕ → Tree) × ChangeFits m.values c (EventBrings m.values (world_of s) event) s.pager s'.pager trees trees'
+    event-fits lawful readable s' settled whole whole' ready event reply goes well (by-call c call answer called replied feels keeps) =
+        let P : Event N B W → EventReply N B W → Type 0 = λ e r. IsWellAsked m.values s trees e r in
+        let asked : AsksWell m.values s.pager trees call answer = subst (λ r. P (events.Call call) r) replied (subst (λ e. P e reply) called well) in
+        let f = calls_fit m lawful c call answer s.pager s'.pager trees settled whole.pager whole'.pager stands.pager goes asked feels in
+        (f.0, subst (λ e. ChangeFits m.values c (EventBrings m.values (world_of s) e) s.pager s'.pager trees f.0) (sym called) f.1)
+    event-fits lawful readable s' settled whole whole' ready event reply goes well (by-reading c reading answer frames stepped opens feels steps) =
+        let is = reading-is event reading stepped in
+        let f = readings_fit m lawful readable c reading answer frames s.pager s'.pager trees settled whole.pager whole'.pager stands.pager (fits-of reading is) (given-of reading is) goes (reading-takes event reply reading stepped well) opens feels in
+        (f.0, comes-from _ _ (λ n x brings. reading-brings event reading n x stepped brings) f.1)
+    event-fits lawful readable s' settled whole whole' ready event reply goes well (by-key k key row is sets keeps) =
+        (trees, fits-key lawful settled whole.pager whole'.pager stands.pager _ row.node.0 key (λ n x brings. no-value n x (subst (λ e. EventBrings m.values (world_of s) e n x) is brings)) (tree-stays goes.stored (ready k key row sets)))
+      where
+        no-value : (n : ℕ) (x : N) → EventBrings m.values (world_of s) (let e : Event N B W = events.WorkerStep k in e) n x → ⊥
+        no-value n x (other, at, brings) =
+            let same : other ≡ sets.walking = same_some _ _ (sym at ∙ sets.there) in
+            subst (λ z. TodoBrings m.values s.pager.core z n x) (ap (λ (z : Walking). z.todo) same ∙ sets.sets) brings
+    event-fits lawful readable s' settled whole whole' ready event reply goes well (by-nothing stays keeps) =
+        (trees, fits-nothing lawful settled whole.pager whole'.pager stands.pager _ (λ n x brings none is. absurd (none-comes lawful settled whole.pager whole'.pager stands.pager n x goes none is (stays n x brings))))
+
+pub events_fit : {N B W E : Type 0} (m : Seen N B W) → EventsFit E m
+events_fit m lawful readable s s' trees event reply stands given settled whole whole' ready well feels = event-fits m s trees stands given lawful readable s' settled whole whole' ready event reply feels.core well feels.feels
