@@ -42,3 +42,4 @@ mod Felt
 mod Answering
 mod Brought
 mod Staying
+mod Lasting

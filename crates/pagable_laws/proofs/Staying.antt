@@ -41,24 +41,24 @@ module _ {N E B W : Type 0} (m : Seen N B W) (s : MachineState N E) (trees : ℕ
   reading-takes event reply reading stepped well = absurd stepped
 
   -- it is one of the machine's, or has just begun
-  reading-is : (event : Event N B W) (reading : Reading) → IsSteppedReading (world_of s) event reading → IsReadingOf s.work reading ⊎ ((reading.frames ≡ []) × (reading.load.0 ≤ s.pager.core.last.load))
+  pub reading-is : (event : Event N B W) (reading : Reading) → IsSteppedReading (world_of s) event reading → IsReadingOf s.work reading ⊎ ((reading.frames ≡ []) × (reading.load.0 ≤ s.pager.core.last.load))
   reading-is (events.LoadStep l) reading stepped = stepped.1
   reading-is (events.WorkerStep k) reading (walking, r, place, through, below, there, todo) = inl (of_worker k.0 place walking r through below there todo)
   reading-is event reading stepped = absurd stepped
 
-  nothing-yet : (reading : Reading) → reading.frames ≡ [] → ReadingFits m.values s.pager trees reading
+  pub nothing-yet : (reading : Reading) → reading.frames ≡ [] → ReadingFits m.values s.pager trees reading
   unfolding FramesFit
   nothing-yet reading none load is = subst (λ fs. FramesFit m.values.types s.pager.core.stored trees load.key reading.node_type fs) (sym none) tt
 
-  none-given : (last : ℕ) (frames : List Frame) → frames ≡ [] → FramesGiven last frames
+  pub none-given : (last : ℕ) (frames : List Frame) → frames ≡ [] → FramesGiven last frames
   none-given last frames none f r among got = let there = subst (λ fs. Among fs f) none among in absurd (let e = there.1 in cc)
 
   module _ (stands : StandsFor m.values s trees) (given : ReadingsGiven s) where
-    fits-of : (reading : Reading) → IsReadingOf s.work reading ⊎ ((reading.frames ≡ []) × (reading.load.0 ≤ s.pager.core.last.load)) → ReadingFits m.values s.pager trees reading
+    pub fits-of : (reading : Reading) → IsReadingOf s.work reading ⊎ ((reading.frames ≡ []) × (reading.load.0 ≤ s.pager.core.last.load)) → ReadingFits m.values s.pager trees reading
     fits-of reading (inl is) = stands.readings reading is
     fits-of reading (inr is) = nothing-yet reading is.0
 
-    given-of : (reading : Reading) → IsReadingOf s.work reading ⊎ ((reading.frames ≡ []) × (reading.load.0 ≤ s.pager.core.last.load)) → FramesGiven s.pager.core.last.node reading.frames
+    pub given-of : (reading : Reading) → IsReadingOf s.work reading ⊎ ((reading.frames ≡ []) × (reading.load.0 ≤ s.pager.core.last.load)) → FramesGiven s.pager.core.last.node reading.frames
     given-of reading (inl is) = (given reading is).1
     given-of reading (inr is) = none-given s.pager.core.last.node reading.frames is.0
 

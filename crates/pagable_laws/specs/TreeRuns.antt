@@ -54,3 +54,16 @@ abbrev pub EventsFit : {N B W : Type 0} → (E : Type 0) → Seen N B W → Type
 EventsFit {N} {B} {W} E m = IsLawful m.values → ReadsItsTypes m.values.types → (s s' : MachineState N E) (trees : ℕ → Tree) (event : Event N B W) (reply : EventReply N B W) → StandsFor m.values s trees → ReadingsGiven s → HoldsSettled m.values s.pager
     → IsMachineWhole m.values s → IsMachineWhole m.values s' → KeysAreReady m.values s trees → IsWellAsked m.values s trees event reply → (feels : StepFeels m.values (world_of s) event reply (world_of s'))
     → (trees' : ℕ → Tree) × ChangeFits m.values feels.change (EventBrings m.values (world_of s) event) s.pager s'.pager trees trees'
+
+-- trees after an event for which the machine stands, where each node that was made keeps its tree
+pub record TreesAfterEvent {N E : Type 0} (v : Values N) (s s' : MachineState N E) (trees : ℕ → Tree) : Type 0 where
+  pub after : ℕ → Tree
+  pub keeps : SameTrees s.pager.core.last.node trees after
+  pub stands : StandsFor v s' after
+  pub given : ReadingsGiven s'
+
+-- A machine that stands for trees does so after each event, as trees feel it.
+abbrev pub EventsKeepTrees : {N B W : Type 0} → (E : Type 0) → Seen N B W → Type 0
+EventsKeepTrees {N} {B} {W} E m = IsLawful m.values → ReadsItsTypes m.values.types → (s s' : MachineState N E) (trees : ℕ → Tree) (event : Event N B W) (reply : EventReply N B W) → StandsFor m.values s trees → ReadingsGiven s → HoldsSettled m.values s.pager
+    → IsMachineWhole m.values s → IsMachineWhole m.values s' → KeysAreReady m.values s trees → IsWellAsked m.values s trees event reply → Moves (EventBrings m.values (world_of s) event) s.pager s'.pager
+    → StepFeels m.values (world_of s) event reply (world_of s') → TreesAfterEvent m.values s s' trees

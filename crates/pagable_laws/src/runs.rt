@@ -1,6 +1,6 @@
 //! The laws of runs: what holds of every chain of moments, however loads and workers take turns.
 
-ghost use Rattle.pagable_laws.specs.TreeRuns.{CallsFit, EventsFit, IsKeptByGains, ReadingsFit, TreesGoOn};
+ghost use Rattle.pagable_laws.specs.TreeRuns.{CallsFit, EventsFit, EventsKeepTrees, IsKeptByGains, ReadingsFit, TreesGoOn};
 
 use crate::world::SeenAs;
 
@@ -28,4 +28,9 @@ pub fn readings_fit<N: SeenAs<B, W>, B, W, E>()
 /// What an event brings fits some trees afterwards.
 pub fn events_fit<N: SeenAs<B, W>, B, W, E>()
     ensures { EventsFit E N.seen }
+{}
+
+/// A machine that stands for trees does so after each event, and each node keeps its tree.
+pub fn events_keep_trees<N: SeenAs<B, W>, B, W, E>()
+    ensures { EventsKeepTrees E N.seen }
 {}
