@@ -43,3 +43,4 @@ mod Answering
 mod Brought
 mod Staying
 mod Lasting
+mod Chains

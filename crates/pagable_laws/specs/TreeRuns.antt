@@ -1,9 +1,10 @@
 -- The laws of trees along runs.
-use Rattle.std.specs.Prelude.{List, ◌≤◌, ℕ, ◌≡◌, ◌+◌, Option, Some, None}
+use Rattle.std.specs.Prelude.{List, [], ◌∷◌, ◌≤◌, ℕ, ◌≡◌, ◌+◌, Option, Some, None}
 use Rattle.pagable_world.specs.Plain.{Blob, Types, Tree, ReadsTree}
 use Rattle.pagable_world.specs.World.{World, Values, Seen, IsLawful, OpenLoad, Reading, Frame}
 use Rattle.pagable_world.specs.Pager.{MachineState, world_of, IsMachineWhole, StandsFor, IsReadingOf, PagerState, WellFormed, Moves, Represents, SameTrees, CallBrings, ReadingBrings, ReadingFits, EventBrings, ReadsNodeTree}
-use Rattle.pagable_world.specs.Runs.{HoldsSettled, ReadsItsTypes, AsksWell, TakesWell, IsWellAsked}
+use Rattle.pagable_world.specs.Runs.{HoldsSettled, ReadsItsTypes, AsksWell, TakesWell, IsWellAsked, Moment, AreMoments, TreesAlong}
+use Rattle.pagable_world.specs.Headline.{PinGives}
 use Rattle.pagable_world.specs.declared.events.Event.{Event}
 use Rattle.pagable_world.specs.declared.events.LoadAnswer.{LoadAnswer}
 use Rattle.pagable_world.specs.declared.events.EventReply.{EventReply}
@@ -13,7 +14,7 @@ use Rattle.pagable_world.specs.declared.handles.Owner.TheVariants as owners
 use Rattle.pagable_model.specs.declared.data_key.OptionalDataKey.TheVariants as optional
 use Rattle.pagable_world.specs.Plain.{OptionalDataKey, type_of}
 use Rattle.pagable_laws.specs.ReadLaws.{ValueLeads, FramesGiven}
-use Rattle.pagable_laws.specs.TreeSteps.{Change, Sets, Knows, Bears, CoreGoes, CallFeels, ReadingFeels, KeysAreReady, StepFeels}
+use Rattle.pagable_laws.specs.TreeSteps.{Change, Sets, Knows, Bears, CoreGoes, CallFeels, ReadingFeels, KeysAreReady, StepFeels, PinHolds}
 
 -- A key reads as the same tree when the storage has gained blobs.
 abbrev pub IsKeptByGains : Type 0
@@ -67,3 +68,17 @@ abbrev pub EventsKeepTrees : {N B W : Type 0} → (E : Type 0) → Seen N B W �
 EventsKeepTrees {N} {B} {W} E m = IsLawful m.values → ReadsItsTypes m.values.types → (s s' : MachineState N E) (trees : ℕ → Tree) (event : Event N B W) (reply : EventReply N B W) → StandsFor m.values s trees → ReadingsGiven s → HoldsSettled m.values s.pager
     → IsMachineWhole m.values s → IsMachineWhole m.values s' → KeysAreReady m.values s trees → IsWellAsked m.values s trees event reply → Moves (EventBrings m.values (world_of s) event) s.pager s'.pager
     → StepFeels m.values (world_of s) event reply (world_of s') → TreesAfterEvent m.values s s' trees
+
+-- Along a chain trees feel each step so, a key that a worker sets is ready, and what is answered as pinned is.
+abbrev pub FeltAlong : {N E B W : Type 0} → Seen N B W → MachineState N E → (ℕ → Tree) → List (Moment N E B W) → Type 0
+FeltAlong m s trees [] = Unit {0}
+FeltAlong m s trees (x ∷ xs) =
+    StepFeels m.values (world_of s) x.event x.reply (world_of x.after)
+    × KeysAreReady m.values s trees
+    × PinHolds x.event x.reply x.after.pager.core
+    × ((trees' : ℕ → Tree) → SameTrees s.pager.core.last.node trees trees' → StandsFor m.values x.after trees' → FeltAlong m x.after trees' xs)
+
+-- Trees stay: along such a chain each node keeps its tree, and each pin that succeeds gives the tree that its handle's node was made with.
+abbrev pub TreesStay : {N B W : Type 0} → (E : Type 0) → Seen N B W → Type 0
+TreesStay {N} {B} {W} E m = IsLawful m.values → ReadsItsTypes m.values.types → (s : MachineState N E) (trees : ℕ → Tree) (moments : List (Moment N E B W)) → IsMachineWhole m.values s → HoldsSettled m.values s.pager → StandsFor m.values s trees
+    → ReadingsGiven s → AreMoments m s moments → FeltAlong m s trees moments → TreesAlong m (PinGives m.values) s trees moments

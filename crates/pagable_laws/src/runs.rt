@@ -1,6 +1,6 @@
 //! The laws of runs: what holds of every chain of moments, however loads and workers take turns.
 
-ghost use Rattle.pagable_laws.specs.TreeRuns.{CallsFit, EventsFit, EventsKeepTrees, IsKeptByGains, ReadingsFit, TreesGoOn};
+ghost use Rattle.pagable_laws.specs.TreeRuns.{CallsFit, EventsFit, EventsKeepTrees, IsKeptByGains, ReadingsFit, TreesGoOn, TreesStay};
 
 use crate::world::SeenAs;
 
@@ -33,4 +33,9 @@ pub fn events_fit<N: SeenAs<B, W>, B, W, E>()
 /// A machine that stands for trees does so after each event, and each node keeps its tree.
 pub fn events_keep_trees<N: SeenAs<B, W>, B, W, E>()
     ensures { EventsKeepTrees E N.seen }
+{}
+
+/// Trees stay along each chain whose steps trees feel so, and each pin that succeeds gives its node's tree.
+pub fn trees_stay<N: SeenAs<B, W>, B, W, E>()
+    ensures { TreesStay E N.seen }
 {}
