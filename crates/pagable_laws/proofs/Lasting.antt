@@ -11,7 +11,7 @@ use Rattle.pagable_laws.specs.ReadLaws.{FramesGiven}
 use Rattle.pagable_laws.specs.TreeSteps.{Change, CoreGoes, ReadingFeels, EventFeels, by-call, by-reading, by-key, by-nothing, KeepsReadings}
 use Rattle.pagable_laws.specs.TreeRuns.{ChangeFits, ReadingsGiven, EventsKeepTrees}
 use Rattle.pagable_laws.proofs.Trees.{same_some}
-use Rattle.pagable_laws.proofs.Going.{trees_go_on}
+use Rattle.pagable_laws.proofs.TreesGoing.{trees_go_on}
 use Rattle.pagable_laws.proofs.Taking.{AtStep, fit-still, fit-after}
 use Rattle.pagable_laws.proofs.Staying.{reading-is, nothing-yet, none-given, fits-of, given-of, events_fit}
 

@@ -36,7 +36,7 @@ mod Shelves
 mod Stepping
 mod Publishing
 mod Leading
-mod Going
+mod TreesGoing
 mod Taking
 mod Felt
 mod Answering
