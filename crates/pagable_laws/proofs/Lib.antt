@@ -29,3 +29,8 @@ mod Once
 mod Headlines
 mod Working
 mod Doing
+mod Following
+mod Shelves
+mod Stepping
+mod Publishing
+mod Answering

@@ -9,3 +9,4 @@ pub mod RunLaws
 pub mod SmallMoments
 pub mod SmallWork
 pub mod MetLaws
+pub mod PageOutLaws
