@@ -1,24 +1,23 @@
 -- A value that was read of a blob leads to what the blob's key reads as: reading the blob with the references that were got runs along the reading of
 -- its bare keys, and each of these reads as the tree of the node that was got for it.
-use Rattle.std.proofs.Common.{◌≡◌, ℕ, zero, suc, ◌+◌, ◌<◌, ◌≤◌, ◌==◌, ◌&&◌, Bool, true, false, List, [], ◌∷◌, ◌++◌, Option, Some, None, Result, Ok, Err, if◌then◌else◌, ◌⊎◌, inl, inr, refl, sym, ap, ◌∙◌, subst, arith, sum_by}
-use Rattle.std.specs.Prelude.{slice_get, length}
+use Rattle.std.proofs.Common.{◌≡◌, ℕ, zero, suc, ◌+◌, ◌≤◌, ◌==◌, ◌&&◌, Bool, true, false, List, [], ◌∷◌, ◌++◌, Option, Some, None, Result, Ok, Err, if◌then◌else◌, ◌⊎◌, inl, inr, refl, sym, ap, ◌∙◌, subst, arith, sum_by}
+use Rattle.std.specs.Prelude.{slice_get}
 use Rattle.std.proofs.lemmas.Bool.{and_parts}
 use Rattle.std.proofs.lemmas.Bool.Decides.{nat_tests}
 use Rattle.pagable_model.specs.declared.error.Error.TheVariants as errors
 use Rattle.pagable_model.specs.Meaning.{number, integer, text, pattern, none, pair, variant, reference, followed}
 use Rattle.pagable_model.specs.References.{references_in, SameReferences}
-use Rattle.pagable_model.specs.Reading.{Rest, read, read_typed}
+use Rattle.pagable_model.specs.Reading.{Rest, read_typed}
 use Rattle.pagable_model.specs.Standing.{Answer, answer_at, handles_at}
 use Rattle.pagable_model.specs.Trees.{KeyRef, key_ref, ReadsAs, blob_context, rest_of, IsFollowed, number-followed, integer-followed, text-followed, pattern-followed, none-followed, pair-followed, variant-followed, reference-followed}
-use Rattle.pagable_model.specs.Canonical.{IsReadableType}
-use Rattle.pagable_world.specs.Plain.{Error, ArcRef, Kind, Blob, Shape, Types, Tree, tree, type_of, ReadsTree, Meaning, Among, one}
+use Rattle.pagable_world.specs.Plain.{Error, ArcRef, Kind, Blob, Shape, Types, Tree, tree, type_of, Meaning, Among, one}
 use Rattle.pagable_world.specs.World.{Frame, Values, IsLawful}
-use Rattle.pagable_world.specs.Loads.{answer_of, answers_from, read_with, Next, reads, asks, next_by, next_in, IsDecoded}
+use Rattle.pagable_world.specs.Loads.{answer_of, answers_from, reads, asks, next_by, IsDecoded}
 use Rattle.pagable_world.specs.Pager.{PagerState, NodeStands, MeaningStands, number-stands, integer-stands, text-stands, pattern-stands, none-stands, pair-stands, variant-stands, followed-stands, reference-stands, ReadsNodeTree, FrameFits}
 use Rattle.pagable_world.specs.Runs.{ReadsItsTypes}
 use Rattle.pagable_laws.specs.ReadLaws.{LeadsTo, number-leads, integer-leads, text-leads, pattern-leads, none-leads, pair-leads, variant-leads, followed-leads, reference-leads, Decoded, AsksNext, DecodesWell, ReadStands}
 use Rattle.pagable_laws.proofs.Along.{Along, number-along, integer-along, text-along, pattern-along, none-along, pair-along, variant-along, reference-along, followed-along, AllTwo, no-two, more-two}
-use Rattle.pagable_laws.proofs.Related.{SameRest, Out, both-given, both-refused, first-refused, OutLook, both-looked-up, first-not, read_par}
+use Rattle.pagable_laws.proofs.Related.{Out, both-given, both-refused, first-refused, OutLook, both-looked-up, first-not, read_par}
 use Rattle.pagable_laws.proofs.Trees.{tree_is, one_tree}
 use Rattle.pagable_laws.proofs.Sums.{one-true, self-number, at-most-sum, counted}
 

@@ -1,16 +1,15 @@
 -- What a load has read fits after its step; and a node whose value is in memory gives its tree, as does what a load of a key answers.
-use Rattle.std.proofs.Common.{◌≡◌, ℕ, zero, suc, ◌+◌, ◌<◌, ◌≤◌, ◌==◌, ◌&&◌, ◌||◌, not, Bool, true, false, List, [], ◌∷◌, Option, Some, None, if◌then◌else◌, ◌⊎◌, inl, inr, refl, sym, ap, ◌∙◌, subst, arith}
+use Rattle.std.proofs.Common.{◌≡◌, ℕ, zero, suc, ◌+◌, ◌<◌, ◌≤◌, Bool, true, false, List, [], ◌∷◌, Option, Some, None, if◌then◌else◌, inr, refl, sym, ap, ◌∙◌, subst, arith}
 use Rattle.std.specs.Prelude.{is_some, nat_lt, slice_get}
 use Rattle.std.proofs.lemmas.Bool.Decides.{nat_tests}
-use Rattle.pagable_model.specs.declared.data_key.OptionalDataKey.TheVariants as optional
 use Rattle.pagable_world.specs.declared.handles.HandleRow.{HandleRow}
 use Rattle.pagable_world.specs.declared.handles.Owner.TheVariants as owners
 use Rattle.pagable_world.specs.Plain.{OptionalDataKey, ArcRef, Kind, HandleNumber, Blob, Types, Tree, ReadsTree, type_of, Among, one, is_eager}
-use Rattle.pagable_world.specs.Kinds.{find_row, is_handle, is_at, is_pin, is_pinning, held, pins, has_key, is_in_memory}
-use Rattle.pagable_world.specs.World.{Core, OpenLoad, Frame, Reading, row_at, key_at, is_here, Values, IsLawful}
+use Rattle.pagable_world.specs.Kinds.{find_row, is_handle, is_at, is_pin, is_pinning, held, pins}
+use Rattle.pagable_world.specs.World.{Core, OpenLoad, Frame, Reading, row_at, Values, IsLawful}
 use Rattle.pagable_world.specs.Refusals.{IsReference}
 use Rattle.pagable_world.specs.Loads.{Next, reads, asks, is_faulty, next_in, need_at, need_of, needs_nested, needs_lazy, to_adopt, ReadsRoot, ReadsNode, root_frame, nested_frame, with_got}
-use Rattle.pagable_world.specs.Pager.{PagerState, HandlesAreWhole, IsWhole, WellFormed, NodeStands, here, away, ValueStands, ReadsNodeTree, FramesFit, FrameFits, SameTrees, Represents}
+use Rattle.pagable_world.specs.Pager.{PagerState, HandlesAreWhole, IsWhole, WellFormed, NodeStands, here, away, ValueStands, ReadsNodeTree, FramesFit, SameTrees, Represents}
 use Rattle.pagable_world.specs.Runs.{ReadsItsTypes}
 use Rattle.pagable_world.specs.Headline.{ReadIsRight}
 use Rattle.pagable_laws.specs.TreeSteps.{Change, bears_known, CoreGoes, ReadingFeels, reads-root, reads-blob, gets-known, gets-lazy, makes-known, makes-node, reading-ends}
