@@ -93,12 +93,14 @@ new-given last frame frames none_got given f r (zero, is) (place, there) =
 new-given last frame frames none_got given f r (suc i, is) among = given f r (i, is) among
 
 module _ {N : Type 0} {v : Values N} {w' : Core} {trees' : ℕ → Tree} (k t : ℕ) where
-  fit-got : (frames : List Frame) (kind : Kind) (row : HandleRow) → HandlesAreWhole w' → row_at w' row.number ≡ Some row → FramesGiven w'.last.node frames → FramesFit v.types w'.stored trees' k t (with_got kind row frames)
+  fit-got : (frames : List Frame) (kind : Kind) (row : HandleRow) → HandlesAreWhole w' → row_at w' row.number ≡ Some row → FramesGiven w'.last.node frames
+      → FramesFit v.types w'.stored trees' k t (with_got kind row frames)
       → FitAfter v w' trees' k t (with_got kind row frames)
   fit-got frames kind row whole live given fit = record { fit = fit; given = (frames_go_on v.types k t).given w'.last.node w'.last.node frames kind row given (omega arith) (row-given whole row.number row live) }
 
 module _ {N : Type 0} {v : Values N} {w w' : Core} {trees trees' : ℕ → Tree} where
-  known-reads : {c : Change} → AtStep v c w w' trees trees' → (kind : Kind) (key n : ℕ) (row : HandleRow) → w.cache kind.0 key ≡ Some n → row.node.0 ≡ n → ReadsNodeTree v.types w'.stored trees' key (type_of kind.0) row.node.0
+  known-reads : {c : Change} → AtStep v c w w' trees trees' → (kind : Kind) (key n : ℕ) (row : HandleRow) → w.cache kind.0 key ≡ Some n → row.node.0 ≡ n
+      → ReadsNodeTree v.types w'.stored trees' key (type_of kind.0) row.node.0
   known-reads h kind key n row known at =
       let few = (h.before.cache kind.0 key n known).given in
       subst (λ m. ReadsNodeTree v.types w'.stored trees' key (type_of kind.0) m) (sym at) (node-stays h.goes.stored (h.same n few) (h.cache kind.0 key n known))
@@ -117,7 +119,8 @@ module _ {N : Type 0} {v : Values N} {w w' : Core} {trees trees' : ℕ → Tree}
 
   module _ (k t : ℕ) where
     fit-made : {c : Change} → AtStep v c w w' trees trees' → (reading : Reading) (x : N) (made : ReadsNode v reading x) (row : HandleRow) → row_at w' row.number ≡ Some row
-        → ReadsNodeTree v.types w'.stored trees' made.top.key (type_of made.top.kind.0) row.node.0 → FitAfter v w' trees' k t reading.frames → FitAfter v w' trees' k t (with_got made.top.kind row made.below)
+        → ReadsNodeTree v.types w'.stored trees' made.top.key (type_of made.top.kind.0) row.node.0 → FitAfter v w' trees' k t reading.frames
+        → FitAfter v w' trees' k t (with_got made.top.kind row made.below)
     fit-made h reading x made row live read f =
         let g = subst (λ fs. FitAfter v w' trees' k t fs) made.frames f in
         let under : FramesGiven w'.last.node made.below = λ frame r among got. g.given frame r (suc among.0, among.1) got in
@@ -181,7 +184,8 @@ module _ {N : Type 0} {v : Values N} (lawful : IsLawful v) (readable : ReadsItsT
       (decodes lawful readable r.top x (law.fits stored trees r.top r.below here) r.decoded, law.typed stored trees r.top over.0 over.1 there)
 
   -- what a load of a key answers stands for the tree that the key reads as
-  pub root-right : {E : Type 0} (s : PagerState N E) (trees : ℕ → Tree) (reading : Reading) (x : N) (key : ℕ) → WellFormed v s → Represents v s trees → FramesFit v.types s.core.stored trees key reading.node_type reading.frames
+  pub root-right : {E : Type 0} (s : PagerState N E) (trees : ℕ → Tree) (reading : Reading) (x : N) (key : ℕ) → WellFormed v s → Represents v s trees
+      → FramesFit v.types s.core.stored trees key reading.node_type reading.frames
       → ReadsRoot v reading x → ((r : ArcRef) → Among (v.references x) r → IsReference s.core owners.Caller r) → ReadIsRight v s key x
   root-right s trees reading x key whole represents fit root own =
       let here = subst (λ fs. FramesFit v.types s.core.stored trees key reading.node_type fs) root.frames fit in
