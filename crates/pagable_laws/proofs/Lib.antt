@@ -29,8 +29,11 @@ mod Once
 mod Headlines
 mod Working
 mod Doing
+mod Decoding
+mod Fitting
 mod Following
 mod Shelves
 mod Stepping
 mod Publishing
 mod Answering
+mod Taking

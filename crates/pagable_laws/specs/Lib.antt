@@ -9,4 +9,6 @@ pub mod RunLaws
 pub mod SmallMoments
 pub mod SmallWork
 pub mod MetLaws
+pub mod TreeSteps
+pub mod ReadLaws
 pub mod PageOutLaws

@@ -2,6 +2,7 @@
 //! Of the product only a law of `pagable` for carried types stands on this crate.
 #![tactic(auto)]
 
+pub mod runs;
 pub mod keys;
 pub mod values;
 pub mod worked;
