@@ -26,6 +26,9 @@ mod Joining
 mod Telling
 mod Nexts
 mod Once
+mod Standing
+mod Changing
+mod Going
 mod Headlines
 mod Working
 mod Doing
