@@ -16,22 +16,22 @@ use Rattle.pagable_laws.proofs.Changing.{SlotGrows, Changes, ShelfGrows, some-sa
 
 -- ---- or
 
-or-cases : (a b : Bool) → (a || b) ≡ true → (a ≡ true) ⊎ (b ≡ true)
+pub or-cases : (a b : Bool) → (a || b) ≡ true → (a ≡ true) ⊎ (b ≡ true)
 or-cases true b is = inl refl
 or-cases false b is = inr is
 
-or-left : (a b : Bool) → a ≡ true → (a || b) ≡ true
+pub or-left : (a b : Bool) → a ≡ true → (a || b) ≡ true
 or-left true b is = refl
 or-left false b is = absurd (cc)
 
-or-right : (a b : Bool) → b ≡ true → (a || b) ≡ true
+pub or-right : (a b : Bool) → b ≡ true → (a || b) ≡ true
 or-right true b is = refl
 or-right false b is = is
 
-true-false : {A : Type 0} {b : Bool} → b ≡ true → b ≡ false → A
+pub true-false : {A : Type 0} {b : Bool} → b ≡ true → b ≡ false → A
 true-false is other = absurd (cc)
 
-not-true : (b : Bool) → (b ≡ true → ⊥) → b ≡ false
+pub not-true : (b : Bool) → (b ≡ true → ⊥) → b ≡ false
 not-true true never = absurd (never refl)
 not-true false never = refl
 
@@ -42,7 +42,7 @@ module _ (u : ℕ) (task : Task) (shelf shelf' : Shelf) (more : ShelfGrows shelf
   claim-stays i keeps (meets, c) = (meets-grow shelf shelf' task i more meets, record { slot = c.slot; claimed = keeps c.slot c.claimed c.own; own = c.own; no_result_yet = c.no_result_yet; written_so = c.written_so })
 
   -- each claim that this is about is kept
-  abbrev KeepsOf : (Identity → Bool) → Type 0
+  abbrev pub KeepsOf : (Identity → Bool) → Type 0
   KeepsOf test = (i : Identity) → test i ≡ true → (slot : Slot) → shelf.slots i ≡ Some slot → slot.worker ≡ u → shelf'.slots i ≡ Some slot
 
   one-stays : (x : Todo) (below : List Todo) → KeepsOf (λ i. is_open_of i x) → Stands shelf u task x below → Stands shelf' u task x below
@@ -70,7 +70,7 @@ module _ (u : ℕ) (task : Task) (shelf shelf' : Shelf) (more : ShelfGrows shelf
 
 module _ (v : ℕ) (task : Task) where
   module _ (shelf : Shelf) (i : Identity) where
-    abbrev IsSlot : Type 0
+    abbrev pub IsSlot : Type 0
     IsSlot = (slot : Slot) × (shelf.slots i ≡ Some slot)
 
     of-claim : (j : Identity) {so : Option Written → Type 0} → HasClaim shelf v j so → is_identity i j ≡ true → IsSlot
@@ -89,13 +89,13 @@ module _ (v : ℕ) (task : Task) where
     of-one (to_fail fault back) below stands is = absurd (cc)
 
     -- what is open has a slot
-    open-slot : (todo : List Todo) → AllStand shelf v task todo → is_open_in i todo ≡ true → IsSlot
+    pub open-slot : (todo : List Todo) → AllStand shelf v task todo → is_open_in i todo ≡ true → IsSlot
     unfolding AllStand is_open_in
     open-slot [] all is = absurd (cc)
     open-slot (x ∷ below) (stands, apart, rest) is = elim (or-cases (is_open_of i x) (is_open_in i below) is) [ inl a ↦ of-one x below stands a | inr b ↦ open-slot below rest b ]
 
   -- each claim without a result is worked at
-  abbrev CoversBy : Shelf → List Todo → Type 0
+  abbrev pub CoversBy : Shelf → List Todo → Type 0
   CoversBy shelf todo = (i : Identity) (slot : Slot) → shelf.slots i ≡ Some slot → slot.worker ≡ v → slot.outcome ≡ no_result → is_open_in i todo ≡ true
 
   -- table and list after a step
@@ -109,7 +109,7 @@ module _ (v : ℕ) (task : Task) where
 
   -- the same slots
   module _ (shelf shelf' : Shelf) (same : (i : Identity) → shelf'.slots i ≡ shelf.slots i) (clean : HasNoFailed shelf v) where
-    plain : (answer : Option WorkerAnswer) (todo : List Todo) → ((a : WorkerAnswer) → answer ≡ Some a → todo ≡ []) → AllStand shelf v task todo → CoversBy shelf todo → Goes shelf answer shelf' todo
+    pub plain : (answer : Option WorkerAnswer) (todo : List Todo) → ((a : WorkerAnswer) → answer ≡ Some a → todo ≡ []) → AllStand shelf v task todo → CoversBy shelf todo → Goes shelf answer shelf' todo
     plain answer todo done all covers =
         record {
           changes = same-slots v shelf shelf' same;
@@ -120,7 +120,7 @@ module _ (v : ℕ) (task : Task) where
           met = λ i slot none there. some-none (sym (same i) ∙ there) none;
         }
 
-    fails : (fault : Fault) (back : Option HandleNumber) → Goes shelf None shelf' (to_fail fault back ∷ [])
+    pub fails : (fault : Fault) (back : Option HandleNumber) → Goes shelf None shelf' (to_fail fault back ∷ [])
     unfolding AllStand is_open_in
     fails fault back =
         record {
@@ -133,7 +133,7 @@ module _ (v : ℕ) (task : Task) where
         }
 
     -- what stands at the front becomes something else about the same claim
-    swaps : (x y : Todo) (below : List Todo) → AllStand shelf v task (x ∷ below) → CoversBy shelf (x ∷ below) → ((i : Identity) → is_open_of i y ≡ is_open_of i x) → (Stands shelf v task x below → Stands shelf v task y below) → Goes shelf None shelf' (y ∷ below)
+    pub swaps : (x y : Todo) (below : List Todo) → AllStand shelf v task (x ∷ below) → CoversBy shelf (x ∷ below) → ((i : Identity) → is_open_of i y ≡ is_open_of i x) → (Stands shelf v task x below → Stands shelf v task y below) → Goes shelf None shelf' (y ∷ below)
     unfolding AllStand is_open_in
     swaps x y below (stands, apart, rest) covers about goes =
         plain None (y ∷ below) (λ a is. absurd (cc)) (goes stands, (λ i is. apart i (sym (about i) ∙ is)), rest) (λ i slot there own still. ap (λ b. b || is_open_in i below) (about i) ∙ covers i slot there own still)
@@ -151,30 +151,30 @@ module _ (v : ℕ) (task : Task) where
     started place [] todo meets all = all
     started place (r ∷ rs) todo meets all = (meets r (zero, refl), (λ i is. absurd (cc)), all)
 
-    started-open : (i : Identity) (place : ℕ) (rs : List ArcRef) (todo : List Todo) → is_open_in i (next_start place rs ++ todo) ≡ is_open_in i todo
+    pub started-open : (i : Identity) (place : ℕ) (rs : List ArcRef) (todo : List Todo) → is_open_in i (next_start place rs ++ todo) ≡ is_open_in i todo
     unfolding is_open_in
     started-open i place [] todo = refl
     started-open i place (r ∷ rs) todo = refl
 
-    settles : (o : Open) (below : List Todo) → AllStand shelf v task (to_finish o ∷ below) → AllStand shelf v task (settle (to_finish o ∷ below))
+    pub settles : (o : Open) (below : List Todo) → AllStand shelf v task (to_finish o ∷ below) → AllStand shelf v task (settle (to_finish o ∷ below))
     unfolding AllStand
     settles o below ((meets, c), apart, rest) =
         started o.place (drop (length o.keys) o.written.references) (to_finish o ∷ below)
           (λ r among. meets-below (identity_of o.reference) c.slot o.written r meets c.claimed c.written_so (among-drop (length o.keys) o.written.references r among)) ((meets, c), apart, rest)
 
-    item-settles : (written : Written) (keys : List ℕ) (below : List Todo) → AllStand shelf v task (to_item written keys ∷ below) → AllStand shelf v task (settle (to_item written keys ∷ below))
+    pub item-settles : (written : Written) (keys : List ℕ) (below : List Todo) → AllStand shelf v task (to_item written keys ∷ below) → AllStand shelf v task (settle (to_item written keys ∷ below))
     unfolding AllStand
     item-settles written keys below ((is, last), apart, rest) =
         started 0 (drop (length keys) written.references) (to_item written keys ∷ below) (λ r among. meets-of-item written r is (among-drop (length keys) written.references r among)) ((is, last), apart, rest)
 
-    gives : (r : ArcRef) (key height : ℕ) (todo : List Todo) → AllStand shelf v task todo → AllStand shelf v task (give r key height todo)
+    pub gives : (r : ArcRef) (key height : ℕ) (todo : List Todo) → AllStand shelf v task todo → AllStand shelf v task (give r key height todo)
     unfolding AllStand
     gives r key height [] all = all
     gives r key height (to_finish o ∷ below) all = settles (record o { keys = o.keys ++ key ∷ []; height = max o.height (above r.kind.0 height) }) below all
     gives r key height (to_item written keys ∷ below) all = item-settles written (keys ++ key ∷ []) below all
     gives r key height (_ ∷ below) all = all
 
-    given-open : (i : Identity) (r : ArcRef) (key height : ℕ) (todo : List Todo) → is_open_in i (give r key height todo) ≡ is_open_in i todo
+    pub given-open : (i : Identity) (r : ArcRef) (key height : ℕ) (todo : List Todo) → is_open_in i (give r key height todo) ≡ is_open_in i todo
     unfolding is_open_in
     given-open i r key height [] = refl
     given-open i r key height (to_finish o ∷ below) =

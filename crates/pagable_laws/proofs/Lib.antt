@@ -29,6 +29,9 @@ mod Once
 mod Standing
 mod Changing
 mod Going
+mod Taking
+mod Claiming
+mod Numbered
 mod Headlines
 mod Working
 mod Doing
