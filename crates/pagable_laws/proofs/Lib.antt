@@ -32,6 +32,7 @@ mod Going
 mod Taking
 mod Claiming
 mod Numbered
+mod Holding
 mod Headlines
 mod Working
 mod Doing
