@@ -14,7 +14,7 @@ use Rattle.pagable_world.specs.Loads.{gone_on}
 use Rattle.pagable_laws.proofs.Standing.{is_open_in, AllStand, Covers, HasNoFailed, HasClaim}
 use Rattle.pagable_laws.proofs.Changing.{puts-slot}
 use Rattle.pagable_laws.proofs.Going.{CoversBy, Goes, plain, fails, swaps, gives, given-open}
-use Rattle.pagable_laws.proofs.Taking.{claimed, written-goes, published-goes, failed-goes}
+use Rattle.pagable_laws.proofs.Turning.{claimed, written-goes, published-goes, failed-goes}
 
 module _ {N B W : Type 0} (m : Seen N B W) (v : ℕ) (task : Task) (s s' : Site) (clean : HasNoFailed s.shelf v) where
   to-list : {answer : Option WorkerAnswer} {todo : List Todo} → s'.todo ≡ todo → Goes v task s.shelf answer s'.shelf todo → Goes v task s.shelf answer s'.shelf s'.todo

@@ -29,10 +29,11 @@ mod Once
 mod Standing
 mod Changing
 mod Going
-mod Taking
+mod Turning
 mod Claiming
 mod Numbered
 mod Holding
+mod Coming
 mod Headlines
 mod Working
 mod Doing
