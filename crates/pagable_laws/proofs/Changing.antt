@@ -1,10 +1,10 @@
 -- What a worker's step does to the slots of its table: each grows, and only those of the worker change.
-use Rattle.std.proofs.Common.{◌≡◌, ℕ, ◌==◌, ◌&&◌, ◌⊎◌, Bool, true, false, refl, ap, sym, subst, ◌∙◌, inl, inr, arith}
+use Rattle.std.proofs.Common.{◌≡◌, ℕ, ◌==◌, ◌⊎◌, Bool, true, false, refl, ap, sym, subst, ◌∙◌, inl, inr, arith}
 use Rattle.std.specs.Prelude.{Option, Some, None, nat_eq, if◌then◌else◌}
 use Rattle.std.proofs.lemmas.Bool.Decides.{nat_tests}
 use Rattle.std.proofs.lemmas.Bool.{and_parts}
 use Rattle.pagable_world.specs.Plain.{Identity, if_there}
-use Rattle.pagable_world.specs.World.{Shelf, Slot, Outcome, no_result, published, failed, Written, Task, is_identity, SameShelf}
+use Rattle.pagable_world.specs.World.{Shelf, Slot, Outcome, failed, Written, Task, is_identity, SameShelf}
 use Rattle.pagable_world.specs.Workers.{with_slot, with_changed_slot, with_outcome, with_failed, is_open_outcome, IsPublished}
 use Rattle.pagable_world.specs.Headline.{Meets, meets-of-item, meets-entry, meets-below}
 

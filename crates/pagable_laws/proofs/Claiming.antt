@@ -1,5 +1,5 @@
 -- Whatever a worker does, what stands of its list and of its table stands afterwards.
-use Rattle.std.proofs.Common.{◌≡◌, ℕ, ◌||◌, true, false, List, [], ◌∷◌, refl, ap, sym, subst, ◌∙◌, Ok, Err}
+use Rattle.std.proofs.Common.{◌≡◌, ℕ, true, List, [], ◌∷◌, refl, ap, sym, subst, ◌∙◌, Ok, Err}
 use Rattle.std.specs.Prelude.{Option, Some, None, is_some}
 use Rattle.pagable_world.specs.Plain.{ArcRef, Identity}
 use Rattle.pagable_world.specs.declared.events.WorkerAnswer.{WorkerAnswer}
@@ -8,8 +8,8 @@ use Rattle.pagable_world.specs.declared.events.PinStep.TheVariants as pinsteps
 use Rattle.pagable_world.specs.declared.events.Took.TheVariants as took
 use Rattle.pagable_world.specs.declared.events.Took.{Took}
 use Rattle.pagable_world.specs.Kinds.{identity_of}
-use Rattle.pagable_world.specs.World.{Shelf, no_result, answer_of_fault, Written, Todo, to_start, to_pin, to_load, to_write, to_finish, to_item, to_set, to_publish, to_release, to_fail, Task, SameShelf, Seen}
-use Rattle.pagable_world.specs.Workers.{Site, Does, Turns, give, give_known, fresh, with_wait, answer_after, IsPublished}
+use Rattle.pagable_world.specs.World.{no_result, answer_of_fault, Written, Todo, to_start, to_pin, to_load, to_write, to_finish, to_item, to_set, to_publish, to_release, to_fail, Task, Seen}
+use Rattle.pagable_world.specs.Workers.{Site, Does, give, give_known, with_wait, answer_after, IsPublished}
 use Rattle.pagable_world.specs.Loads.{gone_on}
 use Rattle.pagable_laws.proofs.Standing.{is_open_in, AllStand, Covers, HasNoFailed, HasClaim}
 use Rattle.pagable_laws.proofs.Changing.{puts-slot}

@@ -1,8 +1,8 @@
 -- What stands of workers and tables stands after each chain.
 use Rattle.std.proofs.Common.{◌≡◌, ℕ, ◌+◌, ◌<◌, ◌≤◌, ◌==◌, ◌||◌, Bool, true, false, List, [], ◌∷◌, refl, ap, sym, subst, ◌∙◌, arith, Ok, Err}
-use Rattle.std.specs.Prelude.{Option, Some, None, nat_eq, is_some, is_none, Result, if◌then◌else◌}
+use Rattle.std.specs.Prelude.{Option, Some, None, nat_eq, is_some, is_none, if◌then◌else◌}
 use Rattle.std.proofs.lemmas.Bool.Decides.{nat_tests}
-use Rattle.pagable_world.specs.Plain.{Identity, LoadNumber, WorkerNumber, updated, Among, times, one}
+use Rattle.pagable_world.specs.Plain.{Identity, WorkerNumber, updated, Among, one}
 use Rattle.pagable_world.specs.declared.events.Event.{Event}
 use Rattle.pagable_world.specs.declared.events.EventReply.{EventReply}
 use Rattle.pagable_world.specs.declared.events.TableNumber.{TableNumber}
@@ -14,14 +14,14 @@ use Rattle.pagable_world.specs.declared.handles.Owner.TheVariants as owners
 use Rattle.pagable_world.specs.declared.events.Event.TheVariants as events
 use Rattle.pagable_world.specs.declared.events.EventReply.TheVariants as answers
 use Rattle.pagable_world.specs.Kinds.{owner_worker, is_owned_by, is_owner}
-use Rattle.pagable_world.specs.World.{Core, Alike, OpenLoad, Shelf, Slot, SameShelf, no_result, Todo, Task, Walking, World, Seen}
-use Rattle.pagable_world.specs.Workers.{Site, is_workers_load, answer_after}
-use Rattle.pagable_world.specs.Events.{Happens, Stays, WorkStays, WorkIs, Starts, Tabled, no_shelf, new_walking, WorkerSteps, Ends}
+use Rattle.pagable_world.specs.World.{Core, Alike, OpenLoad, Shelf, Slot, Todo, Task, Walking, World, Seen}
+use Rattle.pagable_world.specs.Workers.{is_workers_load, answer_after}
+use Rattle.pagable_world.specs.Events.{Happens, Stays, WorkStays, WorkIs, Starts, no_shelf, new_walking, WorkerSteps, Ends}
 use Rattle.pagable_world.specs.Pager.{MachineState, world_of, IsMachineWhole, IsIdle, MayOwnLoad}
 use Rattle.pagable_world.specs.Runs.{Moment, AreMoments, state_after}
 use Rattle.pagable_world.specs.Headline.{TableMeets, HasLetGo}
 use Rattle.pagable_laws.specs.OrderLaws.{WorkIsLeft}
-use Rattle.pagable_laws.proofs.Standing.{WorkStands, WalkingStands, SlotStands, is_failing, is_open_in}
+use Rattle.pagable_laws.proofs.Standing.{WorkStands, WalkingStands, is_failing, is_open_in}
 use Rattle.pagable_laws.proofs.Changing.{SlotChanges, ShelfGrows, grows, same-slots, meets-grow, some-none}
 use Rattle.pagable_laws.proofs.Claiming.{stands-on}
 use Rattle.pagable_laws.proofs.Going.{Goes, all-stay}

@@ -1,18 +1,14 @@
 -- A worker's step keeps what stands of its to-do list and of its table.
-use Rattle.std.proofs.Common.{◌≡◌, ℕ, zero, suc, ◌||◌, ◌⊎◌, Bool, true, false, List, [], ◌∷◌, ◌++◌, refl, ap, sym, subst, ◌∙◌, inl, inr, Ok, Err}
-use Rattle.std.specs.Prelude.{Option, Some, None, is_some, drop, length, max}
-use Rattle.pagable_world.specs.Plain.{ArcRef, Identity, HandleNumber, Among, above, Error}
+use Rattle.std.proofs.Common.{◌≡◌, ℕ, zero, suc, ◌||◌, ◌⊎◌, Bool, true, false, List, [], ◌∷◌, ◌++◌, refl, ap, sym, ◌∙◌, inl, inr}
+use Rattle.std.specs.Prelude.{Option, Some, None, drop, length, max}
+use Rattle.pagable_world.specs.Plain.{ArcRef, Identity, HandleNumber, Among, above}
 use Rattle.pagable_world.specs.declared.events.WorkerAnswer.{WorkerAnswer}
-use Rattle.pagable_world.specs.declared.events.Claim.TheVariants as claims
-use Rattle.pagable_world.specs.declared.events.PinStep.TheVariants as pinsteps
-use Rattle.pagable_world.specs.declared.events.Took.TheVariants as took
-use Rattle.pagable_world.specs.declared.events.Took.{Took}
 use Rattle.pagable_world.specs.Kinds.{identity_of}
-use Rattle.pagable_world.specs.World.{Shelf, Slot, no_result, published, failed, Written, Open, Fault, was_failed, Todo, to_start, to_pin, to_load, to_write, to_finish, to_item, to_set, to_publish, to_release, to_fail, Task, of_item, of_entry, is_identity, SameShelf, Seen}
-use Rattle.pagable_world.specs.Workers.{Site, Does, next_start, place_below, settle, give, give_known, open_node, failing, failing_by, entry_left, with_wait, with_outcome, is_open_outcome, answer_after, item_answer, IsPublished}
-use Rattle.pagable_world.specs.Headline.{Meets, meets-of-item, meets-entry, meets-below}
-use Rattle.pagable_laws.proofs.Standing.{is_open_of, is_open_in, is_failing, is_failed, HasClaim, IsMetClaim, Stands, AllStand, Covers, HasNoFailed}
-use Rattle.pagable_laws.proofs.Changing.{SlotGrows, Changes, ShelfGrows, some-same, some-none, grows, meets-grow, published-stays, same-slots, is-self, is-same, PutsSlot, puts-slot, changes-slot, put-cases, puts-new, puts-own, outcome-grows, all-failed, none-fails, fails-own}
+use Rattle.pagable_world.specs.World.{Shelf, Slot, no_result, Written, Open, Fault, Todo, to_start, to_pin, to_load, to_write, to_finish, to_item, to_set, to_publish, to_release, to_fail, Task, is_identity}
+use Rattle.pagable_world.specs.Workers.{next_start, settle, give}
+use Rattle.pagable_world.specs.Headline.{Meets, meets-of-item, meets-below}
+use Rattle.pagable_laws.proofs.Standing.{is_open_of, is_open_in, is_failing, HasClaim, IsMetClaim, Stands, AllStand, Covers, HasNoFailed}
+use Rattle.pagable_laws.proofs.Changing.{Changes, ShelfGrows, some-none, grows, meets-grow, published-stays, same-slots, is-self, is-same}
 
 -- ---- or
 

@@ -1,14 +1,13 @@
 -- What stands of all workers and tables goes on to stand, by what an event does to them.
-use Rattle.std.proofs.Common.{◌≡◌, ℕ, ◌+◌, ◌<◌, ◌≤◌, ◌==◌, ◌||◌, Bool, true, false, List, [], ◌∷◌, refl, ap, sym, subst, ◌∙◌, arith, zero}
-use Rattle.std.specs.Prelude.{Option, Some, None, nat_eq, if◌then◌else◌, is_none}
+use Rattle.std.proofs.Common.{◌≡◌, ℕ, ◌<◌, ◌≤◌, Bool, true, false, [], refl, ap, sym, subst, ◌∙◌, arith}
+use Rattle.std.specs.Prelude.{Option, Some, None, nat_eq}
 use Rattle.std.proofs.lemmas.Bool.Decides.{nat_tests}
-use Rattle.pagable_world.specs.Plain.{ArcRef, Identity, updated}
-use Rattle.pagable_world.specs.declared.events.WorkerAnswer.{WorkerAnswer}
-use Rattle.pagable_world.specs.World.{Shelf, Slot, SameShelf, Todo, to_item, Task, of_item, of_entry, Walking}
+use Rattle.pagable_world.specs.Plain.{Identity}
+use Rattle.pagable_world.specs.World.{Shelf, Slot, Task, of_item, of_entry, Walking}
 use Rattle.pagable_world.specs.Workers.{first_todo}
 use Rattle.pagable_world.specs.Headline.{Meets, meets-entry}
-use Rattle.pagable_laws.proofs.Standing.{AllStand, Covers, HasNoFailed, is_failing, is_open_in, WalkingStands, SlotStands, WorkStands}
-use Rattle.pagable_laws.proofs.Changing.{SlotGrows, Changes, ShelfGrows, stays, is-new, is-changed, some-same, some-none, grows, others-stay, others-were, meets-grow, same-slots}
+use Rattle.pagable_laws.proofs.Standing.{AllStand, is_open_in, WalkingStands, SlotStands, WorkStands}
+use Rattle.pagable_laws.proofs.Changing.{Changes, ShelfGrows, stays, is-new, is-changed, some-same, some-none, grows, others-stay, others-were, meets-grow, same-slots}
 use Rattle.pagable_laws.proofs.Going.{Goes, all-stay, item-settles}
 
 same-number : (a b : ℕ) → nat_eq a b ≡ true → a ≡ b

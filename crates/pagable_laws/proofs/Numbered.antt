@@ -1,6 +1,6 @@
 -- No call, and no step of a load or of a worker, gives a worker a number.
 use Rattle.std.proofs.Common.{◌≡◌, ℕ, Bool, true, false, List, [], ◌∷◌, refl, ap, ◌∙◌, inl, inr, Ok, Err}
-use Rattle.std.specs.Prelude.{Option, Some, None, Result, if◌then◌else◌, ◌⊎◌}
+use Rattle.std.specs.Prelude.{Option, Some, None, Result, if◌then◌else◌}
 use Rattle.pagable_world.specs.Plain.{Error, Kind, ArcRef, HandleNumber, LoadNumber, NodeNumber, OptionalDataKey, Blob}
 use Rattle.pagable_world.specs.declared.handles.HandleRow.{HandleRow}
 use Rattle.pagable_world.specs.declared.handles.Owner.{Owner}
@@ -25,8 +25,8 @@ use Rattle.pagable_world.specs.Kinds.{owner_worker}
 use Rattle.pagable_world.specs.World.{Core, Alike, Reading, Frame, Values, Seen, Todo, to_start, to_pin, to_load, to_write, to_finish, to_item, to_set, to_publish, to_release, to_fail}
 use Rattle.pagable_world.specs.Cascade.{Falls, FallsAnyhow}
 use Rattle.pagable_world.specs.Refusals.{Refused}
-use Rattle.pagable_world.specs.Calls.{IsRefused, BirthCall, AwayBirthCall, CloneCall, PinCall, UnpinCall, LetsGo, ReleaseCall, LoosenCall, SetKeyCall, SetsKey, ScheduleCall, Schedules, TakeCall, RecallCall, Recalls, OfferCall, Offers, FetchCall, StoreCall, with_cached_if_open, with_cached}
-use Rattle.pagable_world.specs.LoadCalls.{BeginCall, Begins, BeginKeyCall, BeginsKey, Given, from_cache, from_store, AskCall, Asks, AsksInVain, GetsKnown, Adopts, AdoptCall, adopted, LazyCall, EndCall, EndRefused, HandOverCall, DropCall, LoadCloses}
+use Rattle.pagable_world.specs.Calls.{IsRefused, BirthCall, AwayBirthCall, CloneCall, PinCall, LetsGo, LoosenCall, SetKeyCall, SetsKey, ScheduleCall, Schedules, TakeCall, RecallCall, OfferCall, Offers, FetchCall, StoreCall, with_cached_if_open, with_cached}
+use Rattle.pagable_world.specs.LoadCalls.{BeginCall, Begins, BeginKeyCall, Given, from_cache, from_store, AskCall, GetsKnown, AdoptCall, adopted, LazyCall, EndCall, HandOverCall}
 use Rattle.pagable_world.specs.Loads as loads
 use Rattle.pagable_world.specs.Events as events
 use Rattle.pagable_world.specs.Workers as workers

@@ -1,10 +1,10 @@
 -- What stands of each worker's to-do list and of the slots of its table after each event, without trees: the invariant of chains.
-use Rattle.std.proofs.Common.{◌≡◌, ℕ, ◌≤◌, ◌||◌, ◌==◌, Bool, true, false, List, [], ◌∷◌}
+use Rattle.std.proofs.Common.{◌≡◌, ℕ, ◌≤◌, ◌||◌, Bool, true, false, List, [], ◌∷◌}
 use Rattle.std.specs.Prelude.{Option, Some, None, is_some}
 use Rattle.pagable_world.specs.Plain.{Identity}
 use Rattle.pagable_world.specs.declared.events.WorkerAnswer.{WorkerAnswer}
 use Rattle.pagable_world.specs.Kinds.{identity_of}
-use Rattle.pagable_world.specs.World.{Shelf, Slot, Outcome, no_result, published, failed, Written, Todo, to_start, to_pin, to_load, to_write, to_finish, to_item, to_set, to_publish, to_release, to_fail, Task, of_item, Walking, is_identity}
+use Rattle.pagable_world.specs.World.{Shelf, Slot, Outcome, no_result, failed, Written, Todo, to_start, to_pin, to_load, to_write, to_finish, to_item, to_set, to_publish, to_release, to_fail, Task, of_item, Walking, is_identity}
 use Rattle.pagable_world.specs.Workers.{IsPublished}
 use Rattle.pagable_world.specs.Headline.{Meets}
 

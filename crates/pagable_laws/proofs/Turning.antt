@@ -1,19 +1,15 @@
 -- Each kind of a worker's step: what it does to its list and to the slots.
-use Rattle.std.proofs.Common.{◌≡◌, ℕ, ◌||◌, ◌⊎◌, Bool, true, false, List, [], ◌∷◌, refl, ap, sym, subst, ◌∙◌, inl, inr, Ok, Err}
-use Rattle.std.specs.Prelude.{Option, Some, None, is_some, drop, length}
-use Rattle.pagable_world.specs.Plain.{ArcRef, Identity, HandleNumber, Among}
+use Rattle.std.proofs.Common.{◌≡◌, ℕ, ◌||◌, Bool, true, false, List, [], ◌∷◌, refl, ap, sym, subst, ◌∙◌, inl, inr}
+use Rattle.std.specs.Prelude.{Some, None, drop}
+use Rattle.pagable_world.specs.Plain.{ArcRef, Identity, HandleNumber}
 use Rattle.pagable_world.specs.declared.events.WorkerAnswer.{WorkerAnswer}
-use Rattle.pagable_world.specs.declared.events.Claim.TheVariants as claims
-use Rattle.pagable_world.specs.declared.events.PinStep.TheVariants as pinsteps
-use Rattle.pagable_world.specs.declared.events.Took.TheVariants as took
-use Rattle.pagable_world.specs.declared.events.Took.{Took}
 use Rattle.pagable_world.specs.Kinds.{identity_of}
-use Rattle.pagable_world.specs.World.{Shelf, Slot, Outcome, no_result, published, Written, Open, Fault, was_failed, was_refused, Todo, to_start, to_pin, to_load, to_write, to_finish, to_item, to_set, to_publish, to_release, to_fail, Task, is_identity, SameShelf, Seen}
-use Rattle.pagable_world.specs.Workers.{Site, Does, give, give_known, open_node, failing, entry_left, with_slot, with_wait, with_changed_slot, with_failed, with_outcome, answer_after, IsPublished, is_open_outcome}
+use Rattle.pagable_world.specs.World.{Shelf, Slot, no_result, published, Written, Open, Todo, to_start, to_pin, to_write, to_finish, to_publish, to_release, Task, is_identity, SameShelf}
+use Rattle.pagable_world.specs.Workers.{open_node, with_changed_slot, with_failed, with_outcome, is_open_outcome}
 use Rattle.pagable_world.specs.Headline.{Meets}
-use Rattle.pagable_laws.proofs.Standing.{is_open_of, is_open_in, is_failing, is_failed, HasClaim, AllStand, Covers, HasNoFailed}
-use Rattle.pagable_laws.proofs.Changing.{SlotGrows, ShelfGrows, Changes, some-same, some-none, grows, meets-grow, is-self, is-same, PutsSlot, puts-slot, changes-slot, put-cases, puts-new, puts-own, outcome-grows, all-failed, none-fails, fails-own}
-use Rattle.pagable_laws.proofs.Going.{or-left, or-right, true-false, not-true, all-stay, open-slot, CoversBy, Goes, plain, fails, swaps, settles, gives, given-open, started-open}
+use Rattle.pagable_laws.proofs.Standing.{is_open_in, is_failing, is_failed, AllStand, HasNoFailed}
+use Rattle.pagable_laws.proofs.Changing.{SlotGrows, ShelfGrows, Changes, some-none, grows, meets-grow, is-self, is-same, PutsSlot, changes-slot, put-cases, puts-new, puts-own, outcome-grows, all-failed, none-fails, fails-own}
+use Rattle.pagable_laws.proofs.Going.{or-left, or-right, true-false, not-true, all-stay, open-slot, CoversBy, Goes, settles, started-open}
 
 -- what is open about the identity itself
 open-self : (i j : Identity) (rest : Bool) → j ≡ i → (is_identity j i || rest) ≡ true
