@@ -2,7 +2,7 @@
 """Picks rows of what the original crate writes and reads, as data of `rows` and as the answers that they have to get.
 
     tools/original_rows.py data original.jsonl > crates/rows/data/original.txt
-    tools/original_rows.py answers original.jsonl     # the part of crates/rows/stdout that begins with the same comment
+    tools/original_rows.py answers original.jsonl     # the part of crates/rows/stdout behind that of by_hand.txt
 
 Each line of the input is a JSON object: a value that the original wrote ("op": "enc"), an input that it read ("op":
 "dec"), or a tree of blobs that it stored ("op": "blob"). docs/PROOFS.md says what the lines of the output mean. A type is
@@ -48,7 +48,7 @@ WRITTEN, READ, BLOBS = 5, 8, 12
 LONGEST_INPUT = 44
 
 # How many columns the inputs of a line or their answers may fill before another line begins.
-COLUMNS = 130
+COLUMNS = 190
 
 
 def split(text):
@@ -236,7 +236,8 @@ def bounds(name, rows):
         key = (len(data), name in SIGNED and len(data) > 1 and number % 2)
         least, greatest = best.get(key, ((number, data, answer),) * 2)
         best[key] = min(least, (number, data, answer)), max(greatest, (number, data, answer))
-    return list(dict.fromkeys(pair[1:] for pairs in best.values() for pair in pairs))
+    longest = max(length for length, _ in best)
+    return list(dict.fromkeys(pair[1:] for (length, _), pairs in best.items() if length < 4 or length == longest for pair in pairs))
 
 
 def value_of(data):
@@ -287,7 +288,8 @@ def main():
                 blobs.update(dict.fromkeys(map(blob_row, line["blobs"])))
             elif line.get("type") in CARRIED and not line.get("differs"):
                 lines.setdefault(line["type"], []).append(line)
-    print("# What the original crate wrote and read, by tools/original_rows.py.")
+    if word == "data":
+        print("# What the original crate wrote and read, by tools/original_rows.py.")
     for name in CARRIED:
         rows = [(data.hex() or "-", answer) for data, answer in rows_of(name, lines.get(name, []))]
         print_lines(word, f"{name} read", rows)

@@ -1,7 +1,7 @@
 #!/usr/bin/env python3
 """Rows of calls and events, as the program `rows` reads them, answered by a plain pager or drawn from a seed.
 
-    plain_rows.py answers FILE             prints the answer to each row of the file, as `rows` has to; comments stay
+    plain_rows.py answers FILE             prints the answer to each row of the file that has one, as `rows` has to
     plain_rows.py draw SEED COUNT [looks]  prints a new machine, COUNT drawn lists of events and a look; or lists of one event
                                            with a look after each
 
@@ -172,8 +172,7 @@ def main(words):
     if len(words) == 2 and words[0] == "answers":
         rows = Rows()
         with open(words[1], encoding="utf-8") as lines:
-            for line in lines.read().splitlines():
-                print(line if line.startswith("#") else rows.answer(line) if line else "")
+            print("\n".join(filter(None, (rows.answer(line) for line in lines.read().splitlines() if line[:1] not in ("", "#")))))
     elif len(words) >= 3 and words[0] == "draw":
         print("\n".join(Draw(int(words[1])).rows(int(words[2]), "looks" in words)))
     else:

@@ -3,8 +3,8 @@ mod Basic
 mod Putting
 mod Within
 mod Readable
-mod Again
-mod Prefix
+pub mod Again
+pub mod Prefix
 mod OneForm
 mod Preimages
 mod Along
