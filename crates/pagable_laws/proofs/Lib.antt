@@ -26,6 +26,14 @@ mod Joining
 mod Telling
 mod Nexts
 mod Once
+mod Standing
+mod Changing
+mod Going
+mod Turning
+mod Claiming
+mod Numbered
+mod Holding
+mod Coming
 mod Headlines
 mod Working
 mod Doing

@@ -4,6 +4,7 @@
 
 pub mod runs;
 pub mod keys;
+pub mod order;
 pub mod values;
 pub mod worked;
 pub mod world;
