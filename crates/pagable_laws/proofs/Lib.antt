@@ -45,3 +45,6 @@ mod Stepping
 mod Publishing
 mod Answering
 mod Taking
+mod Tested
+mod Whole
+mod States

@@ -13,3 +13,4 @@ pub mod MetLaws
 pub mod TreeSteps
 pub mod ReadLaws
 pub mod PageOutLaws
+pub mod TwoLevels
