@@ -26,6 +26,14 @@ mod Joining
 mod Telling
 mod Nexts
 mod Once
+mod Standing
+mod Changing
+mod Going
+mod Turning
+mod Claiming
+mod Numbered
+mod Holding
+mod Coming
 mod Headlines
 mod Working
 mod Doing
@@ -44,3 +52,6 @@ mod Brought
 mod Staying
 mod Lasting
 mod Chains
+mod Tested
+mod Whole
+mod States
