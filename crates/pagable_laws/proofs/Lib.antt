@@ -25,6 +25,7 @@ mod Two
 mod Joining
 mod Telling
 mod Nexts
+mod Goes
 mod Once
 mod Headlines
 mod Working

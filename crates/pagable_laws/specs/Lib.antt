@@ -9,3 +9,5 @@ pub mod RunLaws
 pub mod SmallMoments
 pub mod SmallWork
 pub mod MetLaws
+pub mod StepLaws
+pub mod TreeSteps

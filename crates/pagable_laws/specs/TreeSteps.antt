@@ -1,0 +1,239 @@
+-- version 1 (of the clone trees): what trees feel of a step, as the laws' proofs divide it.
+-- What trees feel of a step: which node gets a key, becomes known or is born, which values come, and how blobs that loads read grow. And what a value
+-- and a node lead to by their own references alone, where each node has its tree.
+use Rattle.std.specs.Prelude.{ℕ, ◌≡◌, ◌<◌, ◌≤◌, ◌+◌, ◌⊎◌, true, false, List, [], ◌∷◌, Option, Some, None, is_some, ℤ, Ok, length, slice_get}
+use Rattle.pagable_model.specs.Meaning.{number, integer, text, pattern, none, pair, variant, reference, followed}
+use Rattle.pagable_model.specs.declared.data_key.OptionalDataKey.TheVariants as optional
+use Rattle.pagable_world.specs.declared.handles.Owner.TheVariants as owners
+use Rattle.pagable_world.specs.declared.calls.Call.TheVariants as calls
+use Rattle.pagable_world.specs.declared.calls.Reply.TheVariants as replies
+use Rattle.pagable_world.specs.declared.answers.Pinning.TheVariants as pinnings
+use Rattle.pagable_world.specs.declared.events.LoadAnswer.TheVariants as ends
+use Rattle.pagable_world.specs.declared.events.PinStep.TheVariants as pinsteps
+use Rattle.pagable_world.specs.declared.events.Took.TheVariants as took
+use Rattle.pagable_world.specs.declared.events.Event.TheVariants as events
+use Rattle.pagable_world.specs.declared.events.EventReply.TheVariants as answers
+use Rattle.pagable_world.specs.Plain.{OptionalDataKey, ArcRef, Kind, HandleNumber, LoadNumber, NodeNumber, WorkerNumber, Identity, Blob, Meaning, Tree, Types, ReadsTree, type_of, Among}
+use Rattle.pagable_world.specs.declared.handles.Owner.{Owner}
+use Rattle.pagable_world.specs.declared.handles.HandleRow.{HandleRow}
+use Rattle.pagable_world.specs.declared.calls.Call.{Call}
+use Rattle.pagable_world.specs.declared.calls.Reply.{Reply}
+use Rattle.pagable_world.specs.declared.events.LoadAnswer.{LoadAnswer}
+use Rattle.pagable_world.specs.declared.events.Event.{Event}
+use Rattle.pagable_world.specs.declared.events.EventReply.{EventReply}
+use Rattle.pagable_world.specs.Kinds.{is_pinning, is_loose, any_mode, fits_mode, owner_worker}
+use Rattle.pagable_world.specs.World.{Core, OpenLoad, of_cell, Frame, Reading, Todo, to_load, to_set, Walking, World, row_at, type_at, key_at, is_here, Values}
+use Rattle.pagable_world.specs.Refusals.{Owns, IsReference}
+use Rattle.pagable_world.specs.LoadCalls.{first_key}
+use Rattle.pagable_world.specs.Loads.{IsDecoded, ReadsNode, ReadsRoot, asks, next_in, need_of, needs_nested, needs_lazy, root_frame, nested_frame, with_got, gone_on}
+use Rattle.pagable_world.specs.Events.{reading_at}
+use Rattle.pagable_world.specs.Pager.{PagerState, MachineState, world_of, KeyFits, IsNewNode, CallBrings, EventBrings, IsReadingOf, FrameFits}
+
+-- the meaning leads to this one, where each node has its tree: each reference is followed to its node's tree, which is of the kind's type
+pub data LeadsTo (trees : ℕ → Tree) : Meaning ArcRef → Meaning ⊥ → Type 0 where
+  number-leads : (i : ℕ) → LeadsTo trees (number i) (number i)
+  integer-leads : (z : ℤ) → LeadsTo trees (integer z) (integer z)
+  text-leads : (t : List ℕ) → LeadsTo trees (text t) (text t)
+  pattern-leads : (t : List ℕ) → LeadsTo trees (pattern t) (pattern t)
+  none-leads : LeadsTo trees none none
+  pair-leads : (x y : Meaning ArcRef) (a b : Meaning ⊥) → LeadsTo trees x a → LeadsTo trees y b → LeadsTo trees (pair x y) (pair a b)
+  variant-leads : (i : ℕ) (x : Meaning ArcRef) (a : Meaning ⊥) → LeadsTo trees x a → LeadsTo trees (variant i x) (variant i a)
+  followed-leads : (kind : ℕ) (x : Meaning ArcRef) (a : Meaning ⊥) → LeadsTo trees x a → LeadsTo trees (followed kind x) (followed kind a)
+  reference-leads : (r : ArcRef) (a : Meaning ⊥) → (trees r.node.0).type ≡ type_of r.kind.0 → (trees r.node.0).meaning ≡ a → LeadsTo trees (reference r) (followed r.kind.0 a)
+
+-- a value leads to the tree
+pub record ValueLeads {N : Type 0} (v : Values N) (trees : ℕ → Tree) (x : N) (t : Tree) : Type 0 where
+  pub own : Meaning ArcRef
+  pub typed : v.node_type x ≡ t.type
+  pub means : v.means x own
+  pub leads : LeadsTo trees own t.meaning
+
+-- a node leads to its tree: its key reads as that, and its value leads there
+pub record NodeLeads {N E : Type 0} (v : Values N) (s : PagerState N E) (trees : ℕ → Tree) (n : ℕ) : Type 0 where
+  pub keyed : KeyFits v s n (trees n)
+  pub valued : (x : N) → s.values n ≡ Some x → ValueLeads v trees x (trees n)
+
+-- what a step changes that trees feel: at most one of these
+pub data Change : Type 0 where
+  nothing_felt : Change
+  -- a node has this key from now on
+  sets_key : (n key : ℕ) → Change
+  -- the cache knows the node under kind and key
+  knows_node : (kind key n : ℕ) → Change
+  -- the next node is there, of this type and with this key
+  bears_node : (t : ℕ) (own : OptionalDataKey) → Change
+  -- the next node is there, of the kind's type and with this key of its own, and the cache may know it under kind and key
+  bears_known : (kind key : ℕ) (own : OptionalDataKey) → Change
+
+abbrev pub Sets : Change → ℕ → ℕ → Type 0
+Sets (sets_key m k) n key = (n ≡ m) × (key ≡ k)
+Sets change n key = ⊥
+
+abbrev pub Knows : Change → Core → ℕ → ℕ → ℕ → Type 0
+Knows (knows_node k q m) w kind key n = (kind ≡ k) × (key ≡ q) × (n ≡ m)
+Knows (bears_known k q own) w kind key n = (kind ≡ k) × (key ≡ q) × (n ≡ w.last.node + 1)
+Knows change w kind key n = ⊥
+
+abbrev pub Bears : Change → ℕ → OptionalDataKey → Type 0
+Bears (bears_node t own) type key = (type ≡ t) × (key ≡ own)
+Bears (bears_known k q own) type key = (type ≡ type_of k) × (key ≡ own)
+Bears change type key = ⊥
+
+-- a load that has begun of a cell reads the key that its cell has, and is of its type
+abbrev pub BeginsWell : Core → OpenLoad → Type 0
+BeginsWell w load = (node : NodeNumber) (t : ℕ) (h : HandleNumber) → load.root ≡ of_cell node t h → (type_at w node.0 ≡ Some t) × (key_at w node.0 ≡ optional.Some load.key)
+
+-- a node that was there is the same, but for a key that it may get
+pub record SameNode (c : Change) (w w' : Core) (n : ℕ) : Type 0 where
+  pub was : is_some (w.cells n) ≡ true
+  pub typed : type_at w' n ≡ type_at w n
+  pub key : (key_at w' n ≡ key_at w n) ⊎ ((key : ℕ) × Sets c n key × (key_at w' n ≡ optional.Some key))
+
+-- a node that wasn't there is the next one
+pub record NewNode (c : Change) (w w' : Core) (n : ℕ) : Type 0 where
+  pub t : ℕ
+  pub own : OptionalDataKey
+  pub born : Bears c t own
+  pub next : n ≡ w.last.node + 1
+  pub typed : type_at w' n ≡ Some t
+  pub key : key_at w' n ≡ own
+
+-- What trees feel of what a step does to the plain world. The storage isn't closed by it.
+pub record CoreGoes (c : Change) (w w' : Core) : Type 0 where
+  pub nodes : w.last.node ≤ w'.last.node
+  pub handles : w.last.handle ≤ w'.last.handle
+  pub loads_last : w.last.load ≤ w'.last.load
+  pub old : (n : ℕ) → n ≤ w.last.node → is_some (w'.cells n) ≡ true → SameNode c w w' n
+  pub new : (n : ℕ) → w.last.node < n → is_some (w'.cells n) ≡ true → NewNode c w w' n
+  pub stored : (q : ℕ) (b : Blob) → w.stored q ≡ Some b → w'.stored q ≡ Some b
+  pub loads : (l : ℕ) (load : OpenLoad) → w'.loads l ≡ Some load → (w.loads l ≡ Some load) ⊎ ((w.last.load < l) × BeginsWell w load)
+  pub cache : (kind key n : ℕ) → w'.cache kind key ≡ Some n → (w.cache kind key ≡ Some n) ⊎ Knows c w kind key n
+  -- a handle stays at its node, and one that a load owns is as it was
+  pub rows : (h : HandleNumber) (row : HandleRow) → row_at w' h ≡ Some row → h.0 ≤ w.last.handle → (was : HandleRow) × (row_at w h ≡ Some was) × (was.node ≡ row.node)
+  pub load_rows : (h : HandleNumber) (row : HandleRow) (l : LoadNumber) → row_at w' h ≡ Some row → row.owner ≡ owners.Load l → h.0 ≤ w.last.handle → row_at w h ≡ Some row
+
+-- each of these references names a handle of the owner's, as it should
+abbrev pub AreGood : Core → Owner → List ArcRef → Type 0
+AreGood w owner references = (r : ArcRef) → Among references r → IsReference w owner r
+
+-- the value can't come to the node: that has none afterwards either
+abbrev pub StaysAway : Core → Core → ℕ → Type 0
+StaysAway w w' n = is_here w n ≡ false → is_some (w'.cells n) ≡ true → is_here w' n ≡ false
+
+-- What trees feel of a call. A value comes to a new node only where one is born, and to an old one only by the end of a load.
+pub data CallFeels {N B : Type 0} (v : Values N) (w : Core) (me : Owner) (call : Call N B) (reply : Reply N B) (w' : Core) : Change → Type 0 where
+  feels-nothing : ((n : ℕ) (x : N) → CallBrings w call n x → IsNewNode w n ⊎ StaysAway w w' n) → CallFeels v w me call reply w' nothing_felt
+  feels-birth : (x : N) → ((n : ℕ) (y : N) → CallBrings w call n y → (y ≡ x) × IsNewNode w n) → AreGood w me (v.references x) → CallFeels v w me call reply w' (bears_node (v.node_type x) optional.None)
+  feels-away : (t key : ℕ) (k : HandleNumber) → call ≡ calls.NewPagedOut t key → reply ≡ replies.Handle (Ok k) → CallFeels v w me call reply w' (bears_node t (optional.Some key))
+  feels-key : (h : HandleNumber) (key : ℕ) (row : HandleRow) → call ≡ calls.SetDataKey h key → Owns w me h is_loose row → CallFeels v w me call reply w' (sets_key row.node.0 key)
+  feels-known : (kind : Kind) (key : ℕ) (h : HandleNumber) (row : HandleRow) → call ≡ calls.OnArcDeserialized kind key h → reply ≡ replies.FromCache (Ok None) → Owns w me h any_mode row
+      → type_at w row.node.0 ≡ Some (type_of kind.0) → CallFeels v w me call reply w' (knows_node kind.0 key row.node.0)
+  feels-adopted : (l : LoadNumber) (kind : Kind) (key : ℕ) (x : N) (k : HandleNumber) → call ≡ calls.LoadAdopt l kind key x → reply ≡ replies.Made (Ok k) → v.node_type x ≡ type_of kind.0
+      → AreGood w (owners.Load l) (v.references x) → CallFeels v w me call reply w' (bears_known kind.0 key (first_key kind.0 key))
+  feels-lazy : (l : LoadNumber) (kind : Kind) (key : ℕ) (k : HandleNumber) → call ≡ calls.LoadLazy l kind key → reply ≡ replies.Handle (Ok k) → CallFeels v w me call reply w' (bears_known kind.0 key (optional.Some key))
+  feels-end : (l : LoadNumber) (x : N) (k : HandleNumber) → call ≡ calls.LoadEnd l x → reply ≡ replies.LoadEnded (Ok k) → AreGood w (owners.Load l) (v.references x) → CallFeels v w me call reply w' nothing_felt
+
+-- the row of a handle that a load has got now, of this node
+pub record GetsRow (w w' : Core) (kind : Kind) (n : ℕ) (row : HandleRow) : Type 0 where
+  pub live : row_at w' row.number ≡ Some row
+  pub at : row.node.0 ≡ n
+  pub new : w.last.handle < row.number.0
+  pub given : row.number.0 ≤ w'.last.handle
+  pub fits : fits_mode kind.0 row.mode ≡ true
+
+-- What trees feel of a load's step.
+pub data ReadingFeels {N : Type 0} (v : Values N) (w : Core) (reading : Reading) (answer : Option (LoadAnswer N)) (frames : List Frame) (w' : Core) : Change → Type 0 where
+  reads-root : (load : OpenLoad) (blob : Blob) → reading.frames ≡ [] → w.loads reading.load.0 ≡ Some load → w.stored load.key ≡ Some blob → answer ≡ None → frames ≡ root_frame load.key reading.node_type blob ∷ []
+      → ReadingFeels v w reading answer frames w' nothing_felt
+  reads-blob : (kind : Kind) (key : ℕ) (blob : Blob) → need_of v.types reading.frames ≡ needs_nested kind key → w.stored key ≡ Some blob → answer ≡ None → frames ≡ nested_frame kind key blob ∷ reading.frames
+      → ReadingFeels v w reading answer frames w' nothing_felt
+  gets-known : (kind : Kind) (key n : ℕ) (row : HandleRow) → (need_of v.types reading.frames ≡ needs_nested kind key) ⊎ (need_of v.types reading.frames ≡ needs_lazy kind key) → w.cache kind.0 key ≡ Some n → GetsRow w w' kind n row
+      → answer ≡ None → frames ≡ with_got kind row reading.frames → ReadingFeels v w reading answer frames w' nothing_felt
+  gets-lazy : (kind : Kind) (key : ℕ) (row : HandleRow) → need_of v.types reading.frames ≡ needs_lazy kind key → GetsRow w w' kind (w.last.node + 1) row → answer ≡ None → frames ≡ with_got kind row reading.frames
+      → ReadingFeels v w reading answer frames w' (bears_known kind.0 key (optional.Some key))
+  makes-known : (x : N) (reads : ReadsNode v reading x) (n : ℕ) (row : HandleRow) → w.cache reads.top.kind.0 reads.top.key ≡ Some n → GetsRow w w' reads.top.kind n row
+      → answer ≡ None → frames ≡ with_got reads.top.kind row reads.below → ReadingFeels v w reading answer frames w' nothing_felt
+  makes-node : (x : N) (reads : ReadsNode v reading x) (row : HandleRow) → GetsRow w w' reads.top.kind (w.last.node + 1) row
+      → answer ≡ None → frames ≡ with_got reads.top.kind row reads.below → ReadingFeels v w reading answer frames w' (bears_known reads.top.kind.0 reads.top.key (first_key reads.top.kind.0 reads.top.key))
+  reading-ends : (end : LoadAnswer N) → answer ≡ Some end → frames ≡ [] → ReadingFeels v w reading answer frames w' nothing_felt
+
+-- the readings that there are afterwards were there, or have just begun
+abbrev pub KeepsReadings : World → World → Type 0
+KeepsReadings u u' = (reading : Reading) → IsReadingOf u'.work reading → IsReadingOf u.work reading ⊎ ((reading.frames ≡ []) × (reading.load.0 ≤ u'.core.last.load))
+
+-- they were there, or this one went on
+abbrev pub StepsReading : {N : Type 0} → World → Reading → Option (LoadAnswer N) → List Frame → World → Type 0
+StepsReading u reading answer frames u' = (after : Reading) → IsReadingOf u'.work after → IsReadingOf u.work after ⊎ ((answer ≡ None) × (after ≡ gone_on reading frames))
+
+-- the reading that makes the event's step: it is one of the machine's, or has just begun at an open load
+abbrev pub IsSteppedReading : {N B W : Type 0} → World → Event N B W → Reading → Type 0
+IsSteppedReading u (events.LoadStep l) reading = (reading_at u l ≡ Some reading) × (IsReadingOf u.work reading ⊎ ((reading.frames ≡ []) × (reading.load.0 ≤ u.core.last.load)))
+IsSteppedReading u (events.WorkerStep k) reading =
+    (walking : Walking) × (r : ArcRef) × (place : ℕ) × (through : HandleNumber) × (below : List Todo) × (u.work.walkings k.0 ≡ Some walking) × (walking.todo ≡ to_load r place through reading ∷ below)
+IsSteppedReading u event reading = ⊥
+
+-- the worker sets the key through its own loose handle
+pub record SetsThrough (u : World) (k : WorkerNumber) (key : ℕ) (row : HandleRow) : Type 0 where
+  pub walking : Walking
+  pub r : ArcRef
+  pub through : HandleNumber
+  pub height : ℕ
+  pub below : List Todo
+  pub there : u.work.walkings k.0 ≡ Some walking
+  pub sets : walking.todo ≡ to_set r through key height ∷ below
+  pub live : row_at u.core through ≡ Some row
+  pub own : row.owner ≡ owner_worker k.0
+  pub loose : is_loose row.mode ≡ true
+
+-- What trees feel of an event. The values of a step that isn't a call or a load's come to no node.
+pub data EventFeels {N B W : Type 0} (v : Values N) (u : World) (event : Event N B W) (reply : EventReply N B W) (u' : World) : Change → Type 0 where
+  by-call : (c : Change) (call : Call N B) (answer : Reply N B) → event ≡ events.Call call → reply ≡ answers.CallReply answer → CallFeels v u.core owners.Caller call answer u'.core c → KeepsReadings u u' → EventFeels v u event reply u' c
+  by-reading : (c : Change) (reading : Reading) (answer : Option (LoadAnswer N)) (frames : List Frame) → IsSteppedReading u event reading → ReadingFeels v u.core reading answer frames u'.core c → StepsReading u reading answer frames u'
+      → EventFeels v u event reply u' c
+  by-key : (k : WorkerNumber) (key : ℕ) (row : HandleRow) → event ≡ events.WorkerStep k → SetsThrough u k key row → KeepsReadings u u' → EventFeels v u event reply u' (sets_key row.node.0 key)
+  by-nothing : ((n : ℕ) (x : N) → EventBrings v u event n x → IsNewNode u.core n ⊎ StaysAway u.core u'.core n) → KeepsReadings u u' → EventFeels v u event reply u' nothing_felt
+
+-- STEPS proves: of each step that doesn't close the storage, between whole machines.
+pub record StepFeels {N B W : Type 0} (v : Values N) (u : World) (event : Event N B W) (reply : EventReply N B W) (u' : World) : Type 0 where
+  pub change : Change
+  pub core : CoreGoes change u.core u'.core
+  pub feels : EventFeels v u event reply u' change
+
+-- STEPS proves: what is answered. A handle that pins; and each of these references, which the load owned, is the asker's.
+pub record HasPin (w : Core) (k : HandleNumber) : Type 0 where
+  pub row : HandleRow
+  pub live : row_at w k ≡ Some row
+  pub is : is_pinning row.mode ≡ true
+
+pub record HandsOver (w : Core) (l : LoadNumber) (references : List ArcRef) (w' : Core) : Type 0 where
+  pub each : (r : ArcRef) → Among references r → (row : HandleRow) × (row_at w r.handle ≡ Some row) × (row.owner ≡ owners.Load l) × (row_at w' r.handle ≡ Some (record row { owner = owners.Caller }))
+
+abbrev pub PinHolds : {N B W : Type 0} → Event N B W → EventReply N B W → Core → Type 0
+PinHolds (events.Call (calls.Pin h)) (answers.CallReply (replies.Pin (Ok (pinnings.Pinned k)))) w' = HasPin w' k
+PinHolds (events.LoadStep l) (answers.LoadMoved (Ok reply)) w' = (k : HandleNumber) → reply.ended ≡ Some (ends.Pinned k) → HasPin w' k
+PinHolds (events.Call (calls.LoadEnd l x)) (answers.CallReply (replies.LoadEnded (Ok k))) w' = HasPin w' k
+PinHolds (events.WorkerStep n) (answers.WorkerMoved (Ok reply)) w' = (i : Identity) (k : HandleNumber) → reply.took ≡ took.Pin i (Ok (pinsteps.Held k)) → HasPin w' k
+PinHolds event reply w' = Unit {0}
+
+abbrev pub ReadHolds : {N B W : Type 0} → Values N → World → Event N B W → EventReply N B W → World → Type 0
+ReadHolds {N} v u (events.LoadStep l) (answers.LoadMoved (Ok reply)) u' = (x : N) → reply.ended ≡ Some (ends.Read x) → (reading : Reading) × (reading_at u l ≡ Some reading) × ReadsRoot v reading x × HandsOver u.core reading.load (v.references x) u'.core
+ReadHolds v u event reply u' = Unit {0}
+
+-- DECODE proves: a value that was read of a frame that fits leads to the tree that the frame's key reads as; and its references are among those that the frame got.
+pub record Decoded {N : Type 0} (v : Values N) (stored : ℕ → Option Blob) (trees : ℕ → Tree) (frame : Frame) (x : N) : Type 0 where
+  pub t : Tree
+  pub typed : t.type ≡ frame.node_type
+  pub reads : ReadsTree stored v.types frame.key t
+  pub leads : ValueLeads v trees x t
+  pub got : (r : ArcRef) → Among (v.references x) r → Among frame.got r
+
+abbrev pub DecodesWell : {N : Type 0} → Values N → Type 0
+DecodesWell {N} v = (stored : ℕ → Option Blob) (trees : ℕ → Tree) (frame : Frame) (x : N) → FrameFits v.types stored trees frame → IsDecoded v frame x → Decoded v stored trees frame x
+
+-- DECODE proves too: the key that a frame asks for next is the next of its blob's.
+abbrev pub AsksNext : Type 0
+AsksNext = (types : Types) (frame : Frame) (kind : Kind) (key : ℕ) → next_in types frame ≡ asks kind key → slice_get frame.blob.keys (length frame.got) ≡ Some key
+
+-- KEYS proves, as part of what it keeps along a chain: the key that a worker is about to set reads as the tree of its handle's node.
+abbrev pub KeysAreReady : {N E : Type 0} → Values N → MachineState N E → (ℕ → Tree) → Type 0
+KeysAreReady v s trees = (k : WorkerNumber) (key : ℕ) (row : HandleRow) → SetsThrough (world_of s) k key row → ReadsTree s.pager.core.stored v.types key (trees row.node.0)
