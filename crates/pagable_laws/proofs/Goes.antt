@@ -1,20 +1,21 @@
 -- What a step does to the plain world as far as trees feel it, with no premise: the parts of which the summary of each call is made.
-use Rattle.std.proofs.Common.{◌≡◌, ℕ, zero, suc, ◌+◌, ◌<◌, ◌≤◌, ◌==◌, Bool, true, false, List, [], ◌∷◌, ◌++◌, refl, ap, sym, subst, ◌∙◌, inl, inr, arith}
+use Rattle.std.proofs.Common.{◌≡◌, ℕ, zero, suc, ◌+◌, ◌<◌, ◌≤◌, ◌==◌, ◌&&◌, Bool, true, false, List, [], ◌∷◌, ◌++◌, refl, ap, sym, subst, ◌∙◌, inl, inr, arith}
 use Rattle.std.specs.Prelude.{Option, Some, None, ◌⊎◌, filter, not, nat_lt, map, length, if◌then◌else◌}
 use Rattle.std.proofs.lemmas.Bool.Decides.{nat_tests}
-use Rattle.pagable_world.specs.Plain.{Blob, HandleNumber, LoadNumber, NodeNumber, OptionalDataKey, changed, updated, if_there}
+use Rattle.pagable_world.specs.Plain.{Blob, ArcRef, Kind, type_of, HandleNumber, LoadNumber, NodeNumber, OptionalDataKey, changed, updated, if_there}
 use Rattle.pagable_world.specs.declared.handles.HandleRow.{HandleRow}
 use Rattle.pagable_world.specs.declared.handles.Owner.{Owner}
 use Rattle.pagable_world.specs.declared.rows.Mode.{Mode}
 use Rattle.pagable_world.specs.declared.handles.Owner.TheVariants as owners
 use Rattle.pagable_model.specs.declared.data_key.OptionalDataKey.TheVariants as optional
-use Rattle.pagable_world.specs.Kinds.{find_row, is_handle}
-use Rattle.pagable_world.specs.World.{Core, Cell, OpenLoad, Last, Alike, type_at, key_at}
+use Rattle.pagable_world.specs.Kinds.{find_row, is_handle, mode_of}
+use Rattle.pagable_world.specs.World.{Core, Cell, OpenLoad, Root, Last, Alike, type_at, key_at}
 use Rattle.pagable_world.specs.Cascade.{AreNewEntries, Falls, FallsAnyhow, fallen, left_rows}
-use Rattle.pagable_world.specs.Calls.{row_of, with_handle, with_mode, moved}
+use Rattle.pagable_world.specs.Calls.{row_of, with_handle, with_mode, with_node, with_key, with_cached, next_node, moved}
+use Rattle.pagable_world.specs.LoadCalls.{with_load, adopted}
 use Rattle.pagable_world.specs.World.{Seen}
 use Rattle.pagable_laws.specs.StepLaws.{StepsKeep}
-use Rattle.pagable_laws.specs.TreeSteps.{Change, nothing_felt, Sets, Knows, Bears, BeginsWell}
+use Rattle.pagable_laws.specs.TreeSteps.{Change, nothing_felt, sets_key, bears_known, Sets, Knows, Bears, BeginsWell}
 
 -- the row of a handle before: at the same node, and the same if it is a load's now
 pub record Was (rows : List HandleRow) (q : ℕ) (row : HandleRow) : Type 0 where
@@ -239,6 +240,167 @@ fell-anyhow f = fell f.falls
 
 pub a-handle : (w : Core) (node : NodeNumber) (mode : Mode) (owner : Owner) → Quiet w (with_handle w node mode owner)
 a-handle w node mode owner = only-rows (rows-more w.last.handle w.rows _ (λ q few. none-in-next w.last.handle q (row_of (w.last.handle + 1) node mode owner) refl few)) (le-more _ _)
+
+-- ---- steps that are felt
+
+le-self : (n : ℕ) → n ≤ n
+le-self n = omega arith
+
+pub quiet-goes : (c : Change) {w w' : Core} → Quiet w w' → Goes c w w'
+quiet-goes c q =
+    record {
+      nodes = q.nodes;
+      handles = q.handles;
+      loads_last = q.loads_last;
+      cells = λ n cell is. inl (record { was = cell; live = q.cells n cell is; typed = refl; key = inl refl });
+      stored = q.stored;
+      loads = λ l load is. inl (q.loads l load is);
+      cache = λ kind key n is. inl (q.cache kind key n is);
+      rows = q.rows;
+    }
+
+pub goes-quiet : {c : Change} {w m w' : Core} → Goes c w m → Quiet m w' → Goes c w w'
+goes-quiet {c} {w} {m} {w'} a b =
+    record {
+      nodes = let c = a.nodes in let d = b.nodes in omega arith;
+      handles = let c = a.handles in let d = b.handles in omega arith;
+      loads_last = let c = a.loads_last in let d = b.loads_last in omega arith;
+      cells = λ n cell is. a.cells n cell (b.cells n cell is);
+      stored = λ q blob is. b.stored q blob (a.stored q blob is);
+      loads = λ l load is. a.loads l load (b.loads l load is);
+      cache = λ kind key n is. a.cache kind key n (b.cache kind key n is);
+      rows = rows-then w.last.handle m.last.handle w.rows m.rows w'.rows a.handles a.rows b.rows;
+    }
+
+-- at a number, or elsewhere
+pub at-updated : {X : Type 0} (m : ℕ) (x : Option X) (f : ℕ → Option X) (n : ℕ) (y : X) → updated m x f n ≡ Some y → ((n ≡ m) × (x ≡ Some y)) ⊎ (f n ≡ Some y)
+at-updated m x f n y is = at (n == m) refl is
+  where
+    at : (b : Bool) → (n == m) ≡ b → (if b then x else f n) ≡ Some y → ((n ≡ m) × (x ≡ Some y)) ⊎ (f n ≡ Some y)
+    at true e is = inl (same-number _ _ e, is)
+    at false e is = inr is
+
+pub born : (c : Change) (w : Core) (t : ℕ) (key : OptionalDataKey) (references : List ArcRef) → Bears c t key → Goes c w (with_node w t key references)
+born c w t key references bears =
+    record {
+      nodes = le-more _ _;
+      handles = le-self _;
+      loads_last = le-self _;
+      cells = λ n cell is. elim (at-updated _ _ w.cells n cell is) [
+        | inl (next, e) ↦ let f : record { node_type = t; key = key } ≡ cell = cc in inr (next, subst (λ (x : Cell). Bears c x.node_type x.key) f bears)
+        | inr there ↦ inl (record { was = cell; live = there; typed = refl; key = inl refl })
+      ];
+      stored = λ q blob is. is;
+      loads = λ l load is. inl is;
+      cache = λ kind q n is. inl is;
+      rows = rows-moved w.last.handle w.rows _ _ (λ l is. absurd (cc));
+    }
+
+keyed-cell : (w : Core) (m : ℕ) (key : ℕ) (cell : Cell) (found : Option Cell) → w.cells m ≡ found → if_there (λ (x : Cell). Some (record x { key = optional.Some key })) None found ≡ Some cell → Kept (sets_key m key) w m cell
+keyed-cell w m key cell None there is = absurd (cc)
+keyed-cell w m key cell (Some was) there is = let e : record was { key = optional.Some key } ≡ cell = cc in record { was = was; live = there; typed = sym (ap (λ (x : Cell). x.node_type) e); key = inr (key, (refl, refl), sym (ap (λ (x : Cell). x.key) e)) }
+
+pub keyed : (w : Core) (node : NodeNumber) (key : ℕ) → Goes (sets_key node.0 key) w (with_key w node key)
+keyed w node key =
+    record {
+      nodes = le-self _;
+      handles = le-self _;
+      loads_last = le-self _;
+      cells = λ n cell is. elim (at-updated _ _ w.cells n cell is) [
+        | inl (at, e) ↦ inl (subst (λ k. Kept (sets_key node.0 key) w k cell) (sym at) (keyed-cell w node.0 key cell (w.cells node.0) refl e))
+        | inr there ↦ inl (record { was = cell; live = there; typed = refl; key = inl refl })
+      ];
+      stored = λ q blob is. is;
+      loads = λ l load is. inl is;
+      cache = λ kind q n is. inl is;
+      rows = rows-self w.last.handle w.rows w.rows refl;
+    }
+
+pub begun : (c : Change) (w : Core) (key : ℕ) (root : Root) (me : Owner) → BeginsWell w (record { owner = me; key = key; root = root }) → Goes c w (with_load w key root me)
+begun c w key root me well =
+    record {
+      nodes = le-self _;
+      handles = le-self _;
+      loads_last = le-more _ _;
+      cells = λ n cell is. inl (record { was = cell; live = is; typed = refl; key = inl refl });
+      stored = λ q blob is. is;
+      loads = λ l load is. elim (at-updated _ _ w.loads l load is) [
+        | inl (at, e) ↦ let f : record { owner = me; key = key; root = root } ≡ load = cc in inr (next-above l w.last.load at, subst (λ (x : OpenLoad). BeginsWell w x) f well)
+        | inr there ↦ inl there
+      ];
+      cache = λ kind q n is. inl is;
+      rows = rows-self w.last.handle w.rows w.rows refl;
+    }
+  where
+    next-above : (l last : ℕ) → l ≡ last + 1 → last < l
+    next-above l last is = omega arith
+
+-- the cells that a quiet step leaves are the ones that a load that begins then is of
+pub quiet-begins : {w m w' : Core} → Quiet w m → Goes nothing_felt m w' → Goes nothing_felt w w'
+quiet-begins {w} {m} {w'} a b =
+    record {
+      nodes = let c = a.nodes in let d = b.nodes in omega arith;
+      handles = let c = a.handles in let d = b.handles in omega arith;
+      loads_last = let c = a.loads_last in let d = b.loads_last in omega arith;
+      cells = λ n cell is. elim (b.cells n cell is) [
+        | inl k ↦ inl (record { was = k.was; live = a.cells n k.was k.live; typed = k.typed; key = kept-key k })
+        | inr (next, bears) ↦ absurd bears
+      ];
+      stored = λ q blob is. b.stored q blob (a.stored q blob is);
+      loads = λ l load is. elim (b.loads l load is) [
+        | inl there ↦ inl (a.loads l load there)
+        | inr (above, well) ↦ inr (let c = a.loads_last in omega arith, λ node t h root. let k = well node t h root in both node.0 t load.key (m.cells node.0) refl k.0 k.1)
+      ];
+      cache = λ kind key n is. elim (b.cache kind key n is) [
+        | inl there ↦ inl (a.cache kind key n there)
+        | inr known ↦ absurd known
+      ];
+      rows = rows-then w.last.handle m.last.handle w.rows m.rows w'.rows a.handles a.rows b.rows;
+    }
+  where
+    kept-key : {n : ℕ} {cell : Cell} → (k : Kept nothing_felt m n cell) → (cell.key ≡ k.was.key) ⊎ ((key : ℕ) × Sets nothing_felt n key × (cell.key ≡ optional.Some key))
+    kept-key k = elim k.key [
+      | inl same ↦ inl same
+      | inr (key, none, is) ↦ absurd none
+    ]
+
+    both : (n t key : ℕ) (found : Option Cell) → m.cells n ≡ found → type_at m n ≡ Some t → key_at m n ≡ optional.Some key → (type_at w n ≡ Some t) × (key_at w n ≡ optional.Some key)
+    both n t key None there typed own = let e : type_at m n ≡ None = rw there refl in absurd (cc)
+    both n t key (Some cell) there typed own =
+        let e : w.cells n ≡ m.cells n = a.cells n cell there ∙ sym there in
+        (ap (λ (x : Option Cell). if_there (λ (c : Cell). Some c.node_type) None x) e ∙ typed, ap (λ (x : Option Cell). if_there (λ (c : Cell). c.key) optional.None x) e ∙ own)
+
+at-cached : (k q m kind key n : ℕ) (old : Option ℕ) (b d : Bool) → (kind == k) ≡ b → (key == q) ≡ d → (if b && d then Some m else old) ≡ Some n → ((kind ≡ k) × (key ≡ q) × (n ≡ m)) ⊎ (old ≡ Some n)
+at-cached k q m kind key n old true true e f is = let g : m ≡ n = cc in inl (same-number _ _ e, same-number _ _ f, sym g)
+at-cached k q m kind key n old true false e f is = inr is
+at-cached k q m kind key n old false d e f is = inr is
+
+pub goes-known : {c : Change} {w m : Core} → Goes c w m → (kind : Kind) (key : ℕ) (n : NodeNumber) → Knows c w kind.0 key n.0 → Goes c w (with_cached m kind key n)
+goes-known {c} {w} {m} a kind key n knows =
+    record {
+      nodes = a.nodes;
+      handles = a.handles;
+      loads_last = a.loads_last;
+      cells = a.cells;
+      stored = a.stored;
+      loads = a.loads;
+      cache = λ k q there is. elim (at-cached kind.0 key n.0 k q there (m.cache k q) (k == kind.0) (q == key) refl refl is) [
+        | inl (e, f, g) ↦ inr (moved-to k q there e f g)
+        | inr old ↦ a.cache k q there old
+      ];
+      rows = a.rows;
+    }
+  where
+    moved-to : (k q there : ℕ) → k ≡ kind.0 → q ≡ key → there ≡ n.0 → Knows c w k q there
+    moved-to k q there e f g = subst (λ x. Knows c w x q there) (sym e) (subst (λ x. Knows c w kind.0 x there) (sym f) (subst (λ x. Knows c w kind.0 key x) (sym g) knows))
+
+pub goes-known-if : {c : Change} {w m : Core} → Goes c w m → (kind : Kind) (key : ℕ) (n : NodeNumber) → Knows c w kind.0 key n.0 → (b : Bool) → Goes c w (if b then m else with_cached m kind key n)
+goes-known-if a kind key n knows true = a
+goes-known-if a kind key n knows false = goes-known a kind key n knows
+
+pub adopts : (w : Core) (l : LoadNumber) (kind : Kind) (key : ℕ) (own : OptionalDataKey) (references : List ArcRef) → Goes (bears_known kind.0 key own) w (adopted w l kind key own references)
+adopts w l kind key own references =
+    goes-known-if (goes-quiet (born (bears_known kind.0 key own) w (type_of kind.0) own references (refl, refl)) (a-handle _ (next_node w) (mode_of kind.0) (owners.Load l))) kind key (next_node w) (refl, refl, refl) w.closed
 
 pub steps_keep : {N B W : Type 0} (m : Seen N B W) → StepsKeep m
 steps_keep m u u' event reply stays step = ?
