@@ -8,21 +8,20 @@ use Rattle.pagable_world.specs.declared.handles.Owner.{Owner}
 use Rattle.pagable_world.specs.declared.rows.Mode.{Mode}
 use Rattle.pagable_world.specs.declared.handles.Owner.TheVariants as owners
 use Rattle.pagable_model.specs.declared.data_key.OptionalDataKey.TheVariants as optional
-use Rattle.pagable_world.specs.Kinds.{find_row, is_handle, mode_of}
+use Rattle.pagable_world.specs.Kinds.{find_row, is_handle, mode_of, is_loose}
 use Rattle.pagable_world.specs.World.{Core, Cell, OpenLoad, Root, Last, Alike, type_at, key_at}
 use Rattle.pagable_world.specs.Cascade.{AreNewEntries, Falls, FallsAnyhow, fallen, left_rows}
 use Rattle.pagable_world.specs.Calls.{row_of, with_handle, with_mode, with_node, with_key, with_cached, next_node, moved}
 use Rattle.pagable_world.specs.LoadCalls.{with_load, adopted}
-use Rattle.pagable_world.specs.World.{Seen}
-use Rattle.pagable_laws.specs.StepLaws.{StepsKeep}
 use Rattle.pagable_laws.specs.TreeSteps.{Change, nothing_felt, sets_key, bears_known, Sets, Knows, Bears, BeginsWell}
 
--- the row of a handle before: at the same node, and the same if it is a load's now
+-- the row of a handle before: at the same node, and the same if it is a load's now; a loose handle stays loose
 pub record Was (rows : List HandleRow) (q : ℕ) (row : HandleRow) : Type 0 where
   pub was : HandleRow
   pub live : find_row q rows ≡ Some was
   pub at : was.node ≡ row.node
   pub mine : (l : LoadNumber) → row.owner ≡ owners.Load l → was ≡ row
+  pub loose : is_loose was.mode ≡ true → is_loose row.mode ≡ true
 
 -- each handle up to this number was there
 abbrev pub RowsGo : ℕ → List HandleRow → List HandleRow → Type 0
@@ -59,13 +58,13 @@ pub record Goes (c : Change) (w w' : Core) : Type 0 where
 -- ---- rows
 
 pub rows-self : (last : ℕ) (rows rows' : List HandleRow) → rows' ≡ rows → RowsGo last rows rows'
-rows-self last rows rows' same q row found few = record { was = row; live = subst (λ r. find_row q r ≡ Some row) same found; at = refl; mine = λ l is. refl }
+rows-self last rows rows' same q row found few = record { was = row; live = subst (λ r. find_row q r ≡ Some row) same found; at = refl; mine = λ l is. refl; loose = λ is. is }
 
 pub rows-then : (last more : ℕ) (rows mid rows' : List HandleRow) → last ≤ more → RowsGo last rows mid → RowsGo more mid rows' → RowsGo last rows rows'
 rows-then last more rows mid rows' le first second q row found few =
     let b = second q row found (omega arith) in
     let a = first q b.was b.live few in
-    record { was = a.was; live = a.live; at = a.at ∙ b.at; mine = λ l is. let e = b.mine l is in a.mine l (ap (λ (r : HandleRow). r.owner) e ∙ is) ∙ e }
+    record { was = a.was; live = a.live; at = a.at ∙ b.at; mine = λ l is. let e = b.mine l is in a.mine l (ap (λ (r : HandleRow). r.owner) e ∙ is) ∙ e; loose = λ is. b.loose (a.loose is) }
 
 same-number : (a b : ℕ) → (a == b) ≡ true → a ≡ b
 same-number a b e = grind (arith, nat_tests)
@@ -112,16 +111,16 @@ found-changed test f same q (h ∷ hs) row found = at (λ e. found-changed test 
 abbrev pub NotLoads : Owner → Type 0
 NotLoads o = (l : LoadNumber) → o ≡ owners.Load l → ⊥
 
-pub rows-mode : (last : ℕ) (rows : List HandleRow) (h : HandleNumber) (mode : Mode) → ((r : HandleRow) → find_row h.0 rows ≡ Some r → NotLoads r.owner) → RowsGo last rows (changed (is_handle h.0) (λ row. record row { mode = mode }) rows)
-rows-mode last rows h mode free q row found few = let c = found-changed (is_handle h.0) (λ row. record row { mode = mode }) (λ r. refl) q rows row found in at c (is_handle h.0 c.was) refl
+pub rows-mode : (last : ℕ) (rows : List HandleRow) (h : HandleNumber) (mode : Mode) → is_loose mode ≡ true → ((r : HandleRow) → find_row h.0 rows ≡ Some r → NotLoads r.owner) → RowsGo last rows (changed (is_handle h.0) (λ row. record row { mode = mode }) rows)
+rows-mode last rows h mode is_so free q row found few = let c = found-changed (is_handle h.0) (λ row. record row { mode = mode }) (λ r. refl) q rows row found in at c (is_handle h.0 c.was) refl
   where
     at : (c : Changed (is_handle h.0) (λ row. record row { mode = mode }) rows q row) → (b : Bool) → is_handle h.0 c.was ≡ b → Was rows q row
     at c true is =
         let e : row ≡ record c.was { mode = mode } = rw is at c.is in
         let n : q ≡ h.0 = sym (found-number q rows c.was c.live) ∙ same-number _ _ is in
         let o : row.owner ≡ c.was.owner = ap (λ (r : HandleRow). r.owner) e in
-        record { was = c.was; live = c.live; at = sym (ap (λ (r : HandleRow). r.node) e); mine = λ l mine. absurd (free c.was (subst (λ k. find_row k rows ≡ Some c.was) n c.live) l (sym o ∙ mine)) }
-    at c false is = let e : row ≡ c.was = rw is at c.is in record { was = c.was; live = c.live; at = sym (ap (λ (r : HandleRow). r.node) e); mine = λ l mine. sym e }
+        record { was = c.was; live = c.live; at = sym (ap (λ (r : HandleRow). r.node) e); mine = λ l mine. absurd (free c.was (subst (λ k. find_row k rows ≡ Some c.was) n c.live) l (sym o ∙ mine)); loose = λ was. ap is_loose (ap (λ (r : HandleRow). r.mode) e) ∙ is_so }
+    at c false is = let e : row ≡ c.was = rw is at c.is in record { was = c.was; live = c.live; at = sym (ap (λ (r : HandleRow). r.node) e); mine = λ l mine. sym e; loose = λ was. ap is_loose (ap (λ (r : HandleRow). r.mode) e) ∙ was }
 
 pub rows-moved : (last : ℕ) (rows : List HandleRow) (s : ℕ → Bool) (owner : Owner) → NotLoads owner → RowsGo last rows (moved s owner rows)
 rows-moved last rows s owner free q row found few = let c = found-changed (λ (r : HandleRow). s r.number.0) (λ row. record row { owner = owner }) (λ r. refl) q rows row found in at c (s c.was.number.0) refl
@@ -129,8 +128,8 @@ rows-moved last rows s owner free q row found few = let c = found-changed (λ (r
     at : (c : Changed (λ (r : HandleRow). s r.number.0) (λ row. record row { owner = owner }) rows q row) → (b : Bool) → s c.was.number.0 ≡ b → Was rows q row
     at c true is =
         let e : row ≡ record c.was { owner = owner } = rw is at c.is in
-        record { was = c.was; live = c.live; at = sym (ap (λ (r : HandleRow). r.node) e); mine = λ l mine. absurd (free l (sym (ap (λ (r : HandleRow). r.owner) e) ∙ mine)) }
-    at c false is = let e : row ≡ c.was = rw is at c.is in record { was = c.was; live = c.live; at = sym (ap (λ (r : HandleRow). r.node) e); mine = λ l mine. sym e }
+        record { was = c.was; live = c.live; at = sym (ap (λ (r : HandleRow). r.node) e); mine = λ l mine. absurd (free l (sym (ap (λ (r : HandleRow). r.owner) e) ∙ mine)); loose = λ was. ap is_loose (ap (λ (r : HandleRow). r.mode) e) ∙ was }
+    at c false is = let e : row ≡ c.was = rw is at c.is in record { was = c.was; live = c.live; at = sym (ap (λ (r : HandleRow). r.node) e); mine = λ l mine. sym e; loose = λ was. ap is_loose (ap (λ (r : HandleRow). r.mode) e) ∙ was }
 
 other-number : (q n last : ℕ) → q ≤ last → n ≡ last + 1 → (n == q) ≡ false
 other-number q n last few next = grind (arith, nat_tests)
@@ -142,8 +141,8 @@ rows-more last [] more new q row found few = let none = new q few in absurd (cc)
 rows-more last (h ∷ hs) more new q row found few = at (λ f. rows-more last hs more new q row f few) (is_handle q h) refl found
   where
     at : (find_row q (hs ++ more) ≡ Some row → Was hs q row) → (b : Bool) → is_handle q h ≡ b → (if b then Some h else find_row q (hs ++ more)) ≡ Some row → Was (h ∷ hs) q row
-    at back true is found = let e : h ≡ row = cc in record { was = h; live = rw is refl; at = ap (λ (r : HandleRow). r.node) e; mine = λ l mine. e }
-    at back false is found = let w = back found in record { was = w.was; live = rw is w.live; at = w.at; mine = w.mine }
+    at back true is found = let e : h ≡ row = cc in record { was = h; live = rw is refl; at = ap (λ (r : HandleRow). r.node) e; mine = λ l mine. e; loose = λ was. ap is_loose (sym (ap (λ (r : HandleRow). r.mode) e)) ∙ was }
+    at back false is found = let w = back found in record { was = w.was; live = rw is w.live; at = w.at; mine = w.mine; loose = w.loose }
 
 pub none-in-new : (last q : ℕ) (entries : List HandleRow) → AreNewEntries last entries → q ≤ last → find_row q entries ≡ None
 unfolding find_row
@@ -171,7 +170,7 @@ found-left gone q (h ∷ hs) row found = at (λ f. found-left gone q hs row f) (
     at back false goes false is = let f : find_row q (h ∷ left_rows gone hs) ≡ Some row = rw goes at found in let g : find_row q (left_rows gone hs) ≡ Some row = rw is at f in let b = back g in (rw is b.0, b.1)
 
 pub rows-left : (last : ℕ) (rows : List HandleRow) (gone : ℕ → Bool) → RowsGo last rows (left_rows gone rows)
-rows-left last rows gone q row found few = record { was = row; live = (found-left gone q rows row found).0; at = refl; mine = λ l is. refl }
+rows-left last rows gone q row found few = record { was = row; live = (found-left gone q rows row found).0; at = refl; mine = λ l is. refl; loose = λ is. is }
 
 -- ---- quiet steps
 
@@ -401,6 +400,3 @@ goes-known-if a kind key n knows false = goes-known a kind key n knows
 pub adopts : (w : Core) (l : LoadNumber) (kind : Kind) (key : ℕ) (own : OptionalDataKey) (references : List ArcRef) → Goes (bears_known kind.0 key own) w (adopted w l kind key own references)
 adopts w l kind key own references =
     goes-known-if (goes-quiet (born (bears_known kind.0 key own) w (type_of kind.0) own references (refl, refl)) (a-handle _ (next_node w) (mode_of kind.0) (owners.Load l))) kind key (next_node w) (refl, refl, refl) w.closed
-
-pub steps_keep : {N B W : Type 0} (m : Seen N B W) → StepsKeep m
-steps_keep m u u' event reply stays step = ?

@@ -26,6 +26,9 @@ mod Joining
 mod Telling
 mod Nexts
 mod Goes
+mod GoodReferences
+mod Calling
+mod Feeling
 mod Once
 mod Headlines
 mod Working
