@@ -33,3 +33,8 @@ mod Once
 mod Headlines
 mod Working
 mod Doing
+mod Decoding
+mod Following
+mod Shelves
+mod Stepping
+mod Publishing

@@ -11,3 +11,5 @@ pub mod SmallWork
 pub mod MetLaws
 pub mod StepLaws
 pub mod TreeSteps
+pub mod ReadLaws
+pub mod PageOutLaws

@@ -13,14 +13,7 @@ use Rattle.pagable_world.specs.declared.events.PinStep.TheVariants as pinsteps
 use Rattle.pagable_world.specs.declared.events.Took.TheVariants as took
 use Rattle.pagable_world.specs.declared.events.Event.TheVariants as events
 use Rattle.pagable_world.specs.declared.events.EventReply.TheVariants as answers
-use Rattle.pagable_world.specs.Plain.{OptionalDataKey, ArcRef, Kind, HandleNumber, LoadNumber, NodeNumber, WorkerNumber, Identity, Blob, Meaning, Tree, Types, ReadsTree, type_of, Among}
-use Rattle.pagable_world.specs.declared.handles.Owner.{Owner}
-use Rattle.pagable_world.specs.declared.handles.HandleRow.{HandleRow}
-use Rattle.pagable_world.specs.declared.calls.Call.{Call}
-use Rattle.pagable_world.specs.declared.calls.Reply.{Reply}
-use Rattle.pagable_world.specs.declared.events.LoadAnswer.{LoadAnswer}
-use Rattle.pagable_world.specs.declared.events.Event.{Event}
-use Rattle.pagable_world.specs.declared.events.EventReply.{EventReply}
+use Rattle.pagable_world.specs.Plain.{OptionalDataKey, ArcRef, Kind, HandleNumber, LoadNumber, NodeNumber, WorkerNumber, Identity, Blob, Owner, HandleRow, Call, Reply, LoadAnswer, Event, EventReply, Meaning, Tree, Types, ReadsTree, type_of, Among}
 use Rattle.pagable_world.specs.Kinds.{is_pinning, is_loose, any_mode, fits_mode, owner_worker}
 use Rattle.pagable_world.specs.World.{Core, OpenLoad, of_cell, Frame, Reading, Todo, to_load, to_set, Walking, World, row_at, type_at, key_at, is_here, Values}
 use Rattle.pagable_world.specs.Refusals.{Owns, IsReference}

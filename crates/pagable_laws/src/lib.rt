@@ -3,6 +3,8 @@
 #![tactic(auto)]
 
 pub mod steps;
+pub mod runs;
+pub mod keys;
 pub mod values;
 pub mod worked;
 pub mod world;

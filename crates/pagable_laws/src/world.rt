@@ -3,6 +3,7 @@
 ghost use Rattle.pagable_world.specs.World.{Seen};
 ghost use Rattle.pagable_laws.specs.FallLaws.{IsThere, IsOne, IsGivenAlone, PinsAreAFilter, TwoLevelsFall, LoneIsListed};
 ghost use Rattle.pagable_laws.specs.MetLaws.{HeadlineIsMet, WorkMeetsHeadline};
+ghost use Rattle.pagable_laws.specs.ReadLaws.{AsksNext, DecodesWell, ReadStands};
 ghost use Rattle.pagable_laws.specs.RunLaws.{ChainsJoin, NewIsWhole, NextIsOneOf, StepsFollow, IsOnceEach, KeysTellTheirTrees};
 
 use crate::values::is_key_of_one_tree;
@@ -91,4 +92,21 @@ pub fn headline_is_met<E>()
 /// The headline is met with all that it asks: by an item that a worker pages out, and a load that reads its key back.
 pub fn work_meets_headline<E>()
     ensures { WorkMeetsHeadline E }
+{}
+
+/// The key that a blob asks for is the next of its keys.
+#[tactic(auto, using(crate::proofs::Decoding::asks_next))]
+pub fn asks_for_the_next()
+    ensures { AsksNext }
+{}
+
+/// A value that was read of a blob leads to the tree that the blob's key reads as.
+#[tactic(auto, using(crate::proofs::Decoding::decodes_well))]
+pub fn reading_leads_to_the_tree<N: SeenAs<B, W>, B, W>()
+    ensures { DecodesWell N.seen.values }
+{}
+
+/// It stands for each tree of its type that the key reads as, where the nodes of its references stand for theirs.
+pub fn what_is_read_stands<N: SeenAs<B, W>, B, W, E>()
+    ensures { ReadStands E N.seen.values }
 {}

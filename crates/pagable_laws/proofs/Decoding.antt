@@ -1,0 +1,224 @@
+-- A value that was read of a blob leads to what the blob's key reads as: reading the blob with the references that were got runs along the reading of
+-- its bare keys, and each of these reads as the tree of the node that was got for it.
+use Rattle.std.proofs.Common.{◌≡◌, ℕ, zero, suc, ◌+◌, ◌<◌, ◌≤◌, ◌==◌, ◌&&◌, Bool, true, false, List, [], ◌∷◌, ◌++◌, Option, Some, None, Result, Ok, Err, if◌then◌else◌, ◌⊎◌, inl, inr, refl, sym, ap, ◌∙◌, subst, arith, sum_by}
+use Rattle.std.specs.Prelude.{slice_get, length}
+use Rattle.std.proofs.lemmas.Bool.{and_parts}
+use Rattle.std.proofs.lemmas.Bool.Decides.{nat_tests}
+use Rattle.pagable_model.specs.declared.error.Error.TheVariants as errors
+use Rattle.pagable_model.specs.Meaning.{number, integer, text, pattern, none, pair, variant, reference, followed}
+use Rattle.pagable_model.specs.References.{references_in, SameReferences}
+use Rattle.pagable_model.specs.Reading.{Rest, read, read_typed}
+use Rattle.pagable_model.specs.Standing.{Answer, answer_at, handles_at}
+use Rattle.pagable_model.specs.Trees.{KeyRef, key_ref, ReadsAs, blob_context, rest_of, IsFollowed, number-followed, integer-followed, text-followed, pattern-followed, none-followed, pair-followed, variant-followed, reference-followed}
+use Rattle.pagable_model.specs.Canonical.{IsReadableType}
+use Rattle.pagable_world.specs.Plain.{Error, ArcRef, Kind, Blob, Shape, Types, Tree, tree, type_of, ReadsTree, Meaning, Among, one}
+use Rattle.pagable_world.specs.World.{Frame, Values, IsLawful}
+use Rattle.pagable_world.specs.Loads.{answer_of, answers_from, read_with, Next, reads, asks, next_by, next_in, IsDecoded}
+use Rattle.pagable_world.specs.Pager.{PagerState, NodeStands, MeaningStands, number-stands, integer-stands, text-stands, pattern-stands, none-stands, pair-stands, variant-stands, followed-stands, reference-stands, ReadsNodeTree, FrameFits}
+use Rattle.pagable_world.specs.Runs.{ReadsItsTypes}
+use Rattle.pagable_laws.specs.ReadLaws.{LeadsTo, number-leads, integer-leads, text-leads, pattern-leads, none-leads, pair-leads, variant-leads, followed-leads, reference-leads, Decoded, AsksNext, DecodesWell, ReadStands}
+use Rattle.pagable_laws.proofs.Along.{Along, number-along, integer-along, text-along, pattern-along, none-along, pair-along, variant-along, reference-along, followed-along, AllTwo, no-two, more-two}
+use Rattle.pagable_laws.proofs.Related.{SameRest, Out, both-given, both-refused, first-refused, OutLook, both-looked-up, first-not, read_par}
+use Rattle.pagable_laws.proofs.Trees.{tree_is, one_tree}
+use Rattle.pagable_laws.proofs.Sums.{one-true, self-number, at-most-sum, counted}
+
+-- any cause: what comes of a refusal isn't asked
+abbrev any_cause : Error → Type 0
+any_cause e = Unit {0}
+
+-- ---- what is read or asked
+
+not-read : (key : Option ℕ) (e : Error) (own : Meaning ArcRef) → next_by key (Err e) ≡ reads own → ⊥
+not-read None (errors.Storage kind) own is = cc
+not-read (Some k) (errors.Storage kind) own is = cc
+not-read key e own is = cc
+
+read-gives : (key : Option ℕ) (r : Result (Meaning ArcRef × Rest Answer) Error) (own : Meaning ArcRef) → next_by key r ≡ reads own → (after : Rest Answer) × (r ≡ Ok (own, after))
+read-gives key (Ok (m, after)) own is = let same : m ≡ own = cc in (after, rw same refl)
+read-gives key (Err e) own is = absurd (not-read key e own is)
+
+next-key : (key : Option ℕ) (r : Result (Meaning ArcRef × Rest Answer) Error) (kind : Kind) (k : ℕ) → next_by key r ≡ asks kind k → key ≡ Some k
+next-key key (Ok (m, after)) kind k is = absurd (cc)
+next-key None (Err (errors.Storage n)) kind k is = absurd (cc)
+next-key (Some q) (Err (errors.Storage n)) kind k is = let same : q ≡ k = cc in ap Some same
+next-key key (Err e) kind k is = absurd (cc)
+
+pub asks_next : AsksNext
+asks_next types frame kind key is = next-key _ _ kind key is
+
+same-number : (a b : ℕ) → (a == b) ≡ true → a ≡ b
+same-number a b e = grind (arith, nat_tests)
+
+-- ---- what is answered, place by place
+
+-- the reference was got, and its node's tree is what the bare key in its place reads as
+record Found (types : Types) (stored : ℕ → Option Blob) (trees : ℕ → Tree) (got : List ArcRef) (r : ArcRef) (k : KeyRef) : Type 0 where
+  kind : k.kind ≡ r.kind.0
+  among : Among got r
+  tree_read : ReadsNodeTree types stored trees k.key (type_of r.kind.0) r.node.0
+
+-- what answers for the key
+abbrev AnswersFor : (types : Types) (stored : ℕ → Option Blob) (trees : ℕ → Tree) (got : List ArcRef) → Answer → ℕ → Type 0
+AnswersFor types stored trees got answer key = (kind : ℕ) → OutLook any_cause (Found types stored trees got) (answer kind) (Ok (key_ref kind key))
+
+among-either : {X : Type 0} (xs ys : List X) (i : ℕ) (r : X) → slice_get (xs ++ ys) i ≡ Some r → Among xs r ⊎ Among ys r
+among-either [] ys i r is = inr (i, is)
+among-either (x ∷ xs) ys zero r is = inl (zero, is)
+among-either {X} (x ∷ xs) ys (suc i) r is = later (among-either xs ys i r is)
+  where
+    later : Among xs r ⊎ Among ys r → Among (x ∷ xs) r ⊎ Among ys r
+    later (inl a) = inl (suc a.0, a.1)
+    later (inr b) = inr b
+
+module _ {types : Types} {stored : ℕ → Option Blob} {trees : ℕ → Tree} {got : List ArcRef} where
+  answer-by : (t : Bool) (r : ArcRef) (kind key : ℕ) → (r.kind.0 == kind) ≡ t → Among got r → ReadsNodeTree types stored trees key (type_of r.kind.0) r.node.0
+      → OutLook any_cause (Found types stored trees got) (if t then Ok r else Err errors.WrongKind) (Ok (key_ref kind key))
+  answer-by true r kind key is among tree_read = both-looked-up r (key_ref kind key) (record { kind = sym (same-number _ _ is); among = among; tree_read = tree_read })
+  answer-by false r kind key is among tree_read = first-not errors.WrongKind _ tt
+
+  answer-of : (o : Option ArcRef) (key : ℕ) → ((r : ArcRef) → o ≡ Some r → Among got r × ReadsNodeTree types stored trees key (type_of r.kind.0) r.node.0) → AnswersFor types stored trees got (answer_of o) key
+  answer-of None key h kind = first-not (errors.Storage kind) _ tt
+  answer-of (Some r) key h kind = let p = h r refl in answer-by (r.kind.0 == kind) r kind key refl p.0 p.1
+
+  answers : (place : ℕ) (keys : List ℕ) → ((i key : ℕ) (r : ArcRef) → slice_get got (place + i) ≡ Some r → slice_get keys i ≡ Some key → ReadsNodeTree types stored trees key (type_of r.kind.0) r.node.0)
+      → AllTwo (AnswersFor types stored trees got) (answers_from got place keys) keys
+  unfolding answers_from
+  answers place [] h = no-two
+  answers place (key ∷ keys) h =
+      let here : place ≡ place + 0 = omega arith in
+      let first = answer-of (slice_get got place) key (λ r is. ((place, is), h 0 key r (subst (λ n. slice_get got n ≡ Some r) here is) refl)) in
+      more-two _ key _ keys first (answers (place + 1) keys (λ i k r is at. let next : place + 1 + i ≡ place + suc i = omega arith in h (suc i) k r (subst (λ n. slice_get got n ≡ Some r) next is) at))
+
+  -- the two readings of the blob
+  both-read : {own : Meaning ArcRef} {after : Rest Answer} {first : Result (Meaning ArcRef × Rest Answer) Error} {second : Result (Meaning KeyRef × Rest ℕ) Error}
+      → Out any_cause (AnswersFor types stored trees got) (Along ⊥ (Found types stored trees got)) first second → first ≡ Ok (own, after) → (m : Meaning KeyRef) × (rest : Rest ℕ) × (second ≡ Ok (m, rest)) × Along ⊥ (Found types stored trees got) own m
+  both-read {own} {after} (both-given p q v s) e =
+      let same : p ≡ (own, after) = cc in
+      (q.0, q.1, refl, subst (λ (z : Meaning ArcRef × Rest Answer). Along ⊥ (Found types stored trees got) z.0 q.0) same v)
+  both-read (both-refused x) e = absurd (cc)
+  both-read (first-refused x r c) e = absurd (cc)
+
+  -- what was read leads to a tree, to which the bare keys lead too
+  leads-follows : {x : Meaning ArcRef} {m : Meaning KeyRef} → Along ⊥ (Found types stored trees got) x m → (a : Meaning ⊥) × LeadsTo trees x a × IsFollowed (ReadsAs stored types) m a
+  leads-follows (number-along n) = (number n, number-leads n, number-followed n)
+  leads-follows (integer-along z) = (integer z, integer-leads z, integer-followed z)
+  leads-follows (text-along t) = (text t, text-leads t, text-followed t)
+  leads-follows (pattern-along t) = (pattern t, pattern-leads t, pattern-followed t)
+  leads-follows none-along = (none, none-leads, none-followed)
+  leads-follows (pair-along x y a b h g) =
+      let p = leads-follows h in
+      let q = leads-follows g in
+      (pair p.0 q.0, pair-leads x y p.0 q.0 p.1 q.1, pair-followed a b p.0 q.0 p.2 q.2)
+  leads-follows (variant-along n x a h) = let p = leads-follows h in (variant n p.0, variant-leads n x p.0 p.1, variant-followed n a p.0 p.2)
+  leads-follows (reference-along r k f) =
+      let t = trees r.node.0 in
+      let read = f.tree_read in
+      let typed : t.type ≡ type_of k.kind = read.typed ∙ ap type_of (sym f.kind) in
+      let own = subst (λ n. ReadsAs stored types n k.key read.reads.own) typed read.reads.reads in
+      let led = reference-followed k read.reads.own t.meaning own read.reads.follows in
+      (followed r.kind.0 t.meaning, reference-leads r t.meaning read.typed refl, subst (λ n. IsFollowed (ReadsAs stored types) (reference k) (followed n t.meaning)) f.kind led)
+  leads-follows (followed-along kind x a n h) = absurd n
+
+  -- and each reference in it was got
+  all-got : {x : Meaning ArcRef} {m : Meaning KeyRef} → Along ⊥ (Found types stored trees got) x m → (r : ArcRef) → Among (references_in x) r → Among got r
+  unfolding references_in
+  all-got (number-along n) r (i, is) = absurd (cc)
+  all-got (integer-along z) r (i, is) = absurd (cc)
+  all-got (text-along t) r (i, is) = absurd (cc)
+  all-got (pattern-along t) r (i, is) = absurd (cc)
+  all-got none-along r (i, is) = absurd (cc)
+  all-got (pair-along x y a b h g) r (i, is) = elim (among-either (references_in x) (references_in y) i r is) [ inl among ↦ all-got h r among | inr among ↦ all-got g r among ]
+  all-got (variant-along n x a h) r among = all-got h r among
+  all-got (reference-along q k f) r (zero, is) = let same : q ≡ r = cc in subst (Among got) same f.among
+  all-got (reference-along q k f) r (suc i, is) = absurd (cc)
+  all-got (followed-along kind x a n h) r among = absurd n
+
+-- ---- a value's references are among those of its meaning
+
+is_ref : ArcRef → ArcRef → Bool
+is_ref r q = (q.kind.0 == r.kind.0) && ((q.node.0 == r.node.0) && (q.handle.0 == r.handle.0))
+
+refs-of : {r q : ArcRef} → q.kind.0 ≡ r.kind.0 → q.node.0 ≡ r.node.0 → q.handle.0 ≡ r.handle.0 → q ≡ r
+refs-of {r} {q} kind node handle =
+    ap (λ n. record q { kind = record { 0 = n } }) kind ∙ ap (λ n. record q { kind = r.kind; node = record { 0 = n } }) node ∙ ap (λ n. record r { handle = record { 0 = n } }) handle
+
+same-ref : (r q : ArcRef) → is_ref r q ≡ true → q ≡ r
+unfolding is_ref
+same-ref r q is =
+    let one_two = and_parts (q.kind.0 == r.kind.0) ((q.node.0 == r.node.0) && (q.handle.0 == r.handle.0)) is in
+    let two = and_parts (q.node.0 == r.node.0) (q.handle.0 == r.handle.0) one_two.1 in
+    refs-of (same-number _ _ one_two.0) (same-number _ _ two.0) (same-number _ _ two.1)
+
+is-itself : (r : ArcRef) → is_ref r r ≡ true
+unfolding is_ref
+is-itself r = rw (self-number r.kind.0, self-number r.node.0, self-number r.handle.0) refl
+
+pub meant-refs : (rs ss : List ArcRef) → SameReferences rs ss → (r : ArcRef) → Among rs r → Among ss r
+meant-refs rs ss same r among =
+    let one_here : 1 ≤ sum_by (λ q. one (is_ref r q)) rs = let a = at-most-sum (λ q. one (is_ref r q)) rs r among in let b = is-itself r in rw b at a in
+    let moved = same (is_ref r) in
+    let found = counted (λ q. one (is_ref r q)) ss (omega (arith, one_here, moved)) in
+    subst (Among ss) (same-ref r found.0 (one-true _ found.2)) found.1
+
+-- ---- the value
+
+module _ {N : Type 0} {v : Values N} (lawful : IsLawful v) (readable : ReadsItsTypes v.types) {stored : ℕ → Option Blob} {trees : ℕ → Tree} where
+  typed-along : (frame : Frame) (o : Option Shape) (blob : Blob) (got : List ArcRef) → v.types.nodes frame.node_type ≡ o → AllTwo (AnswersFor v.types stored trees got) (answers_from got 0 blob.keys) blob.keys
+      → Out any_cause (AnswersFor v.types stored trees got) (Along ⊥ (Found v.types stored trees got)) (read_typed (handles_at 0 v.types.parts) o (record { bytes = blob.bytes; refs = answers_from got 0 blob.keys })) (read_typed (blob_context v.types) o (rest_of blob))
+  typed-along frame None blob got is all = both-refused errors.WrongKind
+  typed-along frame (Some s) blob got is all =
+      let par = read_par {E = any_cause} {F = ⊥} {S = AnswersFor v.types stored trees got} {R = Found v.types stored trees got} answer_at (λ kind key. Ok (key_ref kind key)) (λ kind a key h. h kind) 0 s (inr (readable frame.node_type s is)) in
+      par.out _ _ (record { bytes = refl; refs = all })
+
+  pub decodes : (frame : Frame) (x : N) → FrameFits v.types stored trees frame → IsDecoded v frame x → Decoded v stored trees frame x
+  decodes frame x fits decoded =
+      let given = read-gives _ _ decoded.own decoded.read in
+      let all = answers 0 frame.blob.keys (λ i key r is at. let start : 0 + i ≡ i = omega arith in fits.got i key r (subst (λ n. slice_get frame.got n ≡ Some r) start is) at) in
+      let two = both-read (typed-along frame (v.types.nodes frame.node_type) frame.blob frame.got refl all) given.1 in
+      let led = leads-follows two.3 in
+      record {
+        t = tree frame.node_type led.0;
+        typed = refl;
+        reads = record { own = two.0; reads = record { blob = frame.blob; stored = fits.is; rest = two.1; reads = two.2 }; follows = led.2 };
+        leads = record { own = decoded.own; typed = decoded.typed; means = decoded.means; leads = led.1 };
+        got = λ r among. all-got two.3 r (meant-refs _ _ (lawful.refers x decoded.own decoded.means) r among);
+      }
+
+pub decodes_well : {N : Type 0} (v : Values N) → DecodesWell v
+decodes_well v lawful readable stored trees frame x fits decoded = decodes lawful readable frame x fits decoded
+
+-- ---- and stands for its tree
+
+among-left : {X : Type 0} (xs ys : List X) (i : ℕ) (r : X) → slice_get xs i ≡ Some r → Among (xs ++ ys) r
+among-left [] ys i r is = absurd (cc)
+among-left (x ∷ xs) ys zero r is = (zero, is)
+among-left (x ∷ xs) ys (suc i) r is = let a = among-left xs ys i r is in (suc a.0, a.1)
+
+among-right : {X : Type 0} (xs ys : List X) (i : ℕ) (r : X) → slice_get ys i ≡ Some r → Among (xs ++ ys) r
+among-right [] ys i r is = (i, is)
+among-right (x ∷ xs) ys i r is = let a = among-right xs ys i r is in (suc a.0, a.1)
+
+module _ {N E : Type 0} {v : Values N} {s : PagerState N E} {trees : ℕ → Tree} where
+  -- a meaning that leads to a tree stands for it where the nodes that it refers to do
+  pub leads-stands : {x : Meaning ArcRef} {a : Meaning ⊥} → LeadsTo trees x a → ((r : ArcRef) → Among (references_in x) r → NodeStands v s r.node.0 (trees r.node.0)) → MeaningStands v s x a
+  unfolding references_in
+  leads-stands (number-leads i) h = number-stands i
+  leads-stands (integer-leads z) h = integer-stands z
+  leads-stands (text-leads t) h = text-stands t
+  leads-stands (pattern-leads t) h = pattern-stands t
+  leads-stands none-leads h = none-stands
+  leads-stands (pair-leads x y a b f g) h =
+      let left = leads-stands f (λ r among. h r (among-left (references_in x) (references_in y) among.0 r among.1)) in
+      let right = leads-stands g (λ r among. h r (among-right (references_in x) (references_in y) among.0 r among.1)) in
+      pair-stands x y a b left right
+  leads-stands (variant-leads i x a f) h = variant-stands i x a (leads-stands f h)
+  leads-stands (followed-leads kind x a f) h = followed-stands kind x a (leads-stands f h)
+  leads-stands (reference-leads r a typed meant) h = reference-stands r a (subst (λ (t : Tree). NodeStands v s r.node.0 t) (tree_is _ _ _ _ typed meant) (h r (zero, refl)))
+
+pub read_stands : {N E : Type 0} (v : Values N) → ReadStands E v
+read_stands v lawful readable s trees frame x t fits decoded nodes typed reads_tree =
+    let read = decodes lawful readable frame x fits decoded in
+    let led = read.leads in
+    let same : read.t ≡ t = one_tree s.core.stored v.types frame.key read.t t (read.typed ∙ sym typed) read.reads reads_tree in
+    let meant = leads-stands led.leads (λ r among. nodes r (meant-refs _ _ (λ is. sym (lawful.refers x led.own led.means is)) r among)) in
+    record { own = led.own; typed = led.typed ∙ ap (λ (z : Tree). z.type) same; means = led.means; stands = subst (λ (z : Tree). MeaningStands v s led.own z.meaning) same meant }

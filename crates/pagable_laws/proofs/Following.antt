@@ -1,0 +1,249 @@
+-- A form of a node's value is one of its tree: over its references it is followed to their nodes' trees, and with their keys it stands under the tree's own.
+use Rattle.std.proofs.Common.{◌≡◌, ℕ, zero, suc, ◌<◌, ◌≤◌, ◌&&◌, Bool, true, false, List, [], ◌∷◌, map, Option, Some, None, Result, Ok, refl, sym, ap, subst, ◌∙◌, inr, arith}
+use Rattle.std.specs.Prelude.{is_some, nat_lt, slice_get}
+use Rattle.std.proofs.lemmas.Bool.Decides.{nat_tests}
+use Rattle.std.proofs.lemmas.List.{append-nil}
+use Rattle.pagable_model.specs.declared.error.Error.{Error}
+use Rattle.pagable_model.specs.Meaning.{number, integer, text, pattern, none, pair, variant, reference, followed, rename}
+use Rattle.pagable_model.specs.Reading.{Rest, deepest}
+use Rattle.pagable_model.specs.Form.{Form}
+use Rattle.pagable_model.specs.Writing.{kind_of_arc}
+use Rattle.pagable_model.specs.Canonical.{IsReadable, Throughout}
+use Rattle.pagable_model.specs.Deep.{Kid, kid, kind_of_kid, tree_of_kid}
+use Rattle.pagable_model.specs.Trees.{KeyRef, key_ref, IsFollowed, number-followed, integer-followed, text-followed, pattern-followed, none-followed, pair-followed, variant-followed, reference-followed}
+use Rattle.pagable_model.specs.Merkle.{unfolded, TreeForm, blob_of, KeyOf, key-of, KeysOf, no-keys, more-keys, kind_of_ref, key_of_ref, StoredAs}
+use Rattle.pagable_world.specs.Plain.{ArcRef, Identity, Meaning, Shape, Tree, tree, Types, type_of, Among, if_there}
+use Rattle.pagable_world.specs.Kinds.{identity_of, held}
+use Rattle.pagable_world.specs.World.{Core, Cell, Shelf, Slot, Outcome, published, Written, Values, digest, type_at}
+use Rattle.pagable_world.specs.Refusals.{IsReference}
+use Rattle.pagable_world.specs.Workers.{IsPublished}
+use Rattle.pagable_world.specs.Pager.{PagerState, WellFormed, HandlesAreWhole, NodeStands, here, away, MeaningStands, number-stands, integer-stands, text-stands, pattern-stands, none-stands, pair-stands, variant-stands, followed-stands, reference-stands, Represents, IsWrittenOf, kids_of}
+use Rattle.pagable_world.specs.Runs.{HoldsSettled, ReadsItsTypes}
+use Rattle.pagable_world.specs.Headline.{AreKeysOf}
+use Rattle.pagable_laws.specs.FormLaws.{rest, at, LooksUp, no-references, more-references}
+use Rattle.pagable_laws.specs.PageOutLaws.{Ground, FollowsTo, number-follows, integer-follows, text-follows, pattern-follows, none-follows, pair-follows, variant-follows, reference-follows, WroteTree, KeyStands}
+use Rattle.pagable_laws.proofs.Again.{read_again}
+use Rattle.pagable_laws.proofs.Along.{Along, number-along, integer-along, text-along, pattern-along, none-along, pair-along, variant-along, reference-along, followed-along, AllTwo, no-two, more-two}
+use Rattle.pagable_laws.proofs.Related.{Out, both-given, both-refused, first-refused, OutLook, both-looked-up, read_par}
+use Rattle.pagable_laws.proofs.Natural.{keeps_forms}
+use Rattle.pagable_laws.proofs.Trees.{same_some, one_tree}
+
+-- ---- the references in a form's meaning are those of the form, and none is followed
+
+-- no cause
+abbrev no_cause : Error → Type 0
+no_cause e = ⊥
+
+module _ {A : Type 0} where
+  itself : (kind_of : A → ℕ) (k : List A) → LooksUp (λ kind (a : A). Ok a) kind_of k k
+  itself kind_of [] = no-references
+  itself kind_of (a ∷ k) = more-references a k a k refl (itself kind_of k)
+
+  each-among : (P : A → Type 0) (k : List A) → ((a : A) → Among k a → P a) → AllTwo (λ a b. P a) k k
+  each-among P [] h = no-two
+  each-among P (a ∷ k) h = more-two a a k k (h a (0, refl)) (each-among P k (λ b among. h b (suc among.0, among.1)))
+
+  along-out : {S : A → A → Type 0} {R : A → A → Type 0} {m : Meaning A} {after : Rest A} {first second : Result (Meaning A × Rest A) Error} → Out no_cause S (Along ⊥ R) first second → first ≡ Ok (m, after) → (n : Meaning A) × Along ⊥ R m n
+  along-out {R = R} {m} {after} (both-given p q v s) e = let same : p ≡ (m, after) = cc in (q.0, subst (λ (x : Meaning A × Rest A). Along ⊥ R x.0 q.0) same v)
+  along-out (both-refused x) e = absurd (cc)
+  along-out (first-refused x r c) e = absurd c
+
+  pub references-among : {kind_of : A → ℕ} {parts : ℕ → Shape} {s : Shape} {m : Meaning A} {b : List ℕ} {k : List A} → Throughout IsReadable parts s → Form A kind_of parts deepest s m b k → (n : Meaning A) × Along ⊥ (λ a c. Among k a) m n
+  references-among {kind_of} {parts} {s} {m} {b} {k} can f =
+      let whole = read_again parts s can 0 (λ kind a. Ok a) kind_of m b [] k k [] (itself kind_of k) f in
+      let par = read_par {E = no_cause} {F = ⊥} {S = λ a c. Among k a} {R = λ a c. Among k a} (λ kind a. Ok a) (λ kind a. Ok a) (λ kind a c s. both-looked-up a c s) 0 s (inr can) in
+      along-out (par.out (rest b k) (rest b k) (record { bytes = refl; refs = each-among (λ a. Among k a) k (λ a among. among) })) (rw (append-nil, append-nil) at whole)
+
+-- ---- a node stands for one tree of its type
+
+module _ {N E : Type 0} {v : Values N} {s : PagerState N E} (settled : HoldsSettled v s) where
+  mutual
+    pub one-node : {n : ℕ} {t u : Tree} → NodeStands v s n t → NodeStands v s n u → t.type ≡ u.type → t.meaning ≡ u.meaning
+    one-node (here n x own t held typed means stands fits) (here n2 y own2 u held2 typed2 means2 stands2 fits2) e =
+        let same : y ≡ x = same_some _ _ (sym held2 ∙ held) in
+        one-meaning stands stands2 (sym (settled n x held own own2 means (subst (λ z. v.means z own2) same means2)))
+    one-node (away n key t none_there keyed fits) (away n2 key2 u none2 keyed2 fits2) e = ap (λ (z : Tree). z.meaning) (one_tree s.core.stored v.types key t u e (fits key keyed) (fits2 key keyed))
+    one-node (here n x own t held typed means stands fits) (away n2 key2 u none2 keyed2 fits2) e = absurd (cc)
+    one-node (away n key t none_there keyed fits) (here n2 y own2 u held2 typed2 means2 stands2 fits2) e = absurd (cc)
+
+    one-meaning : {x y : Meaning ArcRef} {a b : Meaning ⊥} → MeaningStands v s x a → MeaningStands v s y b → x ≡ y → a ≡ b
+    one-meaning (number-stands i) (number-stands j) e = let same : i ≡ j = cc in rw same refl
+    one-meaning (integer-stands i) (integer-stands j) e = let same : i ≡ j = cc in rw same refl
+    one-meaning (text-stands i) (text-stands j) e = let same : i ≡ j = cc in rw same refl
+    one-meaning (pattern-stands i) (pattern-stands j) e = let same : i ≡ j = cc in rw same refl
+    one-meaning none-stands none-stands e = refl
+    one-meaning (pair-stands x y a b h g) (pair-stands x2 y2 a2 b2 h2 g2) e = rw (one-meaning h h2 cc, one-meaning g g2 cc) refl
+    one-meaning (variant-stands i x a h) (variant-stands j y b h2) e = let same : i ≡ j = cc in rw (same, one-meaning h h2 cc) refl
+    one-meaning (followed-stands i x a h) (followed-stands j y b h2) e = let same : i ≡ j = cc in rw (same, one-meaning h h2 cc) refl
+    one-meaning (reference-stands r a h) (reference-stands r2 b h2) e =
+        let same : r2 ≡ r = cc in
+        let moved = let P : ArcRef → Type 0 = λ q. NodeStands v s q.node.0 (tree (type_of q.kind.0) b) in subst P same h2 in
+        rw (same, one-node h moved refl) refl
+    one-meaning h g e = absurd (cc)
+
+-- ---- what is live
+
+nothing-typed : (w : Core) (n t : ℕ) → type_at w n ≡ Some t → is_some (w.cells n) ≡ true
+nothing-typed w n t is = of (w.cells n) is
+  where
+    of : (c : Option Cell) → if_there (λ (cell : Cell). Some cell.node_type) None c ≡ Some t → is_some c ≡ true
+    of None e = absurd (cc)
+    of (Some c) e = refl
+
+module _ {w : Core} (whole : HandlesAreWhole w) (n : ℕ) where
+  pub held-of : is_some (w.cells n) ≡ true → 0 < held n w.rows
+  held-of is = let f : nat_lt 0 (held n w.rows) ≡ true = sym (whole.live n) ∙ is in grind (arith, nat_tests)
+
+  pub cell-of : 0 < held n w.rows → is_some (w.cells n) ≡ true
+  cell-of some = let f : nat_lt 0 (held n w.rows) ≡ true = grind (arith, nat_tests) in whole.live n ∙ f
+
+  pub given-of : {t : ℕ} → type_at w n ≡ Some t → (0 < held n w.rows) × (n ≤ w.last.node)
+  given-of is = let there = nothing-typed w n _ is in (held-of there, (whole.nodes_numbered n there).1)
+
+first-true : (a b : Bool) → (a && b) ≡ true → a ≡ true
+first-true true b is = refl
+first-true false b is = absurd (cc)
+
+-- ---- what was written
+
+module _ {N E : Type 0} {v : Values N} {s : PagerState N E} {trees : ℕ → Tree} (rs : List ArcRef)
+    (heads : (r : ArcRef) (b : Meaning ⊥) → Among rs r → NodeStands v s r.node.0 (tree (type_of r.kind.0) b) → (trees r.node.0).meaning ≡ b) where
+  follows-to : {x n : Meaning ArcRef} {a : Meaning ⊥} → MeaningStands v s x a → Along ⊥ (λ r c. Among rs r) x n → FollowsTo trees rs x a
+  follows-to (number-stands i) h = number-follows i
+  follows-to (integer-stands i) h = integer-follows i
+  follows-to (text-stands i) h = text-follows i
+  follows-to (pattern-stands i) h = pattern-follows i
+  follows-to none-stands h = none-follows
+  follows-to (pair-stands x y a b h g) (pair-along x2 y2 a2 b2 k l) = pair-follows x y a b (follows-to h k) (follows-to g l)
+  follows-to (variant-stands i x a h) (variant-along j x2 a2 k) = variant-follows i x a (follows-to h k)
+  follows-to (followed-stands i x a h) (followed-along j x2 a2 f k) = absurd f
+  follows-to (reference-stands r a h) (reference-along r2 c among) = reference-follows r a among (heads r a among h)
+
+module _ {N E : Type 0} {v : Values N} {s : PagerState N E} {trees : ℕ → Tree} (represents : Represents v s trees) (whole : WellFormed v s) (settled : HoldsSettled v s) (reads : ReadsItsTypes v.types) where
+  refers : (n : ℕ) (x : N) (r : ArcRef) → s.values n ≡ Some x → Among (v.references x) r → (r.node.0 ≤ s.core.last.node) × ((b : Meaning ⊥) → NodeStands v s r.node.0 (tree (type_of r.kind.0) b) → (trees r.node.0).meaning ≡ b)
+  refers n x r there among =
+      let is = whole.references n x r there among in
+      let given = given-of whole.whole.handles r.node.0 is.typed in
+      let types : (trees r.node.0).type ≡ type_of r.kind.0 = same_some _ _ (sym (represents.typed r.node.0 given.0) ∙ is.typed) in
+      (given.1, λ b stands. one-node settled (represents.stands r.node.0 given.0) stands types)
+
+  wrote-of : (n : ℕ) (written : Written) (t : Tree) → t ≡ trees n → NodeStands v s n t → IsWrittenOf v s n written → WroteTree v.types (record { stored = s.core.stored; last = s.core.last.node; trees = trees }) n written
+  wrote-of n written t is (here n2 x own t2 there typed means stands fits) w =
+      let same : w.x ≡ x = same_some _ _ (sym w.held ∙ there) in
+      let own_is : own ≡ w.form.own = settled n w.x w.held w.form.own own w.form.means (subst (λ z. v.means z own) (sym same) means) in
+      let meant : MeaningStands v s w.form.own (trees n).meaning = subst (λ (z : Tree). MeaningStands v s w.form.own z.meaning) is (subst (λ m. MeaningStands v s m t.meaning) own_is stands) in
+      let shape_is : v.types.nodes (trees n).type ≡ Some w.form.shape = ap (λ (z : Tree). v.types.nodes z.type) (sym is) ∙ ap v.types.nodes (sym typed) ∙ ap (λ z. v.types.nodes (v.node_type z)) (sym same) ∙ w.form.is in
+      let of-value : (r : ArcRef) → Among written.references r → Among (v.references w.x) r = λ r among. subst (λ (rs : List ArcRef). Among rs r) w.listed among in
+      let alone = references-among (reads (trees n).type w.form.shape shape_is) w.form.form in
+      record {
+        shape = w.form.shape;
+        own = w.form.own;
+        is = shape_is;
+        form = w.form.form;
+        follows = follows-to written.references (λ r b among stands. (refers n w.x r w.held (of-value r among)).1 b stands) meant alone.1;
+        given = λ r among. (refers n w.x r w.held (of-value r among)).0;
+      }
+  wrote-of n written t is (away n2 key t2 none_there keyed fits) w = let f = w.held in absurd (cc)
+
+  -- what a worker writes of a node
+  pub wrote : (n : ℕ) (written : Written) → IsWrittenOf v s n written → WroteTree v.types (record { stored = s.core.stored; last = s.core.last.node; trees = trees }) n written
+  wrote n written w =
+      let there : is_some (s.values n) ≡ true = ap is_some w.held in
+      let live = held-of whole.whole.handles n (first-true _ _ (sym (whole.valued n) ∙ there)) in
+      wrote-of n written (trees n) refl (represents.stands n live) w
+
+-- ---- its tree's form and key
+
+-- the key that is known of an identity, and the reference by its key
+abbrev key_of_outcome : Outcome → ℕ
+key_of_outcome (published key height) = key
+key_of_outcome _ = 0
+
+abbrev keyed_by : Shelf → ArcRef → KeyRef
+keyed_by shelf r = key_ref r.kind.0 (if_there (λ (slot : Slot). key_of_outcome slot.outcome) 0 (shelf.slots (identity_of r)))
+
+module _ (shelf : Shelf) where
+  known-key : (r : ArcRef) (k h : ℕ) → IsPublished shelf (identity_of r) k h → (keyed_by shelf r).key ≡ k
+  known-key r k h p = ap (λ (slot : Option Slot). if_there (λ (slot : Slot). key_of_outcome slot.outcome) 0 slot) p.claimed ∙ ap key_of_outcome p.known
+
+  keys-are : (rs : List ArcRef) (keys : List ℕ) → AreKeysOf shelf rs keys → keys ≡ map key_of_ref (map (keyed_by shelf) rs)
+  keys-are [] [] known = refl
+  keys-are [] (k ∷ ks) known = absurd known
+  keys-are (r ∷ rs) [] known = absurd known
+  keys-are (r ∷ rs) (k ∷ ks) ((h, p), known) = rw (known-key r k h p, ← keys-are rs ks known) refl
+
+  -- of each reference a key is known
+  pub known-of : (rs : List ArcRef) (keys : List ℕ) → AreKeysOf shelf rs keys → (r : ArcRef) → Among rs r → (k : ℕ) × ((h : ℕ) × IsPublished shelf (identity_of r) k h)
+  known-of [] keys known r (i, e) = absurd (cc)
+  known-of (x ∷ rs) [] known r among = absurd known
+  known-of (x ∷ rs) (k ∷ ks) (p, known) r (zero, e) = let same : x ≡ r = cc in (k, (p.0, subst (λ (z : ArcRef). IsPublished shelf (identity_of z) k p.0) same p.1))
+  known-of (x ∷ rs) (k ∷ ks) (p, known) r (suc i, e) = known-of rs ks known r (i, e)
+
+-- a known key stands for the tree of its node, which is of its kind's type
+pub record IdentityStands {N : Type 0} (v : Values N) (g : Ground) (i : Identity) (key : ℕ) : Type 0 where
+  pub typed : (g.trees i.node.0).type ≡ type_of i.kind.0
+  pub right : KeyStands v g.stored (g.trees i.node.0) key
+
+module _ {N : Type 0} {v : Values N} {g : Ground} {shelf : Shelf} (right : (i : Identity) (k h : ℕ) → IsPublished shelf i k h → IdentityStands v g i k) where
+  kid-key : (r : ArcRef) (k h : ℕ) → IsPublished shelf (identity_of r) k h → KeyOf v.hash v.types (tree (type_of r.kind.0) (g.trees r.node.0).meaning) k
+  kid-key r k h p = let is = right (identity_of r) k h p in subst (λ (t : ℕ). KeyOf v.hash v.types (tree t (g.trees r.node.0).meaning) k) is.typed is.right.is_key
+
+  -- the keys that are known of references are those of what they lead to
+  pub keys-of : (rs : List ArcRef) (keys : List ℕ) → AreKeysOf shelf rs keys → KeysOf v.hash v.types (kids_of g.trees rs) keys
+  keys-of [] [] known = no-keys
+  keys-of [] (k ∷ ks) known = absurd known
+  keys-of (r ∷ rs) [] known = absurd known
+  keys-of (r ∷ rs) (k ∷ ks) ((h, p), known) = more-keys _ _ k ks (kid-key r k h p) (keys-of rs ks known)
+
+  follows-keys : (rs : List ArcRef) (keys : List ℕ) → AreKeysOf shelf rs keys → {x : Meaning ArcRef} {a : Meaning ⊥} → FollowsTo g.trees rs x a → IsFollowed (StoredAs g.stored v.types) (rename (keyed_by shelf) x) a
+  unfolding rename
+  follows-keys rs keys known (number-follows i) = number-followed i
+  follows-keys rs keys known (integer-follows i) = integer-followed i
+  follows-keys rs keys known (text-follows i) = text-followed i
+  follows-keys rs keys known (pattern-follows i) = pattern-followed i
+  follows-keys rs keys known none-follows = none-followed
+  follows-keys rs keys known (pair-follows x y a b h k) = pair-followed _ _ a b (follows-keys rs keys known h) (follows-keys rs keys known k)
+  follows-keys rs keys known (variant-follows i x a h) = variant-followed i _ a (follows-keys rs keys known h)
+  follows-keys rs keys known (reference-follows r a among is) =
+      let p = known-of shelf rs keys known r among in
+      let stands = right (identity_of r) p.0 p.1.0 p.1.1 in
+      let P : ℕ → ℕ → Type 0 = λ t k. StoredAs g.stored v.types t k stands.right.stands.own in
+      reference-followed (keyed_by shelf r) stands.right.stands.own a (subst (λ k. P (type_of r.kind.0) k) (sym (known-key shelf r p.0 p.1.0 p.1.1)) (subst (λ t. P t p.0) stands.typed stands.right.stands.stands))
+      (subst (λ m. IsFollowed (StoredAs g.stored v.types) stands.right.stands.own m) is stands.right.stands.follows)
+
+renamed-kids : (trees : ℕ → Tree) (rs : List ArcRef) {x : Meaning ArcRef} {a : Meaning ⊥} → FollowsTo trees rs x a → rename (λ (r : ArcRef). kid r.kind.0 (trees r.node.0).meaning) x ≡ unfolded a
+unfolding rename unfolded
+renamed-kids trees rs (number-follows i) = refl
+renamed-kids trees rs (integer-follows i) = refl
+renamed-kids trees rs (text-follows i) = refl
+renamed-kids trees rs (pattern-follows i) = refl
+renamed-kids trees rs none-follows = refl
+renamed-kids trees rs (pair-follows x y a b h k) = rw (renamed-kids trees rs h, renamed-kids trees rs k) refl
+renamed-kids trees rs (variant-follows i x a h) = rw (renamed-kids trees rs h) refl
+renamed-kids trees rs (reference-follows r a among is) = ap (λ (m : Meaning ⊥). let z : Meaning Kid = reference (kid r.kind.0 m) in z) is
+
+-- what was written is a form of the node's tree
+pub tree-form : {types : Types} {g : Ground} {n : ℕ} {written : Written} → (w : WroteTree types g n written) → TreeForm types w.shape (g.trees n).meaning written.bytes (kids_of g.trees written.references)
+tree-form {types} {g} {n} {written} w =
+    let f = keeps_forms (λ (r : ArcRef). kid r.kind.0 (g.trees r.node.0).meaning) kind_of_arc kind_of_kid types.parts deepest w.shape w.own written.bytes written.references (λ r. refl) w.form in
+    subst (λ m. Form Kid kind_of_kid types.parts deepest w.shape m written.bytes (kids_of g.trees written.references)) (renamed-kids g.trees written.references w.follows) f
+
+-- its blob is of the tree's key, under which the tree is stored
+pub key-stands : {N : Type 0} {v : Values N} {g : Ground} {shelf : Shelf} {n key : ℕ} {written : Written} (keys : List ℕ) → ((i : Identity) (k h : ℕ) → IsPublished shelf i k h → IdentityStands v g i k)
+    → WroteTree v.types g n written → AreKeysOf shelf written.references keys → g.stored key ≡ Some (blob_of written.bytes keys) → key ≡ digest v (blob_of written.bytes keys) → KeyStands v g.stored (g.trees n) key
+key-stands {v = v} {g} {shelf} {n} {key} {written} keys right w known is_stored is =
+    record {
+      is_key = subst (λ k. KeyOf v.hash v.types (g.trees n) k) (sym is) (key-of (g.trees n) w.shape written.bytes (kids_of g.trees written.references) keys w.is (tree-form w) (keys-of right written.references keys known));
+      stands = record {
+        own = rename (keyed_by shelf) w.own;
+        stands = record {
+          shape = w.shape;
+          is = w.is;
+          bytes = written.bytes;
+          refs = map (keyed_by shelf) written.references;
+          form = keeps_forms (keyed_by shelf) kind_of_arc kind_of_ref v.types.parts deepest w.shape w.own written.bytes written.references (λ r. refl) w.form;
+          stored = is_stored ∙ ap (λ ks. Some (blob_of written.bytes ks)) (keys-are shelf written.references keys known);
+        };
+        follows = follows-keys right written.references keys known w.follows;
+      };
+    }

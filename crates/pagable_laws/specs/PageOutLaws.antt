@@ -1,0 +1,153 @@
+-- What tables and workers hold of a page-out, by trees: an invariant of runs, and what follows from it of published and answered keys.
+use Rattle.std.specs.Prelude.{ℕ, ℤ, ◌≡◌, ◌≤◌, List, [], ◌∷◌, drop, length, Option, Some, None}
+use Rattle.pagable_model.specs.Meaning.{number, integer, text, pattern, none, pair, variant, reference, followed}
+use Rattle.pagable_model.specs.Reading.{deepest}
+use Rattle.pagable_model.specs.Form.{Form}
+use Rattle.pagable_model.specs.Writing.{kind_of_arc}
+use Rattle.pagable_model.specs.Merkle.{blob_of, KeyOf, StoredTree}
+use Rattle.pagable_world.specs.Plain.{ArcRef, Identity, Blob, Meaning, Shape, Tree, Types, type_of, Among}
+use Rattle.pagable_world.specs.Kinds.{identity_of, has_key}
+use Rattle.pagable_world.specs.World.{Core, Shelf, Slot, no_result, published, Written, Open, Todo, to_start, to_pin, to_load, to_write, to_finish, to_item, to_set, to_publish, to_release, to_fail, Task, of_item, of_entry, Walking, Values, Seen, IsLawful, digest, key_at}
+use Rattle.pagable_world.specs.Workers.{IsPublished}
+use Rattle.pagable_world.specs.Pager.{MachineState, IsMachineWhole, IsIdle, StandsFor, SameTrees}
+use Rattle.pagable_world.specs.Runs.{Does, HoldsSettled, ReadsItsTypes}
+use Rattle.pagable_world.specs.Headline.{AreKeysOf, AnswerIsKey}
+
+-- what is stored, the last node, and the trees of nodes
+pub record Ground : Type 0 where
+  pub stored : ℕ → Option Blob
+  pub last : ℕ
+  pub trees : ℕ → Tree
+
+abbrev pub ground_of : {N E : Type 0} → MachineState N E → (ℕ → Tree) → Ground
+ground_of s trees = record { stored = s.pager.core.stored; last = s.pager.core.last.node; trees = trees }
+
+-- the key is the tree's, and the tree is stored under it, each value as a form under its key
+pub record KeyStands {N : Type 0} (v : Values N) (stored : ℕ → Option Blob) (t : Tree) (key : ℕ) : Type 0 where
+  pub is_key : KeyOf v.hash v.types t key
+  pub stands : StoredTree stored v.types key t
+
+-- A meaning whose references are some of these, and the same where each is followed to its node's tree. Nothing in it is followed already.
+pub data FollowsTo (trees : ℕ → Tree) (rs : List ArcRef) : Meaning ArcRef → Meaning ⊥ → Type 0 where
+  number-follows : (i : ℕ) → FollowsTo trees rs (number i) (number i)
+  integer-follows : (z : ℤ) → FollowsTo trees rs (integer z) (integer z)
+  text-follows : (t : List ℕ) → FollowsTo trees rs (text t) (text t)
+  pattern-follows : (t : List ℕ) → FollowsTo trees rs (pattern t) (pattern t)
+  none-follows : FollowsTo trees rs none none
+  pair-follows : (x y : Meaning ArcRef) (a b : Meaning ⊥) → FollowsTo trees rs x a → FollowsTo trees rs y b → FollowsTo trees rs (pair x y) (pair a b)
+  variant-follows : (i : ℕ) (x : Meaning ArcRef) (a : Meaning ⊥) → FollowsTo trees rs x a → FollowsTo trees rs (variant i x) (variant i a)
+  reference-follows : (r : ArcRef) (a : Meaning ⊥) → Among rs r → (trees r.node.0).meaning ≡ a → FollowsTo trees rs (reference r) (followed r.kind.0 a)
+
+-- What was written is a form of the node's tree over its references, whose nodes were all given.
+pub record WroteTree (types : Types) (g : Ground) (n : ℕ) (written : Written) : Type 0 where
+  pub shape : Shape
+  pub own : Meaning ArcRef
+  pub is : types.nodes (g.trees n).type ≡ Some shape
+  pub form : Form ArcRef kind_of_arc types.parts deepest shape own written.bytes written.references
+  pub follows : FollowsTo g.trees written.references own (g.trees n).meaning
+  pub given : (r : ArcRef) → Among written.references r → r.node.0 ≤ g.last
+
+-- under the key, which is that of the node's tree, stands what was written over the keys that are known of its references
+pub record BlobStands {N : Type 0} (v : Values N) (g : Ground) (shelf : Shelf) (n : ℕ) (written : Written) (key : ℕ) : Type 0 where
+  pub keys : List ℕ
+  pub known : AreKeysOf shelf written.references keys
+  pub is_stored : g.stored key ≡ Some (blob_of written.bytes keys)
+  pub right : KeyStands v g.stored (g.trees n) key
+
+-- a slot is of a node that was given, of its kind's type; what was written is a form of its tree, and stands under the key that is known
+pub record SlotFits {N : Type 0} (v : Values N) (g : Ground) (shelf : Shelf) (i : Identity) (slot : Slot) : Type 0 where
+  pub given : i.node.0 ≤ g.last
+  pub typed : (g.trees i.node.0).type ≡ type_of i.kind.0
+  pub writes : (written : Written) → slot.written ≡ Some written → WroteTree v.types g i.node.0 written
+  pub publishes : (key height : ℕ) → slot.outcome ≡ published key height → (written : Written) × (slot.written ≡ Some written) × BlobStands v g shelf i.node.0 written key
+
+-- the worker's claim of the identity, of which this is written, and which has no result yet
+pub record IsMine (shelf : Shelf) (n : ℕ) (i : Identity) (written : Option Written) : Type 0 where
+  pub slot : Slot
+  pub claimed : shelf.slots i ≡ Some slot
+  pub own : slot.worker ≡ n
+  pub wrote : slot.written ≡ written
+  pub no_result_yet : slot.outcome ≡ no_result
+
+-- the keys that are known of the first of the references
+unfoldable pub KeysSoFar : Shelf → List ArcRef → List ℕ → Type 0
+KeysSoFar shelf rs [] = Unit {0}
+KeysSoFar shelf [] (k ∷ ks) = ⊥
+KeysSoFar shelf (r ∷ rs) (k ∷ ks) = ((height : ℕ) × IsPublished shelf (identity_of r) k height) × KeysSoFar shelf rs ks
+
+-- the reference is the next one after those whose keys are known
+abbrev pub IsNextOf : List ArcRef → List ℕ → ArcRef → Type 0
+IsNextOf rs keys r = (more : List ArcRef) × (drop (length keys) rs ≡ r ∷ more)
+
+-- the reference is that of the task's entry
+abbrev pub IsOfEntry : Task → ArcRef → Type 0
+IsOfEntry (of_entry h i) r = identity_of r ≡ i
+IsOfEntry (of_item written) r = ⊥
+
+-- what waits below is for this reference; and where nothing waits, it is that of the task's entry
+abbrev pub Expects : Task → ArcRef → List Todo → Type 0
+Expects task r [] = IsOfEntry task r
+Expects task r (to_finish o ∷ below) = IsNextOf o.written.references o.keys r
+Expects task r (to_item written keys ∷ below) = IsNextOf written.references keys r
+Expects task r (x ∷ below) = ⊥
+
+-- P of the identity of each written node that waits
+unfoldable pub EachOpen : (Identity → Type 0) → List Todo → Type 0
+EachOpen P [] = Unit {0}
+EachOpen P (to_finish o ∷ below) = P (identity_of o.reference) × EachOpen P below
+EachOpen P (x ∷ below) = Unit {0}
+
+abbrev pub Apart : Identity → List Todo → Type 0
+Apart i todo = EachOpen (λ j. i ≡ j → ⊥) todo
+
+-- what waits: written nodes, each claimed by the worker, with the keys of its first references, and the task's item
+unfoldable pub Waits : Shelf → ℕ → Task → List Todo → Type 0
+Waits shelf n task [] = Unit {0}
+Waits shelf n task (to_finish o ∷ below) =
+    IsMine shelf n (identity_of o.reference) (Some o.written)
+    × KeysSoFar shelf o.written.references o.keys
+    × Apart (identity_of o.reference) below
+    × Expects task o.reference below
+    × Waits shelf n task below
+Waits shelf n task (to_item written keys ∷ below) = (task ≡ of_item written) × KeysSoFar shelf written.references keys
+Waits shelf n task (x ∷ below) = ⊥
+
+-- below the reference stands what waits for it, and nothing below is of the same identity
+pub record Above (shelf : Shelf) (n : ℕ) (task : Task) (r : ArcRef) (below : List Todo) : Type 0 where
+  pub apart : Apart (identity_of r) below
+  pub expects : Expects task r below
+  pub waits : Waits shelf n task below
+
+-- the key of the worker's claim stands for what was written of it
+pub record HasBlob {N : Type 0} (v : Values N) (g : Ground) (shelf : Shelf) (n : ℕ) (r : ArcRef) (key : ℕ) : Type 0 where
+  pub written : Written
+  pub mine : IsMine shelf n (identity_of r) (Some written)
+  pub stands : BlobStands v g shelf r.node.0 written key
+
+-- what a worker has to do fits its table and trees
+abbrev pub Walks : {N : Type 0} → Values N → Ground → Shelf → ℕ → Task → List Todo → Type 0
+Walks v g shelf n task [] = Unit {0}
+Walks v g shelf n task (to_start r place ∷ below) = Expects task r below × Waits shelf n task below
+Walks v g shelf n task (to_pin r place ∷ below) = IsMine shelf n (identity_of r) None × Above shelf n task r below
+Walks v g shelf n task (to_load r place through reading ∷ below) = IsMine shelf n (identity_of r) None × Above shelf n task r below
+Walks v g shelf n task (to_write r place through ∷ below) = IsMine shelf n (identity_of r) None × Above shelf n task r below
+Walks v g shelf n task (to_finish o ∷ below) = Waits shelf n task (to_finish o ∷ below)
+Walks v g shelf n task (to_item written keys ∷ below) = Waits shelf n task (to_item written keys ∷ below)
+Walks v g shelf n task (to_set r through key height ∷ below) = HasBlob v g shelf n r key × Above shelf n task r below
+Walks v g shelf n task (to_publish r key height ∷ below) = HasBlob v g shelf n r key × Above shelf n task r below
+Walks v g shelf n task (to_release r key height ∷ below) = IsPublished shelf (identity_of r) key height × Expects task r below × Waits shelf n task below
+Walks v g shelf n task (to_fail fault back ∷ below) = Unit {0}
+
+-- all slots and all workers of the machine fit
+pub record WorkFits {N E : Type 0} (v : Values N) (s : MachineState N E) (trees : ℕ → Tree) : Type 0 where
+  pub slots : (t : ℕ) (i : Identity) (slot : Slot) → (s.work.shelves t).slots i ≡ Some slot → SlotFits v (ground_of s trees) (s.work.shelves t) i slot
+  pub walks : (n : ℕ) (walking : Walking) → s.work.walkings n ≡ Some walking → Walks v (ground_of s trees) (s.work.shelves walking.table) n walking.task walking.todo
+
+-- what was stored stays stored, and no number of a node is taken back
+pub record GoesOn (w w' : Core) : Type 0 where
+  pub kept : (key : ℕ) (b : Blob) → w.stored key ≡ Some b → w'.stored key ≡ Some b
+  pub last : w.last.node ≤ w'.last.node
+
+-- it fits where nobody works yet
+abbrev pub FitsAtFirst : {N : Type 0} → (E : Type 0) → Values N → Type 0
+FitsAtFirst {N} E v = (s : MachineState N E) (trees : ℕ → Tree) → IsIdle s → WorkFits v s trees
