@@ -1,7 +1,12 @@
--- Each step is felt as it is said.
+-- What each call keeps, by its summary.
 use Rattle.pagable_world.specs.World.{Seen}
-use Rattle.pagable_laws.specs.StepLaws.{StepsKeep}
-use Rattle.pagable_laws.proofs.Calling.{asks}
+use Rattle.pagable_laws.specs.StepLaws.{CallsKeep}
+use Rattle.pagable_laws.proofs.Called.{calls-go}
 
-pub steps_keep : {N B W : Type 0} (m : Seen N B W) → StepsKeep m
-steps_keep m u u' event reply stays step = ?
+pub calls_keep : {N B W : Type 0} (m : Seen N B W) → CallsKeep m
+calls_keep m =
+    record {
+      each = λ w w' me call reply free stays step.
+          let g = calls-go m w me free w' call reply stays step.does in
+          record { stored = g.goes.stored; nodes = g.goes.nodes; handles = g.goes.handles; loads = g.goes.loads_last };
+    }

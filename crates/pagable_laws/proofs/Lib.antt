@@ -28,6 +28,7 @@ mod Nexts
 mod Goes
 mod GoodReferences
 mod Calling
+mod Called
 mod Feeling
 mod Once
 mod Headlines

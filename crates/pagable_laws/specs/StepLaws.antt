@@ -1,18 +1,22 @@
--- What each step keeps, as laws of steps alone.
+-- What each call keeps, as a law of calls alone.
 use Rattle.std.specs.Prelude.{ℕ, ◌≡◌, ◌≤◌, Some}
-use Rattle.pagable_world.specs.Plain.{Blob}
-use Rattle.pagable_world.specs.declared.events.Event.{Event}
-use Rattle.pagable_world.specs.declared.events.EventReply.{EventReply}
-use Rattle.pagable_world.specs.World.{World, Seen}
-use Rattle.pagable_world.specs.Events.{Step}
+use Rattle.pagable_world.specs.Plain.{Blob, LoadNumber}
+use Rattle.pagable_world.specs.declared.handles.Owner.{Owner}
+use Rattle.pagable_world.specs.declared.handles.Owner.TheVariants as owners
+use Rattle.pagable_world.specs.declared.calls.Call.{Call}
+use Rattle.pagable_world.specs.declared.calls.Reply.{Reply}
+use Rattle.pagable_world.specs.declared.events.Event.TheVariants as events
+use Rattle.pagable_world.specs.World.{Core, Seen}
+use Rattle.pagable_world.specs.Events.{CallStep}
 use Rattle.pagable_world.specs.Runs.{KeepsOpen}
 
--- What is stored stays stored until the storage is closed, and last numbers don't shrink.
-pub record StoredStays (u u' : World) : Type 0 where
-  pub stored : (key : ℕ) (b : Blob) → u.core.stored key ≡ Some b → u'.core.stored key ≡ Some b
-  pub nodes : u.core.last.node ≤ u'.core.last.node
-  pub handles : u.core.last.handle ≤ u'.core.last.handle
-  pub loads : u.core.last.load ≤ u'.core.last.load
+-- What is stored stays stored, and last numbers don't shrink.
+pub record StoredStays (w w' : Core) : Type 0 where
+  pub stored : (key : ℕ) (b : Blob) → w.stored key ≡ Some b → w'.stored key ≡ Some b
+  pub nodes : w.last.node ≤ w'.last.node
+  pub handles : w.last.handle ≤ w'.last.handle
+  pub loads : w.last.load ≤ w'.last.load
 
-abbrev pub StepsKeep : {N B W : Type 0} → Seen N B W → Type 0
-StepsKeep {N} {B} {W} m = (u u' : World) (event : Event N B W) (reply : EventReply N B W) → KeepsOpen event → Step m u event reply u' → StoredStays u u'
+-- of each call by the caller or a worker, but for the one that closes the storage
+pub record CallsKeep {N B W : Type 0} (m : Seen N B W) : Type 0 where
+  pub each : (w w' : Core) (me : Owner) (call : Call N B) (reply : Reply N B) → ((l : LoadNumber) → me ≡ owners.Load l → ⊥) → KeepsOpen {N = N} {B = B} {W = W} (events.Call call) → CallStep m w me call reply w' → StoredStays w w'

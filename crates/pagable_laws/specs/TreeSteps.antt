@@ -1,8 +1,5 @@
--- version 1 (of the clone trees): what trees feel of a step, as the laws' proofs divide it.
--- What trees feel of a step: which node gets a key, becomes known or is born, which values come, and how blobs that loads read grow. And what a value
--- and a node lead to by their own references alone, where each node has its tree.
-use Rattle.std.specs.Prelude.{ℕ, ◌≡◌, ◌<◌, ◌≤◌, ◌+◌, ◌⊎◌, true, false, List, [], ◌∷◌, Option, Some, None, is_some, ℤ, Ok, length, slice_get}
-use Rattle.pagable_model.specs.Meaning.{number, integer, text, pattern, none, pair, variant, reference, followed}
+-- What trees feel of a step: which node gets a key, becomes known or is born, which values come, and how blobs that loads read grow.
+use Rattle.std.specs.Prelude.{ℕ, ◌≡◌, ◌<◌, ◌≤◌, ◌+◌, ◌⊎◌, true, false, List, [], ◌∷◌, Option, Some, None, is_some, Ok}
 use Rattle.pagable_model.specs.declared.data_key.OptionalDataKey.TheVariants as optional
 use Rattle.pagable_world.specs.declared.handles.Owner.TheVariants as owners
 use Rattle.pagable_world.specs.declared.calls.Call.TheVariants as calls
@@ -13,33 +10,22 @@ use Rattle.pagable_world.specs.declared.events.PinStep.TheVariants as pinsteps
 use Rattle.pagable_world.specs.declared.events.Took.TheVariants as took
 use Rattle.pagable_world.specs.declared.events.Event.TheVariants as events
 use Rattle.pagable_world.specs.declared.events.EventReply.TheVariants as answers
-use Rattle.pagable_world.specs.Plain.{OptionalDataKey, ArcRef, Kind, HandleNumber, LoadNumber, NodeNumber, WorkerNumber, Identity, Blob, Owner, HandleRow, Call, Reply, LoadAnswer, Event, EventReply, Meaning, Tree, Types, ReadsTree, type_of, Among}
+use Rattle.pagable_world.specs.Plain.{OptionalDataKey, ArcRef, Kind, HandleNumber, LoadNumber, NodeNumber, WorkerNumber, Identity, Blob, Tree, ReadsTree, type_of, Among}
+use Rattle.pagable_world.specs.declared.handles.Owner.{Owner}
+use Rattle.pagable_world.specs.declared.handles.HandleRow.{HandleRow}
+use Rattle.pagable_world.specs.declared.calls.Call.{Call}
+use Rattle.pagable_world.specs.declared.calls.Reply.{Reply}
+use Rattle.pagable_world.specs.declared.events.LoadAnswer.{LoadAnswer}
+use Rattle.pagable_world.specs.declared.events.Event.{Event}
+use Rattle.pagable_world.specs.declared.events.EventReply.{EventReply}
 use Rattle.pagable_world.specs.Kinds.{is_pinning, is_loose, any_mode, fits_mode, owner_worker}
 use Rattle.pagable_world.specs.World.{Core, OpenLoad, of_cell, Frame, Reading, Todo, to_load, to_set, Walking, World, row_at, type_at, key_at, is_here, Values}
 use Rattle.pagable_world.specs.Refusals.{Owns, IsReference}
 use Rattle.pagable_world.specs.LoadCalls.{first_key}
-use Rattle.pagable_world.specs.Loads.{IsDecoded, ReadsNode, ReadsRoot, asks, next_in, need_of, needs_nested, needs_lazy, root_frame, nested_frame, with_got, gone_on}
+use Rattle.pagable_world.specs.Loads.{ReadsNode, ReadsRoot, need_of, needs_nested, needs_lazy, root_frame, nested_frame, with_got, gone_on}
 use Rattle.pagable_world.specs.Events.{reading_at}
-use Rattle.pagable_world.specs.Pager.{PagerState, MachineState, world_of, KeyFits, IsNewNode, CallBrings, EventBrings, IsReadingOf, FrameFits}
-
--- the meaning leads to this one, where each node has its tree: each reference is followed to its node's tree, which is of the kind's type
-pub data LeadsTo (trees : ℕ → Tree) : Meaning ArcRef → Meaning ⊥ → Type 0 where
-  number-leads : (i : ℕ) → LeadsTo trees (number i) (number i)
-  integer-leads : (z : ℤ) → LeadsTo trees (integer z) (integer z)
-  text-leads : (t : List ℕ) → LeadsTo trees (text t) (text t)
-  pattern-leads : (t : List ℕ) → LeadsTo trees (pattern t) (pattern t)
-  none-leads : LeadsTo trees none none
-  pair-leads : (x y : Meaning ArcRef) (a b : Meaning ⊥) → LeadsTo trees x a → LeadsTo trees y b → LeadsTo trees (pair x y) (pair a b)
-  variant-leads : (i : ℕ) (x : Meaning ArcRef) (a : Meaning ⊥) → LeadsTo trees x a → LeadsTo trees (variant i x) (variant i a)
-  followed-leads : (kind : ℕ) (x : Meaning ArcRef) (a : Meaning ⊥) → LeadsTo trees x a → LeadsTo trees (followed kind x) (followed kind a)
-  reference-leads : (r : ArcRef) (a : Meaning ⊥) → (trees r.node.0).type ≡ type_of r.kind.0 → (trees r.node.0).meaning ≡ a → LeadsTo trees (reference r) (followed r.kind.0 a)
-
--- a value leads to the tree
-pub record ValueLeads {N : Type 0} (v : Values N) (trees : ℕ → Tree) (x : N) (t : Tree) : Type 0 where
-  pub own : Meaning ArcRef
-  pub typed : v.node_type x ≡ t.type
-  pub means : v.means x own
-  pub leads : LeadsTo trees own t.meaning
+use Rattle.pagable_world.specs.Pager.{PagerState, MachineState, world_of, KeyFits, IsNewNode, CallBrings, EventBrings, IsReadingOf}
+use Rattle.pagable_laws.specs.ReadLaws.{ValueLeads}
 
 -- a node leads to its tree: its key reads as that, and its value leads there
 pub record NodeLeads {N E : Type 0} (v : Values N) (s : PagerState N E) (trees : ℕ → Tree) (n : ℕ) : Type 0 where
@@ -181,18 +167,18 @@ pub record SetsThrough (u : World) (k : WorkerNumber) (key : ℕ) (row : HandleR
 -- What trees feel of an event. The values of a step that isn't a call or a load's come to no node.
 pub data EventFeels {N B W : Type 0} (v : Values N) (u : World) (event : Event N B W) (reply : EventReply N B W) (u' : World) : Change → Type 0 where
   by-call : (c : Change) (call : Call N B) (answer : Reply N B) → event ≡ events.Call call → reply ≡ answers.CallReply answer → CallFeels v u.core owners.Caller call answer u'.core c → KeepsReadings u u' → EventFeels v u event reply u' c
-  by-reading : (c : Change) (reading : Reading) (answer : Option (LoadAnswer N)) (frames : List Frame) → IsSteppedReading u event reading → ReadingFeels v u.core reading answer frames u'.core c → StepsReading u reading answer frames u'
+  by-reading : (c : Change) (reading : Reading) (answer : Option (LoadAnswer N)) (frames : List Frame) → IsSteppedReading u event reading → (answer ≡ None → (load : OpenLoad) × (u.core.loads reading.load.0 ≡ Some load)) → ReadingFeels v u.core reading answer frames u'.core c → StepsReading u reading answer frames u'
       → EventFeels v u event reply u' c
   by-key : (k : WorkerNumber) (key : ℕ) (row : HandleRow) → event ≡ events.WorkerStep k → SetsThrough u k key row → KeepsReadings u u' → EventFeels v u event reply u' (sets_key row.node.0 key)
   by-nothing : ((n : ℕ) (x : N) → EventBrings v u event n x → IsNewNode u.core n ⊎ StaysAway u.core u'.core n) → KeepsReadings u u' → EventFeels v u event reply u' nothing_felt
 
--- STEPS proves: of each step that doesn't close the storage, between whole machines.
+-- some change, and how it is felt
 pub record StepFeels {N B W : Type 0} (v : Values N) (u : World) (event : Event N B W) (reply : EventReply N B W) (u' : World) : Type 0 where
   pub change : Change
   pub core : CoreGoes change u.core u'.core
   pub feels : EventFeels v u event reply u' change
 
--- STEPS proves: what is answered. A handle that pins; and each of these references, which the load owned, is the asker's.
+-- A handle that pins; and each of these references, which the load owned, is the asker's.
 pub record HasPin (w : Core) (k : HandleNumber) : Type 0 where
   pub row : HandleRow
   pub live : row_at w k ≡ Some row
@@ -212,21 +198,6 @@ abbrev pub ReadHolds : {N B W : Type 0} → Values N → World → Event N B W �
 ReadHolds {N} v u (events.LoadStep l) (answers.LoadMoved (Ok reply)) u' = (x : N) → reply.ended ≡ Some (ends.Read x) → (reading : Reading) × (reading_at u l ≡ Some reading) × ReadsRoot v reading x × HandsOver u.core reading.load (v.references x) u'.core
 ReadHolds v u event reply u' = Unit {0}
 
--- DECODE proves: a value that was read of a frame that fits leads to the tree that the frame's key reads as; and its references are among those that the frame got.
-pub record Decoded {N : Type 0} (v : Values N) (stored : ℕ → Option Blob) (trees : ℕ → Tree) (frame : Frame) (x : N) : Type 0 where
-  pub t : Tree
-  pub typed : t.type ≡ frame.node_type
-  pub reads : ReadsTree stored v.types frame.key t
-  pub leads : ValueLeads v trees x t
-  pub got : (r : ArcRef) → Among (v.references x) r → Among frame.got r
-
-abbrev pub DecodesWell : {N : Type 0} → Values N → Type 0
-DecodesWell {N} v = (stored : ℕ → Option Blob) (trees : ℕ → Tree) (frame : Frame) (x : N) → FrameFits v.types stored trees frame → IsDecoded v frame x → Decoded v stored trees frame x
-
--- DECODE proves too: the key that a frame asks for next is the next of its blob's.
-abbrev pub AsksNext : Type 0
-AsksNext = (types : Types) (frame : Frame) (kind : Kind) (key : ℕ) → next_in types frame ≡ asks kind key → slice_get frame.blob.keys (length frame.got) ≡ Some key
-
--- KEYS proves, as part of what it keeps along a chain: the key that a worker is about to set reads as the tree of its handle's node.
+-- the key that a worker is about to set reads as the tree of its handle's node.
 abbrev pub KeysAreReady : {N E : Type 0} → Values N → MachineState N E → (ℕ → Tree) → Type 0
 KeysAreReady v s trees = (k : WorkerNumber) (key : ℕ) (row : HandleRow) → SetsThrough (world_of s) k key row → ReadsTree s.pager.core.stored v.types key (trees row.node.0)
