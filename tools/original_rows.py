@@ -2,7 +2,7 @@
 """Picks rows of what the original crate writes and reads, as data of `rows` and as the answers that they have to get.
 
     tools/original_rows.py data original.jsonl > crates/rows/data/original.txt
-    tools/original_rows.py answers original.jsonl     # the part of crates/rows/stdout that begins with the same comment
+    tools/original_rows.py answers original.jsonl     # the part of crates/rows/stdout behind that of by_hand.txt
 
 Each line of the input is a JSON object: a value that the original wrote ("op": "enc"), an input that it read ("op":
 "dec"), or a tree of blobs that it stored ("op": "blob"). docs/PROOFS.md says what the lines of the output mean. A type is
@@ -18,9 +18,9 @@ import sys
 CARRIED = [
     "()", "bool", "char", "u8", "u16", "u32", "u64", "u128", "usize", "i8", "i16", "i32", "i64", "i128", "String", "Box<str>",
     "PathBuf", "PhantomData", "Duration", "AtomicI64", "OnceLock<u16>", "Regex", "Json", "Box<u16>", "Option<u8>",
-    "Option<String>", "Option<Option<i32>>", "Result<u16,bool>", "Result<String,String>", "(bool,String)", "(u8,u16,i32)",
+    "Option<Option<i32>>", "Result<String,String>", "(bool,String)", "(u8,u16,i32)",
     "(u8,String,Vec<u64>,Option<i8>)", "(u128,i128,char,bool,())", "Vec<()>", "Vec<u8>", "Vec<i32>", "Vec<u64>", "Vec<String>",
-    "Vec<(String,i64)>", "Box<[u32]>", "SmallVec<[u8;4]>", "SmallVec<[String;4]>", "&[i32]", "[i32]", "[u16;2]", "[String;3]",
+    "Box<[u32]>", "SmallVec<[String;4]>", "&[i32]", "[i32]", "[u16;2]", "[String;3]",
     "BTreeMap<(u8,bool),Vec<String>>", "HashMap<String,i32>", "IndexMap<String,u8>", "BTreeSet<i16>", "IndexSet<u64>",
     "IndexMap<String,BTreeSet<Option<i8>>>",
 ]
@@ -48,7 +48,7 @@ WRITTEN, READ, BLOBS = 5, 8, 12
 LONGEST_INPUT = 44
 
 # How many columns the inputs of a line or their answers may fill before another line begins.
-COLUMNS = 130
+COLUMNS = 190
 
 
 def split(text):
@@ -236,7 +236,8 @@ def bounds(name, rows):
         key = (len(data), name in SIGNED and len(data) > 1 and number % 2)
         least, greatest = best.get(key, ((number, data, answer),) * 2)
         best[key] = min(least, (number, data, answer)), max(greatest, (number, data, answer))
-    return list(dict.fromkeys(pair[1:] for pairs in best.values() for pair in pairs))
+    longest = max(length for length, _ in best)
+    return list(dict.fromkeys(pair[1:] for (length, _), pairs in best.items() if length < 4 or length == longest for pair in pairs))
 
 
 def value_of(data):
@@ -287,7 +288,8 @@ def main():
                 blobs.update(dict.fromkeys(map(blob_row, line["blobs"])))
             elif line.get("type") in CARRIED and not line.get("differs"):
                 lines.setdefault(line["type"], []).append(line)
-    print("# What the original crate wrote and read, by tools/original_rows.py.")
+    if word == "data":
+        print("# What the original crate wrote and read, by tools/original_rows.py.")
     for name in CARRIED:
         rows = [(data.hex() or "-", answer) for data, answer in rows_of(name, lines.get(name, []))]
         print_lines(word, f"{name} read", rows)

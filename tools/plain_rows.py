@@ -1,11 +1,11 @@
 #!/usr/bin/env python3
-"""Rows of calls and events, as the program `rows` reads them, answered by a plain pager or drawn from a seed.
+"""Rows of events, as the program `rows` reads them, answered by a plain pager or drawn from a seed.
 
-    plain_rows.py answers FILE             prints the answer to each row of the file, as `rows` has to; comments stay
+    plain_rows.py answers FILE             prints the answer to each row of the file that has one, as `rows` has to
     plain_rows.py draw SEED COUNT [looks]  prints a new machine, COUNT drawn lists of events and a look; or lists of one event
                                            with a look after each
 
-A row is one line: a new pager, a look, or calls and events parted by semicolons. docs/PROOFS.md tells its words.
+A row is one line: a new machine, a look, or events parted by semicolons. docs/PROOFS.md tells its words.
 """
 
 import random
@@ -19,19 +19,17 @@ class Rows:
     """Answers rows, over the pager that stands."""
 
     def __init__(self):
-        self.start("pager", "")
+        self.start("")
 
-    def start(self, form, storage):
+    def start(self, storage):
         calls_before = int(storage) if storage.isdigit() else None
         self.pager = Pager(Storage(calls_before, storage == "closed"))
-        self.machine = Machine(self.pager) if form == "machine" else None
+        self.machine = Machine(self.pager)
 
     def answer(self, row):
         name, _, rest = row.partition(" ")
-        if name in ("pager", "machine"):
-            self.start(name, rest)
-        elif name == "drive":
-            self.machine = Machine(self.pager)
+        if name == "machine":
+            self.start(rest)
         elif name == "look":
             return self.look(int(rest))
         else:
@@ -172,8 +170,7 @@ def main(words):
     if len(words) == 2 and words[0] == "answers":
         rows = Rows()
         with open(words[1], encoding="utf-8") as lines:
-            for line in lines.read().splitlines():
-                print(line if line.startswith("#") else rows.answer(line) if line else "")
+            print("\n".join(filter(None, (rows.answer(line) for line in lines.read().splitlines() if line[:1] not in ("", "#")))))
     elif len(words) >= 3 and words[0] == "draw":
         print("\n".join(Draw(int(words[1])).rows(int(words[2]), "looks" in words)))
     else:

@@ -1,4 +1,3 @@
-pub mod Dishes
 pub mod Expressions
 pub mod Levels
 pub mod Menus

@@ -4,9 +4,9 @@ use Rattle.std.specs.Prelude.{◌≡◌, ◌≢◌, ◌<◌, ◌^◌, refl, true
 use Rattle.std.specs.Arc.{arc_value}
 use Rattle.pagable.specs.Error.{Error}
 use Rattle.pagable.specs.ArcRef.{ArcRef}
-use Rattle.pagable.specs.Refusals.{may_refuse_writing}
-use Rattle.pagable.specs.Gives.{memory, memory_or, long_or}
-use Rattle.pagable.specs.Causes.{memory_may_refuse_writing, memory_or_may_refuse_writing, text_may_refuse_writing}
+use Rattle.pagable.specs.Refusals.{is_own_reading, may_refuse_writing}
+use Rattle.pagable.specs.Gives.{either, memory, memory_or, long_or, never}
+use Rattle.pagable.specs.Causes.{either_is_own_reading, either_may_refuse_writing, memory_is_own_reading, memory_may_refuse_writing, memory_or_may_refuse_writing, never_is_own_reading, text_may_refuse_writing}
 use Rattle.pagable.specs.Meaning.{Meaning, number}
 use Rattle.pagable.specs.References.{references_in, SameReferences}
 use Rattle.pagable.specs.Shape.{Shape, both, text, unsigned, optional}
@@ -45,12 +45,21 @@ means (nodes.Size s) = size_means (arc_value s)
 
 -- all refusals of the writing of a type's values
 abbrev pub write_causes : ℕ → Error → Type 0
-write_causes zero = long_or memory
+write_causes zero = either (long_or memory) memory
 write_causes (suc t) = memory_or memory
 
 pub write_causes_may_refuse : (t : ℕ) (e : Error) → write_causes t e → may_refuse_writing e ≡ true
-write_causes_may_refuse zero e h = text_may_refuse_writing e h
+write_causes_may_refuse zero e h = either_may_refuse_writing (long_or memory) memory text_may_refuse_writing memory_may_refuse_writing e h
 write_causes_may_refuse (suc t) e h = memory_or_may_refuse_writing memory memory_may_refuse_writing e h
+
+-- and of the reading, beside the input's faults
+abbrev pub read_causes : ℕ → Error → Type 0
+read_causes zero = either memory never
+read_causes (suc t) = memory
+
+pub read_causes_are_own : (t : ℕ) (e : Error) → read_causes t e → is_own_reading e ≡ true
+read_causes_are_own zero e h = either_is_own_reading memory never memory_is_own_reading never_is_own_reading e h
+read_causes_are_own (suc t) e h = memory_is_own_reading e h
 
 pub has_meaning : (n : MenuNode) → SomeMeaning (means n)
 has_meaning (nodes.Dish d) = dish_has_meaning (arc_value d)

@@ -17,7 +17,7 @@ use pagable::{
 use std::alloc::Global;
 
 /// An animal. Of a cat of old, its lives were written; it is read, and not written any more.
-#[derive(Debug, PartialEq, Drop)]
+#[derive(Drop)]
 pub enum Animal {
     Cat,
     /// So many lives.
@@ -27,7 +27,7 @@ pub enum Animal {
 }
 
 /// The readers of animals.
-#[derive(Clone, Copy, Debug, PartialEq)]
+#[derive(Clone, Copy)]
 pub enum AnimalReader {
     Cat,
     OldCat,

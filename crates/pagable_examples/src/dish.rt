@@ -1,7 +1,7 @@
 //! A struct of named fields: they are written one after the other, and nothing else.
 
-ghost use Rattle.pagable.specs.Causes.{memory_is_own_reading, text_may_refuse_writing};
-ghost use Rattle.pagable.specs.Gives.{memory, long_or};
+ghost use Rattle.pagable.specs.Causes.{either_is_own_reading, either_may_refuse_writing, memory_is_own_reading, memory_may_refuse_writing, never_is_own_reading, text_may_refuse_writing};
+ghost use Rattle.pagable.specs.Gives.{either, long_or, memory, never};
 ghost use Rattle.pagable.specs.KeyParts.{both_refers_to_nothing};
 ghost use Rattle.pagable.specs.Keyed.{text_refers_to_nothing, unsigned_refers_to_nothing};
 ghost use Rattle.pagable.specs.Lifted.{MeansPair};
@@ -11,6 +11,7 @@ ghost use Rattle.pagable.specs.ReadBack.{both_is_read, text_is_read, unsigned_is
 ghost use Rattle.pagable_examples.specs.Dishes.{dish_means, dish_meaning, dish_is_meaning, dish_has_meaning, dish_single, dish_is_same};
 ghost use Rattle.std.specs.Int.{w16};
 
+use pagable::traits::impls::maps::write_entry;
 use pagable::{
     Canonical, Carried, Env, Error, OneMeaning, PagableDeserialize, PagableDeserializer,
     PagableKey, PagableSerialize, PagableSerializer, ReadBack,
@@ -18,7 +19,7 @@ use pagable::{
 use std::alloc::Global;
 
 /// A dish on the menu.
-#[derive(Debug, PartialEq, Eq, Hash, Drop)]
+#[derive(PartialEq, Eq, Hash, Drop)]
 pub struct Dish {
     pub name: String,
     /// What it weighs.
@@ -60,29 +61,28 @@ impl<E: Env> PagableKey<E> for Dish {
 }
 
 impl<E: Env> PagableSerialize<E> for Dish {
-    ghost write_causes = { long_or memory };
+    ghost write_causes = { either (long_or memory) memory };
 
-    ghost write_causes_may_refuse = { text_may_refuse_writing };
+    ghost write_causes_may_refuse = { either_may_refuse_writing (long_or memory) memory text_may_refuse_writing memory_may_refuse_writing };
 
-    #[tactic(auto, using(pagable::proofs::Carrying::writing, crate::proofs::Dishes::writing))]
     fn pagable_serialize<S: PagableSerializer<E>>(&self, serializer: &mut S) -> Result<(), Error> {
-        self.name.pagable_serialize(serializer)?;
-        self.grams.pagable_serialize(serializer)
+        write_entry(&self.name, &self.grams, serializer)
     }
 }
 
 impl<'de, E: Env> PagableDeserialize<'de, E> for Dish {
-    ghost read_causes = { memory };
+    ghost read_causes = { either memory never };
 
-    ghost read_causes_are_own = { memory_is_own_reading };
+    ghost read_causes_are_own = { either_is_own_reading memory never memory_is_own_reading never_is_own_reading };
 
-    #[tactic(auto, using(pagable::proofs::Carrying::reading))]
     fn pagable_deserialize<D: PagableDeserializer<E>>(
         alloc: Global,
         deserializer: &mut D,
     ) -> Result<Self, Error> {
-        let name = String::pagable_deserialize(alloc, deserializer)?;
-        let grams = u16::pagable_deserialize(alloc, deserializer)?;
+        let (name, grams): (String, u16) = PagableDeserialize::pagable_deserialize(
+            alloc,
+            deserializer,
+        )?;
         Ok(Dish { name, grams })
     }
 }

@@ -12,7 +12,7 @@ use std::alloc::Global;
 
 /// A number, or the sum of two expressions. Each of the two is one level further down, and at most 128 levels can be
 /// written or read.
-#[derive(Debug, PartialEq, Drop)]
+#[derive(Drop)]
 pub enum Expression {
     Number(u64),
     Sum(Box<Expression>, Box<Expression>),

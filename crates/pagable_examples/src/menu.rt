@@ -45,9 +45,7 @@ pub enum MenuNode {
 
 impl<H: KeyHash> NodeSet<Menu<H>> for MenuNode {
     ghost use Rattle.std.specs.Prelude.{[]};
-    ghost use Rattle.pagable.specs.Causes.{memory_is_own_reading};
-    ghost use Rattle.pagable.specs.Gives.{memory};
-    ghost use Rattle.pagable_examples.specs.Menus.{type_of, shape_of, own_shape, means, write_causes, write_causes_may_refuse, has_meaning, refers_to_nothing, has_shape};
+    ghost use Rattle.pagable_examples.specs.Menus.{type_of, shape_of, own_shape, means, write_causes, write_causes_may_refuse, read_causes, read_causes_are_own, has_meaning, refers_to_nothing, has_shape};
 
     ghost type_of = { type_of };
 
@@ -61,11 +59,11 @@ impl<H: KeyHash> NodeSet<Menu<H>> for MenuNode {
 
     ghost write_causes = { write_causes };
 
-    ghost read_causes = { λ t. memory };
+    ghost read_causes = { read_causes };
 
     ghost write_causes_may_refuse = { write_causes_may_refuse };
 
-    ghost read_causes_are_own = { λ t. memory_is_own_reading };
+    ghost read_causes_are_own = { read_causes_are_own };
 
     ghost has_meaning = { has_meaning };
 
@@ -144,7 +142,7 @@ impl<H: KeyHash> OfNode<Menu<H>> for Dish {
 
 impl<H: KeyHash> InNode<Menu<H>> for Dish {
     ghost use Rattle.std.specs.Prelude.{refl};
-    ghost use Rattle.std.proofs.Common.{inl};
+    ghost use Rattle.std.proofs.Common.{inr};
     ghost use Rattle.pagable_examples.specs.Menus.{dish_meaning, dish_meaning_back};
 
     ghost shape_is = { λ e. refl };
@@ -153,7 +151,7 @@ impl<H: KeyHash> InNode<Menu<H>> for Dish {
 
     ghost writes_as = { λ e h. h };
 
-    ghost reads_as = { λ e h. inl h };
+    ghost reads_as = { λ e h. inr h };
 
     ghost meaning_back = { dish_meaning_back };
 }

@@ -21,7 +21,7 @@ use pagable::{
 use std::alloc::Global;
 
 /// What was seen, where, and how many of them.
-#[derive(Debug, PartialEq, Drop)]
+#[derive(Drop)]
 pub struct Sighting {
     pub animal: Animal,
     pub place: StaticStr,

@@ -12,7 +12,7 @@ use pagable::{
 use std::alloc::Global;
 
 /// The size of a glass.
-#[derive(Clone, Copy, Debug, PartialEq)]
+#[derive(Clone, Copy, PartialEq)]
 pub enum Size {
     Small,
     /// So many tenths of a litre.

@@ -15,7 +15,7 @@ use pagable::{
 use std::alloc::Global;
 
 /// A ticket.
-#[derive(Clone, Copy, Debug, PartialEq)]
+#[derive(Clone, Copy)]
 pub struct Ticket {
     pub number: u16,
 }

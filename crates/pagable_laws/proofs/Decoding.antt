@@ -189,12 +189,12 @@ decodes_well v lawful readable stored trees frame x fits decoded = decodes lawfu
 
 -- ---- and stands for its tree
 
-among-left : {X : Type 0} (xs ys : List X) (i : ℕ) (r : X) → slice_get xs i ≡ Some r → Among (xs ++ ys) r
+pub among-left : {X : Type 0} (xs ys : List X) (i : ℕ) (r : X) → slice_get xs i ≡ Some r → Among (xs ++ ys) r
 among-left [] ys i r is = absurd (cc)
 among-left (x ∷ xs) ys zero r is = (zero, is)
 among-left (x ∷ xs) ys (suc i) r is = let a = among-left xs ys i r is in (suc a.0, a.1)
 
-among-right : {X : Type 0} (xs ys : List X) (i : ℕ) (r : X) → slice_get ys i ≡ Some r → Among (xs ++ ys) r
+pub among-right : {X : Type 0} (xs ys : List X) (i : ℕ) (r : X) → slice_get ys i ≡ Some r → Among (xs ++ ys) r
 among-right [] ys i r is = (i, is)
 among-right (x ∷ xs) ys i r is = let a = among-right xs ys i r is in (suc a.0, a.1)
 

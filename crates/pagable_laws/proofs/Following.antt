@@ -1,30 +1,29 @@
 -- A form of a node's value is one of its tree: over its references it is followed to their nodes' trees, and with their keys it stands under the tree's own.
 use Rattle.std.proofs.Common.{◌≡◌, ℕ, zero, suc, ◌<◌, ◌≤◌, ◌&&◌, Bool, true, false, List, [], ◌∷◌, map, Option, Some, None, Result, Ok, refl, sym, ap, subst, ◌∙◌, inr, arith}
-use Rattle.std.specs.Prelude.{is_some, nat_lt, slice_get}
+use Rattle.std.specs.Prelude.{is_some, nat_lt}
 use Rattle.std.proofs.lemmas.Bool.Decides.{nat_tests}
 use Rattle.std.proofs.lemmas.List.{append-nil}
 use Rattle.pagable_model.specs.declared.error.Error.{Error}
-use Rattle.pagable_model.specs.Meaning.{number, integer, text, pattern, none, pair, variant, reference, followed, rename}
+use Rattle.pagable_model.specs.Meaning.{reference, rename}
 use Rattle.pagable_model.specs.Reading.{Rest, deepest}
 use Rattle.pagable_model.specs.Form.{Form}
 use Rattle.pagable_model.specs.Writing.{kind_of_arc}
 use Rattle.pagable_model.specs.Canonical.{IsReadable, Throughout}
-use Rattle.pagable_model.specs.Deep.{Kid, kid, kind_of_kid, tree_of_kid}
+use Rattle.pagable_model.specs.Deep.{Kid, kid, kind_of_kid}
 use Rattle.pagable_model.specs.Trees.{KeyRef, key_ref, IsFollowed, number-followed, integer-followed, text-followed, pattern-followed, none-followed, pair-followed, variant-followed, reference-followed}
 use Rattle.pagable_model.specs.Merkle.{unfolded, TreeForm, blob_of, KeyOf, key-of, KeysOf, no-keys, more-keys, kind_of_ref, key_of_ref, StoredAs}
 use Rattle.pagable_world.specs.Plain.{ArcRef, Identity, Meaning, Shape, Tree, tree, Types, type_of, Among, if_there}
 use Rattle.pagable_world.specs.Kinds.{identity_of, held}
 use Rattle.pagable_world.specs.World.{Core, Cell, Shelf, Slot, Outcome, published, Written, Values, digest, type_at}
-use Rattle.pagable_world.specs.Refusals.{IsReference}
 use Rattle.pagable_world.specs.Workers.{IsPublished}
 use Rattle.pagable_world.specs.Pager.{PagerState, WellFormed, HandlesAreWhole, NodeStands, here, away, MeaningStands, number-stands, integer-stands, text-stands, pattern-stands, none-stands, pair-stands, variant-stands, followed-stands, reference-stands, Represents, IsWrittenOf, kids_of}
 use Rattle.pagable_world.specs.Runs.{HoldsSettled, ReadsItsTypes}
 use Rattle.pagable_world.specs.Headline.{AreKeysOf}
-use Rattle.pagable_laws.specs.FormLaws.{rest, at, LooksUp, no-references, more-references}
+use Rattle.pagable_laws.specs.FormLaws.{rest, LooksUp, no-references, more-references}
 use Rattle.pagable_laws.specs.PageOutLaws.{Ground, FollowsTo, number-follows, integer-follows, text-follows, pattern-follows, none-follows, pair-follows, variant-follows, reference-follows, WroteTree, KeyStands}
 use Rattle.pagable_laws.proofs.Again.{read_again}
-use Rattle.pagable_laws.proofs.Along.{Along, number-along, integer-along, text-along, pattern-along, none-along, pair-along, variant-along, reference-along, followed-along, AllTwo, no-two, more-two}
-use Rattle.pagable_laws.proofs.Related.{Out, both-given, both-refused, first-refused, OutLook, both-looked-up, read_par}
+use Rattle.pagable_laws.proofs.Along.{Along, pair-along, variant-along, reference-along, followed-along, AllTwo, no-two, more-two}
+use Rattle.pagable_laws.proofs.Related.{Out, both-given, both-refused, first-refused, both-looked-up, read_par}
 use Rattle.pagable_laws.proofs.Natural.{keeps_forms}
 use Rattle.pagable_laws.proofs.Trees.{same_some, one_tree}
 

@@ -3,8 +3,8 @@ mod Basic
 mod Putting
 mod Within
 mod Readable
-mod Again
-mod Prefix
+pub mod Again
+pub mod Prefix
 mod OneForm
 mod Preimages
 mod Along
@@ -35,7 +35,13 @@ mod Headlines
 mod Working
 mod Doing
 mod Decoding
+mod Fitting
 mod Following
 mod Shelves
 mod Stepping
 mod Publishing
+mod Leading
+mod Going
+mod Taking
+mod Felt
+mod Answering

@@ -4,12 +4,12 @@ use Rattle.std.specs.Prelude.{nat_eq}
 use Rattle.std.proofs.lemmas.Bool.Decides.{nat_tests}
 use Rattle.pagable_model.specs.Trees.{KeyRef, IsFollowed, number-followed, integer-followed, text-followed, pattern-followed, none-followed, pair-followed, variant-followed, reference-followed}
 use Rattle.pagable_model.specs.Merkle.{StoredAs}
-use Rattle.pagable_world.specs.Plain.{ArcRef, Identity, Blob, Meaning, Tree, Types, Among, if_there}
+use Rattle.pagable_world.specs.Plain.{ArcRef, Identity, Blob, Meaning, Tree, Among, if_there}
 use Rattle.pagable_world.specs.Kinds.{identity_of}
-use Rattle.pagable_world.specs.World.{Shelf, Slot, Outcome, no_result, published, failed, Written, Todo, to_start, to_pin, to_load, to_write, to_finish, to_item, to_set, to_publish, to_release, to_fail, Task, is_identity, Values}
+use Rattle.pagable_world.specs.World.{Shelf, Slot, no_result, published, failed, Written, Todo, to_start, to_pin, to_load, to_write, to_finish, to_item, to_set, to_publish, to_release, to_fail, Task, is_identity, Values}
 use Rattle.pagable_world.specs.Workers.{IsPublished, is_open_outcome, with_outcome, with_failed}
 use Rattle.pagable_world.specs.Headline.{AreKeysOf}
-use Rattle.pagable_laws.specs.PageOutLaws.{Ground, FollowsTo, number-follows, integer-follows, text-follows, pattern-follows, none-follows, pair-follows, variant-follows, reference-follows, WroteTree, KeyStands, BlobStands, SlotFits, IsMine, KeysSoFar, EachOpen, Apart, Waits, Above, HasBlob, Walks}
+use Rattle.pagable_laws.specs.PageOutLaws.{Ground, FollowsTo, number-follows, integer-follows, text-follows, pattern-follows, none-follows, pair-follows, variant-follows, reference-follows, WroteTree, KeyStands, BlobStands, SlotFits, IsMine, KeysSoFar, EachOpen, Waits, Above, HasBlob, Walks}
 
 -- ---- what is stored stays, and each node keeps its tree
 
@@ -136,7 +136,7 @@ pub record Spares {N : Type 0} (v : Values N) (g' : Ground) (n : ℕ) (shelf she
   pub others : (u : ℕ) (i : Identity) (w : Option Written) → (u ≡ n → ⊥) → IsMine shelf u i w → IsMine shelf' u i w
   pub slots : (i : Identity) (slot : Slot) → shelf'.slots i ≡ Some slot → SlotFits v g' shelf' i slot
 
-keys-same : {shelf shelf' : Shelf} → ((i : Identity) → shelf'.slots i ≡ shelf.slots i) → KeepsKeys shelf shelf'
+pub keys-same : {shelf shelf' : Shelf} → ((i : Identity) → shelf'.slots i ≡ shelf.slots i) → KeepsKeys shelf shelf'
 keys-same same i key height p = record { slot = p.slot; claimed = same i ∙ p.claimed; known = p.known }
 
 pub mine-same : {shelf shelf' : Shelf} → ((i : Identity) → shelf'.slots i ≡ shelf.slots i) → (u : ℕ) (i : Identity) (w : Option Written) → IsMine shelf u i w → IsMine shelf' u i w

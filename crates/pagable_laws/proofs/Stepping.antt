@@ -1,21 +1,21 @@
 -- A worker's step, case by case: its table and its to-do list fit afterwards.
-use Rattle.std.proofs.Common.{◌≡◌, ℕ, ◌+◌, ◌≤◌, ◌==◌, true, List, [], ◌∷◌, ◌++◌, length, Option, Some, None, Ok, Err, if◌then◌else◌, refl, sym, ap, subst, ◌∙◌, arith}
+use Rattle.std.proofs.Common.{◌≡◌, ℕ, ◌≤◌, ◌==◌, true, List, [], ◌∷◌, ◌++◌, length, Option, Some, None, Ok, Err, if◌then◌else◌, refl, sym, ap, subst, ◌∙◌, arith}
 use Rattle.std.specs.Prelude.{drop}
 use Rattle.std.proofs.lemmas.Bool.Decides.{nat_tests}
 use Rattle.pagable_model.specs.Merkle.{blob_of}
-use Rattle.pagable_world.specs.Plain.{ArcRef, Identity, Blob, HandleNumber, Tree, type_of, Among, if_there}
+use Rattle.pagable_world.specs.Plain.{ArcRef, Identity, Blob, HandleNumber, Tree, type_of, if_there}
 use Rattle.pagable_world.specs.declared.events.Claim.TheVariants as claims
 use Rattle.pagable_world.specs.declared.events.PinStep.TheVariants as pinsteps
 use Rattle.pagable_world.specs.declared.events.Took.TheVariants as took
 use Rattle.pagable_world.specs.declared.events.Took.{Took}
 use Rattle.pagable_world.specs.Kinds.{identity_of}
-use Rattle.pagable_world.specs.World.{Shelf, Slot, no_result, published, Written, Open, Fault, Todo, was_failed, was_refused, to_start, to_pin, to_load, to_write, to_finish, to_item, to_set, to_publish, to_release, to_fail, Task, is_identity, Values, Seen, SameShelf, digest}
+use Rattle.pagable_world.specs.World.{Shelf, Slot, no_result, published, Written, Open, Fault, Todo, was_failed, was_refused, to_start, to_pin, to_load, to_write, to_finish, to_item, to_set, to_publish, to_release, to_fail, Task, is_identity, Values, Seen, digest}
 use Rattle.pagable_world.specs.Calls.{Stores}
-use Rattle.pagable_world.specs.Workers.{Site, Does, IsPublished, claim_fault, next_start, settle, give, give_known, open_node, with_outcome, answer_after}
+use Rattle.pagable_world.specs.Workers.{Site, Does, IsPublished, claim_fault, next_start, give, give_known, open_node, with_outcome, answer_after}
 use Rattle.pagable_world.specs.Headline.{AreKeysOf}
-use Rattle.pagable_laws.specs.PageOutLaws.{Ground, WroteTree, BlobStands, SlotFits, IsMine, KeysSoFar, IsNextOf, Expects, EachOpen, Apart, Waits, Above, HasBlob, Walks}
+use Rattle.pagable_laws.specs.PageOutLaws.{Ground, WroteTree, BlobStands, SlotFits, IsMine, KeysSoFar, Expects, EachOpen, Apart, Waits, Above, HasBlob, Walks}
 use Rattle.pagable_laws.proofs.Following.{IdentityStands, key-stands}
-use Rattle.pagable_laws.proofs.Shelves.{GroundGoes, KeepsKeys, so-far-on, wrote-on, blob-on, waits-on, all-wait-on, above-on, has-blob-on, walks-on, Spares, mine-same, spares-all, SlotIs, at-itself, one-apart, spares-but, spares-failed}
+use Rattle.pagable_laws.proofs.Shelves.{GroundGoes, KeepsKeys, so-far-on, wrote-on, blob-on, waits-on, all-wait-on, above-on, has-blob-on, Spares, mine-same, spares-all, SlotIs, at-itself, one-apart, spares-but, spares-failed}
 
 -- ---- lists
 
@@ -79,7 +79,6 @@ pub record Did {N : Type 0} (v : Values N) (g' : Ground) (n : ℕ) (task : Task)
 module _ {N B W : Type 0} (m : Seen N B W) (n : ℕ) {g g' : Ground} (task : Task) (s s' : Site) (goes : GroundGoes g g')
     (fits : (i : Identity) (slot : Slot) → s.shelf.slots i ≡ Some slot → SlotFits m.values g s.shelf i slot)
     (claimable : (r : ArcRef) → claim_fault s.core r ≡ None → (r.node.0 ≤ g.last) × ((g.trees r.node.0).type ≡ type_of r.kind.0)) where
-
   abbrev Fits : Type 0
   Fits = Did m.values g' n task s.shelf s'.shelf s'.todo
 
@@ -111,17 +110,19 @@ module _ {N B W : Type 0} (m : Seen N B W) (n : ℕ) {g g' : Ground} (task : Tas
     finishes o below key (mine, known, apart, expects, waits) all is there =
         let mine' = own _ _ mine in
         let fit = kept.slots _ mine'.slot mine'.claimed in
-        let known' = keys-on-of known in
-        (record {
-          written = o.written;
-          mine = mine';
-          stands = record {
-            keys = o.keys;
-            known = known';
-            is_stored = there;
-            right = key-stands o.keys (stands-for m.values g' s'.shelf kept.slots) (fit.writes o.written mine'.wrote) known' there is;
-          };
-        }, record { apart = apart; expects = expects; waits = waits-same below waits })
+        let known' = keys-on-of known in (
+          record {
+            written = o.written;
+            mine = mine';
+            stands = record {
+              keys = o.keys;
+              known = known';
+              is_stored = there;
+              right = key-stands o.keys (stands-for m.values g' s'.shelf kept.slots) (fit.writes o.written mine'.wrote) known' there is;
+            };
+          },
+          record { apart = apart; expects = expects; waits = waits-same below waits },
+        )
       where
         keys-on-of : KeysSoFar s.shelf o.written.references o.keys → AreKeysOf s'.shelf o.written.references o.keys
         keys-on-of known = all-known s'.shelf o.written.references o.keys all (so-far-on keeps o.written.references o.keys known)
@@ -142,12 +143,12 @@ module _ {N B W : Type 0} (m : Seen N B W) (n : ℕ) {g g' : Ground} (task : Tas
       let apart = apart-of s.shelf n task (identity_of r) free below waits in
       let unclaimed : (slot : Slot) → s.shelf.slots (identity_of r) ≡ Some slot → (slot.worker ≡ n) × (slot.outcome ≡ no_result) = λ slot there. absurd (cc) in
       let fits_new : KeepsKeys s.shelf s'.shelf → SlotFits m.values g' s'.shelf (identity_of r) (record { worker = n; written = None; outcome = no_result }) =
-            λ keys. record {
-              given = let le = ok.0 in let more = goes.last in omega arith;
-              typed = ap (λ (t : Tree). t.type) (goes.trees r.node.0 ok.0) ∙ ok.1;
-              writes = λ w there. absurd (cc);
-              publishes = λ key height known. absurd (cc);
-            } in
+      λ keys. record {
+        given = let le = ok.0 in let more = goes.last in omega arith;
+        typed = ap (λ (t : Tree). t.type) (goes.trees r.node.0 ok.0) ∙ ok.1;
+        writes = λ w there. absurd (cc);
+        publishes = λ key height known. absurd (cc);
+      } in
       did (changed r _ is unclaimed fits_new) e (record { slot = record { worker = n; written = None; outcome = no_result }; claimed = at-itself is; own = refl; wrote = refl; no_result_yet = refl }, record { apart = apart; expects = expects; waits = waits-changed r _ is unclaimed fits_new below apart waits })
 
   writes : (r : ArcRef) (place : ℕ) (through : HandleNumber) (below : List Todo) (written : Written) (mine : IsMine s.shelf n (identity_of r) None) → WroteTree m.values.types g r.node.0 written
@@ -157,12 +158,12 @@ module _ {N B W : Type 0} (m : Seen N B W) (n : ℕ) {g g' : Ground} (task : Tas
       let fit = fits (identity_of r) mine.slot mine.claimed in
       let free : (slot : Slot) → s.shelf.slots (identity_of r) ≡ Some slot → (slot.worker ≡ n) × (slot.outcome ≡ no_result) = λ slot there. let f = mine.claimed in let same : mine.slot ≡ slot = cc in (ap (λ (z : Slot). z.worker) (sym same) ∙ mine.own, ap (λ (z : Slot). z.outcome) (sym same) ∙ mine.no_result_yet) in
       let fits_new : KeepsKeys s.shelf s'.shelf → SlotFits m.values g' s'.shelf (identity_of r) (record mine.slot { written = Some written }) =
-            λ keys. record {
-              given = let le = fit.given in let more = goes.last in omega arith;
-              typed = ap (λ (t : Tree). t.type) (goes.trees r.node.0 fit.given) ∙ fit.typed;
-              writes = λ w2 there. let same : written ≡ w2 = cc in subst (λ (z : Written). WroteTree m.values.types g' r.node.0 z) same (wrote-on m.values goes fit.given w);
-              publishes = λ key height known. let f = mine.no_result_yet in absurd (cc);
-            } in
+      λ keys. record {
+        given = let le = fit.given in let more = goes.last in omega arith;
+        typed = ap (λ (t : Tree). t.type) (goes.trees r.node.0 fit.given) ∙ fit.typed;
+        writes = λ w2 there. let same : written ≡ w2 = cc in subst (λ (z : Written). WroteTree m.values.types g' r.node.0 z) same (wrote-on m.values goes fit.given w);
+        publishes = λ key height known. let f = mine.no_result_yet in absurd (cc);
+      } in
       did (changed r _ is free fits_new) e (started-node m.values g' s'.shelf n task (record { reference = r; place = place; through = through; written = written; keys = []; height = 0 }) below _ refl
       (record { slot = record mine.slot { written = Some written }; claimed = at-itself is; own = mine.own; wrote = refl; no_result_yet = mine.no_result_yet }, tt, above.apart, above.expects, waits-changed r _ is free fits_new below above.apart above.waits))
 
@@ -173,12 +174,12 @@ module _ {N B W : Type 0} (m : Seen N B W) (n : ℕ) {g g' : Ground} (task : Tas
       let fit = fits (identity_of r) mine.slot mine.claimed in
       let free : (slot : Slot) → s.shelf.slots (identity_of r) ≡ Some slot → (slot.worker ≡ n) × (slot.outcome ≡ no_result) = λ slot there. let f = mine.claimed in let same : mine.slot ≡ slot = cc in (ap (λ (z : Slot). z.worker) (sym same) ∙ mine.own, ap (λ (z : Slot). z.outcome) (sym same) ∙ mine.no_result_yet) in
       let fits_new : KeepsKeys s.shelf s'.shelf → SlotFits m.values g' s'.shelf (identity_of r) (record mine.slot { outcome = published key height }) =
-            λ keys. record {
-              given = let le = fit.given in let more = goes.last in omega arith;
-              typed = ap (λ (t : Tree). t.type) (goes.trees r.node.0 fit.given) ∙ fit.typed;
-              writes = λ w2 there. wrote-on m.values goes fit.given (fit.writes w2 there);
-              publishes = λ k h known. let same : key ≡ k = cc in (blob.written, mine.wrote, subst (λ z. BlobStands m.values g' s'.shelf r.node.0 blob.written z) same (blob-on m.values goes keys fit.given blob.stands));
-            } in
+      λ keys. record {
+        given = let le = fit.given in let more = goes.last in omega arith;
+        typed = ap (λ (t : Tree). t.type) (goes.trees r.node.0 fit.given) ∙ fit.typed;
+        writes = λ w2 there. wrote-on m.values goes fit.given (fit.writes w2 there);
+        publishes = λ k h known. let same : key ≡ k = cc in (blob.written, mine.wrote, subst (λ z. BlobStands m.values g' s'.shelf r.node.0 blob.written z) same (blob-on m.values goes keys fit.given blob.stands));
+      } in
       did (changed r _ is free fits_new) e (record { slot = record mine.slot { outcome = published key height }; claimed = at-itself is; known = refl }, above.expects, waits-changed r _ is free fits_new below above.apart above.waits)
 
   -- a slot of the worker's own is changed by f

@@ -11,5 +11,6 @@ pub mod SmallWork
 pub mod MetLaws
 pub mod StepLaws
 pub mod TreeSteps
+pub mod TreeRuns
 pub mod ReadLaws
 pub mod PageOutLaws

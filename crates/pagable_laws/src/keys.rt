@@ -1,7 +1,7 @@
 //! The laws of page-outs by trees: each is the contract of a function that does nothing.
 
 ghost use Rattle.pagable_world.specs.World.{Seen};
-ghost use Rattle.pagable_laws.specs.PageOutLaws.{FitsAtFirst};
+ghost use Rattle.pagable_laws.specs.PageOutLaws.{FitsAtFirst, FitsOn, FitsGiveKeys, SetsReadKeys};
 
 use crate::world::SeenAs;
 
@@ -9,4 +9,20 @@ use crate::world::SeenAs;
 #[tactic(auto, using(crate::proofs::Publishing::fits_at_first))]
 pub fn fits_at_first<N: SeenAs<B, W>, B, W, E>()
     ensures { FitsAtFirst E N.seen.values }
+{}
+
+/// Each event keeps that, where machine and trees are as they are along every chain.
+#[tactic(auto, using(crate::proofs::Publishing::fits_on))]
+pub fn fits_on<N: SeenAs<B, W>, B, W, E>()
+    ensures { FitsOn E N.seen }
+{}
+
+/// What is published is its tree's key, what is answered is its task's, and all that was met then is left paged out.
+pub fn fits_give_keys<N: SeenAs<B, W>, B, W, E>()
+    ensures { FitsGiveKeys E N.seen }
+{}
+
+/// A key that a worker is about to set reads as its node's tree.
+pub fn sets_key_that_reads<N: SeenAs<B, W>, B, W, E>()
+    ensures { SetsReadKeys E N.seen }
 {}

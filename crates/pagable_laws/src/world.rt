@@ -3,7 +3,7 @@
 ghost use Rattle.pagable_world.specs.World.{Seen};
 ghost use Rattle.pagable_laws.specs.FallLaws.{IsThere, IsOne, IsGivenAlone, PinsAreAFilter, TwoLevelsFall, LoneIsListed};
 ghost use Rattle.pagable_laws.specs.MetLaws.{HeadlineIsMet, WorkMeetsHeadline};
-ghost use Rattle.pagable_laws.specs.ReadLaws.{AsksNext, DecodesWell, ReadStands};
+ghost use Rattle.pagable_laws.specs.ReadLaws.{AllGoOn, AsksNext, DecodesWell, PinStands, ReadStands};
 ghost use Rattle.pagable_laws.specs.RunLaws.{ChainsJoin, NewIsWhole, NextIsOneOf, StepsFollow, IsOnceEach, KeysTellTheirTrees};
 
 use crate::values::is_key_of_one_tree;
@@ -109,4 +109,15 @@ pub fn reading_leads_to_the_tree<N: SeenAs<B, W>, B, W>()
 /// It stands for each tree of its type that the key reads as, where the nodes of its references stand for theirs.
 pub fn what_is_read_stands<N: SeenAs<B, W>, B, W, E>()
     ensures { ReadStands E N.seen.values }
+{}
+
+/// What a load reads goes on fitting.
+#[tactic(auto, using(crate::proofs::Fitting::frames_go_on))]
+pub fn reading_goes_on_fitting()
+    ensures { AllGoOn }
+{}
+
+/// Each handle that pins gives the tree that its node was made with.
+pub fn what_is_pinned_stands<N: SeenAs<B, W>, B, W, E>()
+    ensures { PinStands E N.seen.values }
 {}

@@ -7,7 +7,6 @@ use pagable::{
 };
 use pagable_examples::{Dish, Expression, Menu, MenuNode, Sheet, Size, quick_start};
 use std::alloc::{AllocError, Global};
-use std::fmt::Debug;
 use std::process::Abort;
 use std::sync::Arc;
 use std::test::Fail;
@@ -61,11 +60,12 @@ fn carried<'de, E: Env, T>(
     bytes: &'de [u8],
 ) -> Result<(), Fail>
 where
-    T: PagableSerialize<E> + PagableDeserialize<'de, E> + PartialEq + Debug + Drop,
+    T: PagableSerialize<E> + PagableDeserialize<'de, E> + PartialEq + Drop,
 {
     let found = written(alloc, env, &value).ok().ok_or("not written")?;
     equal(rt, found.as_slice(), bytes, "bytes");
-    equal(rt, read::<E, T>(alloc, env, bytes), Ok(value), "value");
+    let again = read::<E, T>(alloc, env, bytes);
+    equal(rt, again == Ok(value), true, "value");
     equal(rt, ends_early::<E, T>(alloc, env, bytes), true, "cut");
     Ok(())
 }
@@ -107,7 +107,7 @@ fn a_node_holds_a_value_of_its_type(rt: HostRuntime) -> Result<(), Fail> {
         .ok()
         .flatten();
     let size = size.ok_or("another type")?;
-    equal(&rt, size.as_ref(), &Size::Large(200), "value");
+    equal(&rt, *size == Size::Large(200), true, "value");
     let dish = <Dish as OfNode<Card>>::from_node(alloc, &again)
         .ok()
         .ok_or("memory")?;

@@ -3,7 +3,8 @@
 
 use crate::equal::equal;
 use pagable::{
-    Error, PagableSerialize, PagableSerializerImpl, StaticStr, StaticValue, StaticValueEntry,
+    Error, PagableSerialize, PagableSerializerImpl, PagableTagged, StaticStr, StaticValue,
+    StaticValueEntry,
 };
 use pagable_examples::{Animal, Zoo};
 use std::alloc::Global;
@@ -79,7 +80,7 @@ fn a_tag_need_not_be_registered_to_be_written(rt: HostRuntime) -> Result<(), Fai
     ];
     for (animal, wanted) in rows {
         let found = is_written(rt.alloc(), &zoo, &animal, wanted);
-        assert!(rt; found, "{animal:?}");
+        equal(&rt, found, true, animal.pagable_type_tag());
     }
     Ok(())
 }

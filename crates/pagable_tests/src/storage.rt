@@ -1,8 +1,9 @@
-//! Blobs in memory, and the storages over another one.
+//! Blobs in memory, the storages over another one, and a page-out over one that fails.
 
 use crate::equal::equal;
-use pagable::{DataKey, Error, InMemoryBlobs, PagableData, PagableStorage, WeighHash};
-use pagable_examples::TextEnv;
+use pagable::paging::page_out_pending;
+use pagable::{DataKey, Error, InMemoryBlobs, PagableData, PagableStorage, Pager, WeighHash};
+use pagable_examples::{TextEnv, TextNode};
 use row_calls::{CountingStorage, FailingStorage};
 use std::alloc::{AllocError, Global};
 use std::test::Fail;
@@ -71,4 +72,32 @@ fn storages_over_another(rt: HostRuntime) -> Result<(), Fail> {
     equal(&rt, fetch(alloc, &mut storage, key), Ok(2), "fetched");
     equal(&rt, (storage.stores(), storage.fetches()), (1, 2), "counts");
     Ok(())
+}
+
+/// What a page-out of one cell comes to over a storage whose first call fails, or a closed one; what is listed then; and what
+/// another page-out comes to.
+fn paged_out(
+    alloc: Global,
+    is_closed: bool,
+) -> Result<(Option<Error>, usize, Option<Error>), Error> {
+    let mut blobs: InMemoryBlobs<AnyEnv> = InMemoryBlobs::new(alloc);
+    if is_closed {
+        blobs.close();
+    }
+    let mut pager = Pager::new(alloc, FailingStorage::new(blobs, 0), AnyEnv::new());
+    let node = TextNode::new(alloc, "x")?;
+    let cell = pager.new_loose(alloc, node).map_err(|refused| refused.0)?;
+    pager.unpin(cell)?;
+    let first = page_out_pending(alloc, &mut pager).err();
+    let listed = pager.pending();
+    Ok((first, listed, page_out_pending(alloc, &mut pager).err()))
+}
+
+#[test]
+fn what_a_page_out_could_not_store_stays_listed(rt: HostRuntime) {
+    for (is_closed, again) in [(false, None), (true, Some(Error::Closed))] {
+        let found = paged_out(rt.alloc(), is_closed);
+        let wanted = (Some(Error::Storage(7)), 1, again);
+        equal(&rt, found, Ok(wanted), "page-outs");
+    }
 }

@@ -1,10 +1,9 @@
-//! Rows of calls on a pager of texts, and of events on a machine over one.
+//! Rows of events for a machine over a pager of texts.
 
 pub mod answers;
 pub mod asked;
 pub mod looks;
 pub mod nodes;
-pub mod pure;
 
 use crate::calls::asked::{events, split};
 use crate::calls::looks::look;
@@ -26,16 +25,14 @@ pub type CellCall = MachineCall<CellNode, PagableData>;
 
 pub type CellEvent = MachineEvent<CellNode, PagableData>;
 
-/// Answers rows of calls and events. There is a pager by itself or a machine over one, as the last row of the words `pager`,
-/// `machine` or `drive` has made it.
+/// Answers rows of events, by the machine that the last row of the word `machine` has made.
 #[derive(Drop)]
 pub struct Calls {
-    pager: Option<CellPager>,
-    machine: Option<CellMachine>,
+    machine: CellMachine,
 }
 
 /// A pager without cells. Of its storage one call fails, after as many others as the word tells, or it is closed.
-fn pager_over(alloc: Global, word: &str) -> CellPager {
+pub fn pager_over(alloc: Global, word: &str) -> CellPager {
     let mut blobs: InMemoryBlobs<CellEnv> = InMemoryBlobs::new(alloc);
     if word == "closed" {
         blobs.close();
@@ -45,11 +42,10 @@ fn pager_over(alloc: Global, word: &str) -> CellPager {
 }
 
 impl Calls {
-    /// No pager yet.
-    pub fn new() -> Calls {
+    /// A machine without cells, of whose storage no call fails.
+    pub fn new(alloc: Global) -> Calls {
         Calls {
-            pager: None,
-            machine: None,
+            machine: Machine::new(alloc, pager_over(alloc, "")),
         }
     }
 
@@ -57,43 +53,12 @@ impl Calls {
     pub fn answer(&mut self, alloc: Global, line: &str) -> anyhow::Result<String> {
         let (word, rest) = split(line);
         match word {
-            "pager" => {
-                self.pager = Some(pager_over(alloc, rest));
+            "machine" => {
+                self.machine = Machine::new(alloc, pager_over(alloc, rest));
                 Ok(String::new(alloc))
             }
-            "machine" => {
-                self.pager = Some(pager_over(alloc, rest));
-                Ok(self.drive(alloc))
-            }
-            "drive" => Ok(self.drive(alloc)),
-            "look" => self.look(alloc, rest.parse::<u64>()?),
-            _ => self.make(alloc, line),
-        }
-    }
-
-    /// Lets a machine drive the pager as it stands.
-    fn drive(&mut self, alloc: Global) -> String {
-        if let Some(pager) = self.pager.take() {
-            self.machine = Some(Machine::new(alloc, pager));
-        }
-        String::new(alloc)
-    }
-
-    /// What a look at the pager finds.
-    fn look(&self, alloc: Global, last: u64) -> anyhow::Result<String> {
-        match (&self.pager, &self.machine) {
-            (Some(pager), _) => look(alloc, pager, last),
-            (None, Some(machine)) => look(alloc, machine.pager(), last),
-            _ => bail!("no pager"),
-        }
-    }
-
-    /// Makes what a row asks for, one call after the other on the pager itself, or as one list of events on the machine.
-    fn make(&mut self, alloc: Global, line: &str) -> anyhow::Result<String> {
-        match (&mut self.pager, &mut self.machine) {
-            (Some(pager), _) => pure::answers(alloc, pager, line),
-            (None, Some(machine)) => run(alloc, machine, line),
-            _ => bail!("no pager"),
+            "look" => look(alloc, self.machine.pager(), rest.parse::<u64>()?),
+            _ => run(alloc, &mut self.machine, line),
         }
     }
 }

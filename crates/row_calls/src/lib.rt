@@ -1,4 +1,4 @@
-//! Answers to rows of calls and events of a pager of texts, and the storages over another storage that rows and tests use.
+//! Answers to rows of events of a machine over a pager of texts, and the storages over another storage that rows and tests use.
 #![tactic(auto)]
 
 pub mod blobs;

@@ -1,5 +1,5 @@
-//! `rows FILE..` answers each line of each file with one line. What it has to answer stands in `stdout`, and comes from
-//! outside the program.
+//! `rows FILE..` answers each line of each file with one line, but for comments and lines that only make a pager. What it has to
+//! answer stands in `stdout`, and comes from outside the program.
 #![tactic(auto)]
 
 use anyhow::Context;
@@ -8,10 +8,10 @@ use row_calls::calls::Calls;
 use std::alloc::Global;
 use std::{env, fs};
 
-/// The answer to a line of a file, of calls or of values. A comment and an empty line are their own answers.
+/// The answer to a line of a file, of calls or of values. That to a comment is empty.
 fn answer(alloc: Global, path: &str, calls: &mut Calls, line: &str) -> anyhow::Result<String> {
-    if line.is_empty() || line.starts_with('#') {
-        return Ok(String::from_str(alloc, line)?);
+    if line.starts_with('#') {
+        return Ok(String::new(alloc));
     }
     if path.ends_with("calls.txt") {
         calls.answer(alloc, line)
@@ -25,13 +25,15 @@ fn run(rt: &HostRuntime, path: &str, calls: &mut Calls) -> anyhow::Result<()> {
     let text = fs::read_to_string(rt, path)?;
     for line in text.lines() {
         let answer = answer(rt.alloc(), path, calls, line).context(format_args!("{path}: {line}"))?;
-        println!(rt; "{}", answer.as_str())?;
+        if !answer.is_empty() {
+            println!(rt; "{}", answer.as_str())?;
+        }
     }
     Ok(())
 }
 
 fn main(rt: HostRuntime) -> anyhow::Result<()> {
-    let mut calls = Calls::new();
+    let mut calls = Calls::new(rt.alloc());
     let mut words = env::args(&rt)?;
     let _program = words.next();
     for path in words {

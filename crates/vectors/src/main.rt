@@ -2,11 +2,13 @@
 //! format, of keys and of cells.
 #![tactic(auto)]
 
-use anyhow::ensure;
-use pagable::{Error, PagableSerialize, PagableVecFlavor};
+use anyhow::{Context, bail, ensure};
+use pagable::paging::{page_out_pending, pin};
+use pagable::{DataKey, Error, PagableSerialize, PagableVecFlavor};
 use row_answers::lines;
 use row_calls::blobs::bytes_of;
-use row_calls::calls::Calls;
+use row_calls::calls::nodes::node;
+use row_calls::calls::{Calls, pager_over};
 use row_values::carried::{AnyEnv, written};
 use serde_json::Value;
 use std::alloc::Global;
@@ -16,7 +18,7 @@ use std::time::Duration;
 const NUMBERS: [u32; 17] = [1, 2, 3, 4, 5, 6, 7, 8, 9, 12, 13, 14, 17, 21, 22, 23, 24];
 
 /// The rows' lines: a row's number, what is asked of it, and what has to be answered.
-const LINES: [(u32, &'static str, &'static str); 51] = [
+const LINES: [(u32, &'static str, &'static str); 49] = [
     (1, "u16 read ac02", "ok 2 = 300"),
     (2, "u16 read 808000 ffff03", "ok 3 00 = 0; ok 3 = 65535"),
     (2, "u16 read ffff04 808080", "refused 2; refused 2"),
@@ -37,12 +39,16 @@ const LINES: [(u32, &'static str, &'static str); 51] = [
     (6, "Json write 18446744073709551615", "refused 9"),
     (7, "blob weigh 01:2", "30"),
     (8, "blob weigh -", "1"),
-    (9, "pager", ""),
+    (9, "machine", ""),
     (9, "new_loose 0 hello world; unpin 1", "ok 1; ok"),
     (9, "pending; key 1; is_paged_out 1", "ok 1; none; no"),
-    (9, "page_out; pending; key 1", "ok; ok 0; ok 16879"),
+    (
+        9,
+        "take_pending 0; pin 2; store 0b68656c6c6f20776f726c64; set_data_key 2 16879; release 3; release 2",
+        "ok 2; ok 3; ok 16879; ok; ok; ok",
+    ),
+    (9, "pending; key 1", "ok 0; ok 16879"),
     (9, "is_paged_out 1; pin 1", "yes; needs 16879"),
-    (9, "drive", ""),
     (9, "load_start 1; load_step 1", "load 1 16879; step 1"),
     (9, "load_step 1; count 1", "step 2 pinned 5; ok 2"),
     (
@@ -50,7 +56,7 @@ const LINES: [(u32, &'static str, &'static str); 51] = [
         "look 5",
         "pending 0; 1: 1 2 16879 here = hello world; 5: 1 2 16879 here = hello world",
     ),
-    (12, "pager", ""),
+    (12, "machine", ""),
     (
         12,
         "new_pinned 0 x; clone 1; into_pagable 2; count 2; unpin 2; count 2; release 1; count 2",
@@ -66,7 +72,7 @@ const LINES: [(u32, &'static str, &'static str); 51] = [
         "release 5; count 2; release 4; count 2; pending",
         "ok; ok 1; ok; ok 0; ok 2",
     ),
-    (13, "pager", ""),
+    (13, "machine", ""),
     (
         13,
         "store 0b68656c6c6f20776f726c64; new_paged_out 0 16879; clone 1; load_begin 1; load_begin 2",
@@ -83,13 +89,7 @@ const LINES: [(u32, &'static str, &'static str); 51] = [
         "look 2",
         "pending 0; 1: 1 2 16879 here; 2: 1 2 16879 here = hello world",
     ),
-    (14, "pager 1", ""),
-    (
-        14,
-        "new_loose 0 x; unpin 1; pin 1; release 3; unpin 1; pending; page_out; pending",
-        "ok 1; ok; ok 3; ok; ok; ok 2; ok; ok 0",
-    ),
-    (17, "pager", ""),
+    (17, "machine", ""),
     (17, "store 0009; store 0a00", "ok 90; refused 24"),
     (17, "fetch 90", "0x0009"),
     (21, "String read 0261 01ff", "refused 1; refused 4"),
@@ -100,7 +100,7 @@ const LINES: [(u32, &'static str, &'static str); 51] = [
     (22, "StaticBytes read 01 02", "ok 1 = hello; ok 1 = world"),
     (22, "StaticBytes read 00 03", "ok 1 = ; refused 13"),
     (23, "Animal:Cat read 03436174 03446f67", "ok 4; refused 12"),
-    (24, "pager", ""),
+    (24, "machine", ""),
     (24, "new_loose 0 x; pin 1", "ok 1; ok 2"),
     (24, "pin 2; count 1; release 2", "refused 19; ok 2; ok"),
     (24, "release 2; count 1; pending", "refused 18; ok 1; ok 0"),
@@ -108,7 +108,7 @@ const LINES: [(u32, &'static str, &'static str); 51] = [
 
 /// The answer to a line, of calls or of values.
 fn answer(alloc: Global, calls: &mut Calls, row: u32, line: &str) -> anyhow::Result<String> {
-    if matches!(row, 9 | 12..=14 | 17 | 24) {
+    if matches!(row, 9 | 12 | 13 | 17 | 24) {
         return calls.answer(alloc, line);
     }
     lines::answer(alloc, line)
@@ -116,7 +116,7 @@ fn answer(alloc: Global, calls: &mut Calls, row: u32, line: &str) -> anyhow::Res
 
 /// Whether a row's lines are answered as they have to be.
 fn lines_hold(alloc: Global, number: u32) -> anyhow::Result<bool> {
-    let mut calls = Calls::new();
+    let mut calls = Calls::new(alloc);
     for (row, line, wanted) in LINES {
         if row == number && answer(alloc, &mut calls, row, line)?.as_str() != wanted {
             return Ok(false);
@@ -162,6 +162,23 @@ fn write_over(alloc: Global) -> Result<bool, Error> {
     Ok(out.finalize().as_slice() == [9u8, 7].as_slice())
 }
 
+/// Whether the page-out of a cell that is listed twice stores it once: the storage's second call fails, and is this fetch.
+fn is_stored_once(alloc: Global) -> anyhow::Result<bool> {
+    let mut pager = pager_over(alloc, "1");
+    let Ok(cell) = pager.new_loose(alloc, node(alloc, "0 x")?) else {
+        bail!("a cell is refused");
+    };
+    pager.unpin(cell)?;
+    let pinned = pin(alloc, &mut pager, cell)?;
+    pager.release(pinned)?;
+    pager.unpin(cell)?;
+    let listed = pager.pending();
+    page_out_pending(alloc, &mut pager)?;
+    let key = DataKey::new(1209).context("0 is no key")?;
+    let fetched = pager.fetch(alloc, key).err();
+    Ok(listed == 2 && pager.pending() == 0 && fetched == Some(Error::Storage(7)))
+}
+
 /// Whether a row's values of which no line says what they are hold too.
 fn others_hold(alloc: Global, number: u32) -> anyhow::Result<bool> {
     match number {
@@ -171,6 +188,7 @@ fn others_hold(alloc: Global, number: u32) -> anyhow::Result<bool> {
         ),
         4 => is_written(alloc, &vec![in alloc; -1i32, 1]?, "020102"),
         6 => arrays_hold(alloc),
+        14 => is_stored_once(alloc),
         21 => is_written(alloc, &'é', "02c3a9"),
         24 => Ok(write_over(alloc)?),
         _ => Ok(true),

@@ -8,9 +8,9 @@ use pagable::{
 use std::alloc::{AllocError, Global};
 use std::sync::Arc;
 
-pub type CellReply = Reply<CellNode, Arc<PagableData>>;
+type CellReply = Reply<CellNode, Arc<PagableData>>;
 
-pub type CellEventReply = EventReply<CellNode, Arc<PagableData>, ()>;
+type CellEventReply = EventReply<CellNode, Arc<PagableData>, ()>;
 
 /// A word, and at most two numbers behind it.
 type Told = (&'static str, Option<u128>, Option<u128>);
@@ -112,7 +112,7 @@ fn parted(text: &mut String) -> Result<(), AllocError> {
 }
 
 /// Adds what a call answers. A value that comes back from the end of a load is told too.
-pub fn push_call(alloc: Global, text: &mut String, reply: &CellReply) -> anyhow::Result<()> {
+fn push_call(alloc: Global, text: &mut String, reply: &CellReply) -> anyhow::Result<()> {
     parted(text)?;
     match reply {
         Reply::Fetched(Ok(blob)) => push_blob(alloc, text, blob.as_ref()),

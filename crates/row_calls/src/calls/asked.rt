@@ -22,7 +22,7 @@ pub fn events(alloc: Global, line: &str) -> anyhow::Result<Vec<CellEvent>> {
 }
 
 /// One event: its name, and what it is about. A number that isn't there is 0, which nothing has.
-pub fn event(alloc: Global, part: &str) -> anyhow::Result<CellEvent> {
+fn event(alloc: Global, part: &str) -> anyhow::Result<CellEvent> {
     let (name, rest) = split(part);
     let (first, behind) = split(rest);
     let number = first.parse::<u64>().unwrap_or_default();

@@ -1,0 +1,181 @@
+-- What follows for keys: each that is published is its tree's, each that is answered is its task's, and what a worker met that answers one is left paged out.
+use Rattle.std.proofs.Common.{◌≡◌, ℕ, ◌==◌, true, List, [], ◌∷◌, Some, None, Ok, Err, if◌then◌else◌, sym, ap, subst, ◌∙◌, arith}
+use Rattle.std.proofs.lemmas.Bool.Decides.{nat_tests}
+use Rattle.pagable_model.specs.Meaning.{number, integer, text, pattern, none, pair, variant, reference, followed}
+use Rattle.pagable_model.specs.Canonical.{EachType}
+use Rattle.pagable_model.specs.Merkle.{blob_of, KeyOf, KeyOfItem}
+use Rattle.pagable_world.specs.Plain.{Identity, Meaning, Tree, WorkerNumber, type_of, updated}
+use Rattle.pagable_world.specs.declared.events.Event.TheVariants as events
+use Rattle.pagable_world.specs.declared.events.Event.{Event}
+use Rattle.pagable_world.specs.declared.events.EventReply.TheVariants as answers
+use Rattle.pagable_world.specs.declared.events.EventReply.{EventReply}
+use Rattle.pagable_world.specs.declared.events.Took.TheVariants as took
+use Rattle.pagable_world.specs.declared.events.Took.{Took}
+use Rattle.pagable_world.specs.declared.events.WorkerAnswer.TheVariants as finals
+use Rattle.pagable_world.specs.declared.events.WorkerReply.{WorkerReply}
+use Rattle.pagable_world.specs.Kinds.{identity_of}
+use Rattle.pagable_world.specs.World.{Shelf, Slot, Written, Fault, was_refused, was_failed, Todo, to_item, to_publish, to_release, to_fail, Task, of_item, of_entry, Walking, Values, Seen}
+use Rattle.pagable_world.specs.Workers.{Site, Does, IsPublished, answer_after}
+use Rattle.pagable_world.specs.Events.{WorkerSteps, Happens}
+use Rattle.pagable_world.specs.Pager.{MachineState, world_of, kids_of}
+use Rattle.pagable_world.specs.Headline.{Meets, meets-of-item, meets-entry, meets-below, AreKeysOf, IsLeftPagedOut, IsKeyOfTask}
+use Rattle.pagable_laws.specs.PageOutLaws.{Ground, ground_of, IsOfEntry, Waits, Walks, WorkFits, KeysAreRight, FitsGiveKeys, IsDone, SetsReadKeys}
+use Rattle.pagable_laws.proofs.Merkle.{one_key, one_item_key, tree_readable}
+use Rattle.pagable_laws.proofs.Trees.{same_some}
+use Rattle.pagable_laws.proofs.Following.{IdentityStands, known-of, keys-of, tree-form}
+use Rattle.pagable_laws.proofs.Shelves.{KeepsKeys, keys-on, keys-same}
+use Rattle.pagable_laws.proofs.Stepping.{all-known, stands-for}
+
+-- ---- one step of a worker
+
+module _ {N B W : Type 0} (m : Seen N B W) (n : ℕ) (g : Ground) (task : Task) (s s' : Site) where
+  of-publish : (todo : List Todo) (i : Identity) (key height : ℕ) → Does m n s todo (took.Publish i key height) s' → Walks m.values g s.shelf n task todo → KeyOf m.values.hash m.values.types (g.trees i.node.0) key
+  of-publish (to_publish r k h ∷ below) i key height (is, same_key, same_height, t) (blob, above) =
+      subst (λ (j : Identity). KeyOf m.values.hash m.values.types (g.trees j.node.0) key) (sym is) (subst (λ q. KeyOf m.values.hash m.values.types (g.trees r.node.0) q) (sym same_key) blob.stands.right.is_key)
+  of-publish todo i key height does walks = absurd does
+
+  -- what the answer of a key comes from
+  record Answers (key : ℕ) : Type 0 where
+    done : IsDone m.values s.shelf task key
+    same : (i : Identity) → s'.shelf.slots i ≡ s.shelf.slots i
+
+  is-fault : (fault : Fault) (key : ℕ) → answer_after {W = W} (to_fail fault None ∷ []) took.Fail ≡ Some (finals.Key key) → ⊥
+  is-fault (was_refused f) key e = cc
+  is-fault was_failed key e = cc
+
+  answered : (todo : List Todo) (step : Took W) → Does m n s todo step s' → Walks m.values g s.shelf n task todo → (key : ℕ) → answer_after todo step ≡ Some (finals.Key key) → Answers key
+  unfolding Waits
+  answered (to_item written ks ∷ below) (took.Store i (Ok k)) (is, p) (of_it, known) key e =
+      let to : k ≡ key = cc in
+      let b = p.stored.stores in
+      record {
+        done = subst (λ t. IsDone m.values s.shelf t key) (sym of_it) (ks, all-known s.shelf written.references ks p.all known, sym to ∙ b.0);
+        same = let t = p.goes in t.table_stays.slots;
+      }
+  answered (to_item written ks ∷ below) (took.Store i (Err f)) does walks key e = absurd (cc)
+  answered (to_item written ks ∷ below) step does walks key e = absurd does
+  answered (to_release r k h ∷ []) (took.Release i) (is, falls, t) (p, expects, waits) key e =
+      let to : k ≡ key = cc in record { done = of-entry task expects (subst (λ q. IsPublished s.shelf (identity_of r) q h) to p); same = t.table_stays.slots }
+    where
+      of-entry : (task : Task) → IsOfEntry task r → IsPublished s.shelf (identity_of r) key h → IsDone m.values s.shelf task key
+      of-entry (of_entry q i) at p = (h, subst (λ j. IsPublished s.shelf j key h) at p)
+      of-entry (of_item written) at p = absurd at
+  answered (to_release r k h ∷ []) step does walks key e = absurd does
+  answered (to_fail fault back ∷ below) took.Fail does walks key e = absurd (is-fault fault key e)
+  answered (to_fail fault back ∷ below) step does walks key e = absurd does
+  answered todo step does walks key e = absurd (cc)
+
+-- ---- what a machine has come to
+
+module _ {N E : Type 0} (v : Values N) (s : MachineState N E) (trees : ℕ → Tree) (fit : WorkFits v s trees) (t : ℕ) where
+  abbrev shelf : Shelf
+  shelf = s.work.shelves t
+
+  keys-stand : (i : Identity) (key height : ℕ) → IsPublished shelf i key height → IdentityStands v (ground_of s trees) i key
+  keys-stand = stands-for v (ground_of s trees) shelf (fit.slots t)
+
+  is-key : (task : Task) (key : ℕ) → IsDone v shelf task key → IsKeyOfTask v trees task key
+  is-key (of_item written) key (keys, known, is) =
+      let k : KeyOfItem v.hash v.types written.bytes (kids_of trees written.references) key = record { keys = keys; each = keys-of keys-stand written.references keys known; is = is } in
+      (k, λ canonical other o. one_item_key v.hash v.types written.bytes (kids_of trees written.references) other key canonical o k)
+  is-key (of_entry h i) key (height, p) = let k = (keys-stand i key height p).right.is_key in (k, λ canonical other o. one_key v.hash v.types (trees i.node.0) other key canonical o k)
+
+  met : (task : Task) (key : ℕ) → IsDone v shelf task key → (i : Identity) → Meets shelf task i → (k : ℕ) × ((h : ℕ) × IsPublished shelf i k h)
+  met task key done i (meets-of-item written r is among) = let d = subst (λ x. IsDone v shelf x key) is done in known-of shelf written.references d.0 d.1 r among
+  met task key done i (meets-entry h j is) = let d = subst (λ x. IsDone v shelf x key) is done in (key, d)
+  met task key done i (meets-below j slot written r above there wrote among) =
+      let p = met task key done j above in
+      let q = p.1.1 in
+      let same : q.slot ≡ slot = same_some _ _ (sym q.claimed ∙ there) in
+      let b = (fit.slots t j q.slot q.claimed).publishes p.0 p.1.0 q.known in
+      let w : b.0 ≡ written = same_some _ _ (sym b.1 ∙ ap (λ (z : Slot). z.written) same ∙ wrote) in
+      known-of shelf written.references b.2.keys (subst (λ (z : Written). AreKeysOf shelf z.references b.2.keys) w b.2.known) r among
+
+  left-paged-out : (i : Identity) (key height : ℕ) → IsPublished shelf i key height → IsLeftPagedOut v s.pager shelf trees i
+  left-paged-out i key height p =
+      let f = fit.slots t i p.slot p.claimed in
+      let b = f.publishes key height p.known in
+      let w = f.writes b.0 b.1 in
+      record {
+        slot = p.slot;
+        written = b.0;
+        blob = blob_of b.0.bytes b.2.keys;
+        key = key;
+        height = height;
+        shape = w.shape;
+        claimed = p.claimed;
+        written_is = b.1;
+        known = p;
+        stored = b.2.is_stored;
+        keys = b.2.known;
+        has_shape = w.is;
+        form = tree-form w;
+      }
+
+-- ---- an event
+
+at-self : {X : Type 0} (k : ℕ) (x : X) (f : ℕ → X) → updated k x f k ≡ x
+at-self k x f = let e : (k == k) ≡ true = grind (arith, nat_tests) in ap (λ b. if b then x else f k) e
+
+done-on : {N : Type 0} (v : Values N) {shelf shelf' : Shelf} → KeepsKeys shelf shelf' → (task : Task) (key : ℕ) → IsDone v shelf task key → IsDone v shelf' task key
+done-on v keeps (of_item written) key (keys, known, is) = (keys, keys-on keeps written.references keys known, is)
+done-on v keeps (of_entry h i) key (height, p) = (height, keeps i key height p)
+
+module _ {N B W E : Type 0} (m : Seen N B W) (s s' : MachineState N E) (trees trees' : ℕ → Tree) (before : WorkFits m.values s trees) (after : WorkFits m.values s' trees') where
+  module _ (n : WorkerNumber) (reply : WorkerReply W) (w : WorkerSteps m (world_of s) n reply (world_of s')) where
+    abbrev site : Site
+    site = record { core = s.pager.core; shelf = s.work.shelves w.walking.table; todo = w.walking.todo }
+
+    done : (key : ℕ) → reply.answer ≡ Some (finals.Key key) → IsDone m.values (s'.work.shelves w.walking.table) w.walking.task key
+    done key is =
+        let a = answered m n.0 (ground_of s trees) w.walking.task site w.after w.walking.todo reply.took w.does.does (before.walks n.0 w.walking w.at) key (sym w.answers ∙ is) in
+        let table = w.work.same_shelves w.walking.table in
+        done-on m.values (keys-same (λ i. table.slots i ∙ ap (λ (z : Shelf). z.slots i) (at-self w.walking.table w.after.shelf s.work.shelves) ∙ a.same i)) w.walking.task key a.done
+
+    -- the worker as it is afterwards
+    is-after : (P : Walking → Type 0) → P (record w.walking { todo = w.after.todo; steps = reply.steps; answer = reply.answer }) → (walking : Walking) → s'.work.walkings n.0 ≡ Some walking → P walking
+    is-after P p walking there =
+        let same : record w.walking { todo = w.after.todo; steps = reply.steps; answer = reply.answer } ≡ walking = same_some _ _ (sym (at-self n.0 (Some (record w.walking { todo = w.after.todo; steps = reply.steps; answer = reply.answer })) s.work.walkings) ∙ sym (w.work.same_walkings n.0) ∙ there) in
+        subst P same p
+
+  keys-right : (event : Event N B W) (reply : EventReply N B W) → Happens m (world_of s) event reply (world_of s') → KeysAreRight m.values s trees event reply s' trees'
+  keys-right (events.WorkerStep n) (answers.WorkerMoved (Ok reply)) is =
+      let w = is.moves in
+      record {
+        publishes = λ i key height e. of-publish m n.0 (ground_of s trees) w.walking.task (site n reply w) w.after w.walking.todo i key height (subst (λ (k : Took W). Does m n.0 (site n reply w) w.walking.todo k w.after) e w.does.does) (before.walks n.0 w.walking w.at);
+        key = λ walking key there e. is-after n reply w (λ x. IsKeyOfTask m.values trees' x.task key) (is-key m.values s' trees' after w.walking.table w.walking.task key (done n reply w key e)) walking there;
+        leaves = λ walking key there e. is-after n reply w (λ x. (i : Identity) → Meets (s'.work.shelves x.table) x.task i → IsLeftPagedOut m.values s'.pager (s'.work.shelves x.table) trees' i)
+            (λ i meets. let p = met m.values s' trees' after w.walking.table w.walking.task key (done n reply w key e) i meets in left-paged-out m.values s' trees' after w.walking.table i p.0 p.1.0 p.1.1) walking there;
+      }
+  keys-right (events.WorkerStep n) (answers.WorkerMoved (Err e)) is = record { publishes = tt; key = tt; leaves = tt }
+  keys-right (events.WorkerStep n) reply is = absurd is
+  keys-right (events.Call call) reply is = record { publishes = tt; key = tt; leaves = tt }
+  keys-right (events.LoadStart h) reply is = record { publishes = tt; key = tt; leaves = tt }
+  keys-right (events.LoadKey key t) reply is = record { publishes = tt; key = tt; leaves = tt }
+  keys-right (events.LoadStep l) reply is = record { publishes = tt; key = tt; leaves = tt }
+  keys-right events.TableNew reply is = record { publishes = tt; key = tt; leaves = tt }
+  keys-right (events.WorkerItem t item) reply is = record { publishes = tt; key = tt; leaves = tt }
+  keys-right (events.WorkerListed t i) reply is = record { publishes = tt; key = tt; leaves = tt }
+
+pub fits_give_keys : {N B W : Type 0} (E : Type 0) (m : Seen N B W) → FitsGiveKeys E m
+fits_give_keys E m s s' event reply trees trees' does before after = keys-right m s s' trees trees' before after event reply does.step.happens
+
+-- ---- what a worker is about to set
+
+each-type : {P : ℕ → Type 0} → ((t : ℕ) → P t) → (m : Meaning ⊥) → EachType P m
+unfolding EachType
+each-type all (number n) = tt
+each-type all (integer z) = tt
+each-type all (text t) = tt
+each-type all (pattern t) = tt
+each-type all none = tt
+each-type all (pair a b) = (each-type all a, each-type all b)
+each-type all (variant n a) = each-type all a
+each-type all (reference a) = absurd a
+each-type all (followed kind a) = (all (type_of kind), each-type all a)
+
+-- a key that a worker is about to set reads as its node's tree
+pub sets_key : {N B W : Type 0} (E : Type 0) (m : Seen N B W) → SetsReadKeys E m
+sets_key E m s trees reads fit n walking r through key height below there is =
+    let walks = subst (λ t. Walks m.values (ground_of s trees) (s.work.shelves walking.table) n walking.task t) is (fit.walks n walking there) in
+    tree_readable s.pager.core.stored m.values.types (trees r.node.0) key (reads (trees r.node.0).type, each-type reads (trees r.node.0).meaning) walks.0.stands.right.stands

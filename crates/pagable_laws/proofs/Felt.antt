@@ -1,0 +1,243 @@
+-- What each sort of step brings fits trees: which trees the nodes have afterwards, and that values, keys and what becomes known fit them.
+use Rattle.std.proofs.Common.{◌≡◌, ℕ, ◌+◌, ◌≤◌, ◌==◌, ◌&&◌, Bool, true, false, Some, None, ◌⊎◌, inl, inr, refl, sym, ap, ◌∙◌, subst, arith, if◌then◌else◌}
+use Rattle.std.specs.Prelude.{is_some}
+use Rattle.std.proofs.lemmas.Bool.Decides.{nat_tests}
+use Rattle.pagable_model.specs.declared.data_key.OptionalDataKey.TheVariants as optional
+use Rattle.pagable_world.specs.declared.handles.Owner.{Owner}
+use Rattle.pagable_world.specs.declared.handles.Owner.TheVariants as owners
+use Rattle.pagable_world.specs.declared.handles.HandleRow.{HandleRow}
+use Rattle.pagable_world.specs.declared.calls.Call.{Call}
+use Rattle.pagable_world.specs.declared.calls.Call.TheVariants as calls
+use Rattle.pagable_world.specs.declared.calls.Reply.{Reply}
+use Rattle.pagable_world.specs.Plain.{OptionalDataKey, ArcRef, Tree, tree, ReadsTree, type_of, Among, updated, is_pinned_kind}
+use Rattle.pagable_world.specs.Kinds.{any_mode, is_loose}
+use Rattle.pagable_world.specs.World.{Values, Seen, IsLawful, is_here}
+use Rattle.pagable_world.specs.Refusals.{Owns}
+use Rattle.pagable_world.specs.LoadCalls.{first_key}
+use Rattle.pagable_world.specs.Pager.{PagerState, WellFormed, Represents, ReadsNodeTree, SameTrees, CallBrings, IsNewNode, IsCellOf, ValueStands}
+use Rattle.pagable_world.specs.Runs.{HoldsSettled, AsksWell, ReadsAsType, ReadsAsValue}
+use Rattle.pagable_laws.specs.ReadLaws.{ValueLeads}
+use Rattle.pagable_laws.specs.TreeSteps.{Change, nothing_felt, sets_key, knows_node, bears_node, bears_known, CoreGoes, StaysAway, AreGood, CallFeels, feels-nothing, feels-birth, feels-away, feels-key, feels-known, feels-adopted, feels-lazy, feels-end}
+use Rattle.pagable_laws.specs.TreeRuns.{ChangeFits, CallsFit}
+use Rattle.pagable_laws.proofs.Trees.{same_some}
+use Rattle.pagable_laws.proofs.Following.{given-of, cell-of}
+use Rattle.pagable_laws.proofs.Fitting.{tree-stays}
+use Rattle.pagable_laws.proofs.Leading.{leads-on, led, own-refs, value-leads}
+use Rattle.pagable_laws.proofs.Going.{either-side}
+
+-- ---- trees with one more
+
+pub with-at : (n : ℕ) (t : Tree) (trees : ℕ → Tree) → updated n t trees n ≡ t
+with-at n t trees = let e : (n == n) ≡ true = grind (arith, nat_tests) in rw e refl
+
+pub with-below : (last : ℕ) (t : Tree) (trees : ℕ → Tree) → SameTrees last trees (updated (last + 1) t trees)
+with-below last t trees n within = let e : (n == last + 1) ≡ false = grind (arith, nat_tests) in rw e refl
+
+both-true : (a b : Bool) → a ≡ true → false ≡ (a && b) → b ≡ false
+both-true true b e f = sym f
+both-true false b e f = absurd (cc)
+
+first-of : (b : Bool) (key k : ℕ) → (if b then optional.Some key else optional.None) ≡ optional.Some k → k ≡ key
+first-of true key k e = cc
+first-of false key k e = absurd (cc)
+
+module _ {N E : Type 0} {v : Values N} {s s' : PagerState N E} {trees : ℕ → Tree} (lawful : IsLawful v) (settled : HoldsSettled v s) (well : WellFormed v s) (well' : WellFormed v s') (stands : Represents v s trees) where
+  abbrev last : ℕ
+  last = s.core.last.node
+
+  -- a value whose references were given leads to its tree where more nodes have trees
+  pub value-on : {trees' : ℕ → Tree} {x : N} {t : Tree} → SameTrees last trees trees' → ((r : ArcRef) → Among (v.references x) r → r.node.0 ≤ last) → ValueLeads v trees x t → ValueLeads v trees' x t
+  value-on {trees'} {x} {t} same few l = record { own = l.own; typed = l.typed; means = l.means; leads = leads-on l.leads (λ r among. same r.node.0 (few r (own-refs lawful x l.own l.means r among))) }
+
+  good-given : (owner : Owner) (x : N) → AreGood s.core owner (v.references x) → (r : ArcRef) → Among (v.references x) r → r.node.0 ≤ last
+  good-given owner x good r among = (given-of well.whole.handles r.node.0 (good r among).typed).1
+
+  -- a value came to a live node
+  live-after : (n : ℕ) (x : N) → s'.values n ≡ Some x → is_some (s'.core.cells n) ≡ true
+  live-after n x is = cell-of well'.whole.handles n (given-of well'.whole.handles n (well'.typed n x is)).0
+
+  came : (n : ℕ) (x : N) → s'.values n ≡ Some x → is_here s'.core n ≡ true
+  came n x is =
+      let there = live-after n x is in
+      let some : is_some (s'.values n) ≡ true = ap is_some is in
+      let both : (is_some (s'.core.cells n) && is_here s'.core n) ≡ true = sym (well'.valued n) ∙ some in
+      second (is_some (s'.core.cells n)) (is_here s'.core n) both
+    where
+      second : (a b : Bool) → (a && b) ≡ true → b ≡ true
+      second true b e = e
+      second false b e = absurd (cc)
+
+  -- where nothing is born and no value can come to an old node, none comes
+  pub none-comes : (n : ℕ) (x : N) → CoreGoes nothing_felt s.core s'.core → s.values n ≡ None → s'.values n ≡ Some x → IsNewNode s.core n ⊎ StaysAway s.core s'.core n → ⊥
+  none-comes n x goes none is (inl new) = (goes.new n new (live-after n x is)).born
+  none-comes n x goes none is (inr away) = elim (either-side n last) [
+    | inl within ↦
+        let was = (goes.old n within (live-after n x is)).was in
+        let gone : is_some (s.values n) ≡ false = ap is_some none in
+        let off = both-true (is_some (s.core.cells n)) (is_here s.core n) was (sym gone ∙ well.valued n) in
+        let off' = away off (live-after n x is) in
+        let on = came n x is in
+        absurd (cc)
+    | inr above ↦ (goes.new n above (live-after n x is)).born
+  ]
+
+  -- nothing is felt, and what comes to an old node fits
+  pub fits-nothing : (comes : ℕ → N → Type 0) → ((n : ℕ) (x : N) → comes n x → s.values n ≡ None → s'.values n ≡ Some x → ValueLeads v trees x (trees n)) → ChangeFits v nothing_felt comes s s' trees trees
+  fits-nothing comes fit = record { same = λ n within. refl; sets = λ n key is. absurd is; born = λ t own is. absurd is; keyed = λ t key is. absurd is; knows = λ kind key n is. absurd is; comes_well = fit }
+
+  pub fits-key : (comes : ℕ → N → Type 0) (m k : ℕ) → ((n : ℕ) (x : N) → comes n x → ⊥) → ReadsTree s'.core.stored v.types k (trees m) → ChangeFits v (sets_key m k) comes s s' trees trees
+  fits-key comes m k none reads =
+      record {
+        same = λ n within. refl;
+        sets = λ n key is. subst (λ q. ReadsTree s'.core.stored v.types q (trees n)) (sym is.1) (subst (λ z. ReadsTree s'.core.stored v.types k (trees z)) (sym is.0) reads);
+        born = λ t own is. absurd is;
+        keyed = λ t key is. absurd is;
+        knows = λ kind key n is. absurd is;
+        comes_well = λ n x is. absurd (none n x is);
+      }
+
+  pub fits-known : (comes : ℕ → N → Type 0) (k q m : ℕ) → ((n : ℕ) (x : N) → comes n x → ⊥) → ReadsNodeTree v.types s'.core.stored trees q (type_of k) m → ChangeFits v (knows_node k q m) comes s s' trees trees
+  fits-known comes k q m none reads =
+      record {
+        same = λ n within. refl;
+        sets = λ n key is. absurd is;
+        born = λ t own is. absurd is;
+        keyed = λ t key is. absurd is;
+        knows = λ kind key n is. known-at kind key n is.0 is.1 is.2;
+        comes_well = λ n x is. absurd (none n x is);
+      }
+    where
+      known-at : (kind key n : ℕ) → kind ≡ k → key ≡ q → n ≡ m → ReadsNodeTree v.types s'.core.stored trees key (type_of kind) n
+      known-at kind key n e1 e2 e3 = rw (e1, e2, e3) reads
+
+  module _ (t0 : Tree) where
+    abbrev more : ℕ → Tree
+    more = updated (last + 1) t0 trees
+
+    more-at : more (last + 1) ≡ t0
+    more-at = with-at (last + 1) t0 trees
+
+    -- a node is born of this type and key, of a tree as which the key reads if it has one
+    pub fits-born : (comes : ℕ → N → Type 0) (own : OptionalDataKey) → ((key : ℕ) → own ≡ optional.Some key → ReadsTree s'.core.stored v.types key t0)
+        → ((n : ℕ) (x : N) → comes n x → s.values n ≡ None → s'.values n ≡ Some x → ValueLeads v more x (more n)) → ChangeFits v (bears_node t0.type own) comes s s' trees more
+    fits-born comes own reads fit =
+        record {
+          same = with-below last t0 trees;
+          sets = λ n key is. absurd is;
+          born = λ t o is. ap (λ (z : Tree). z.type) more-at ∙ sym is.0;
+          keyed = λ t key is. subst (λ z. ReadsTree s'.core.stored v.types key z) (sym more-at) (reads key (sym is.1));
+          knows = λ kind key n is. absurd is;
+          comes_well = fit;
+        }
+
+    pub fits-born-known : (comes : ℕ → N → Type 0) (k q : ℕ) (own : OptionalDataKey) → t0.type ≡ type_of k → ((key : ℕ) → own ≡ optional.Some key → key ≡ q) → ReadsTree s'.core.stored v.types q t0
+        → ((n : ℕ) (x : N) → comes n x → s.values n ≡ None → s'.values n ≡ Some x → ValueLeads v more x (more n)) → ChangeFits v (bears_known k q own) comes s s' trees more
+    fits-born-known comes k q own typed same_key reads fit =
+        record {
+          same = with-below last t0 trees;
+          sets = λ n key is. absurd is;
+          born = λ t o is. ap (λ (z : Tree). z.type) more-at ∙ typed ∙ sym is.0;
+          keyed = λ t key is. keyed-at key (same_key key (sym is.1));
+          knows = λ kind key n is. known-at kind key n is.0 is.1 is.2;
+          comes_well = fit;
+        }
+      where
+        keyed-at : (key : ℕ) → key ≡ q → ReadsTree s'.core.stored v.types key (more (last + 1))
+        keyed-at key e = subst (λ z. ReadsTree s'.core.stored v.types key z) (sym more-at) (rw e reads)
+
+        known-at : (kind key n : ℕ) → kind ≡ k → key ≡ q → n ≡ last + 1 → ReadsNodeTree v.types s'.core.stored more key (type_of kind) n
+        known-at kind key n e1 e2 e3 =
+            let here : ReadsNodeTree v.types s'.core.stored more q (type_of k) (last + 1) = record { typed = ap (λ (z : Tree). z.type) more-at ∙ typed; reads = keyed-at q refl } in
+            rw (e1, e2, e3) here
+
+    -- the value of the node that is born leads to that tree
+    pub value-born : (c : Change) (n : ℕ) (x y : N) → CoreGoes c s.core s'.core → s'.values n ≡ Some x → x ≡ y → IsNewNode s.core n → ((r : ArcRef) → Among (v.references y) r → r.node.0 ≤ last) → ValueLeads v trees y t0 → ValueLeads v more x (more n)
+    value-born c n x y goes is same new few l =
+        let next : n ≡ last + 1 = (goes.new n new (live-after n x is)).next in
+        let led_to : ValueLeads v more y t0 = value-on (with-below last t0 trees) few l in
+        subst (λ z. ValueLeads v more z (more n)) (sym same) (subst (λ z. ValueLeads v more y z) (sym (ap more next ∙ more-at)) led_to)
+
+  -- ---- calls
+
+  -- the trees after a call, which fit what it brings
+  pub record Fits (c : Change) (comes : ℕ → N → Type 0) : Type 0 where
+    pub after : ℕ → Tree
+    pub fits : ChangeFits v c comes s s' trees after
+
+  birth-tree : (x : N) (owner : Owner) → AreGood s.core owner (v.references x) → (t : Tree) × (t.type ≡ v.node_type x) × ValueLeads v trees x t
+  birth-tree x owner good =
+      let some = lawful.some x in
+      let l = led {trees = trees} some.0 (λ r among. typed-as r (own-refs lawful x some.0 some.1 r among)) in
+      (tree (v.node_type x) l.0, refl, record { own = some.0; typed = refl; means = some.1; leads = l.1 })
+    where
+      typed-as : (r : ArcRef) → Among (v.references x) r → (trees r.node.0).type ≡ type_of r.kind.0
+      typed-as r among =
+          let is = (good r among).typed in
+          let live = given-of well.whole.handles r.node.0 is in
+          same_some _ _ (sym (stands.typed r.node.0 live.0) ∙ is)
+
+  nothing-brought : {B : Type 0} (call other : Call N B) (n : ℕ) (x : N) → call ≡ other → (CallBrings s.core other n x → ⊥) → CallBrings s.core call n x → ⊥
+  nothing-brought call other n x same none is = none (subst (λ z. CallBrings s.core z n x) same is)
+
+  pub call-fits : {B : Type 0} (c : Change) (call : Call N B) (reply : Reply N B) → CoreGoes c s.core s'.core → AsksWell v s trees call reply → CallFeels v s.core owners.Caller call reply s'.core c → Fits c (CallBrings s.core call)
+  call-fits {B} c call reply goes well_asked (feels-nothing stays) = record { after = trees; fits = fits-nothing _ (λ n x brings none is. absurd (none-comes n x goes none is (stays n x brings))) }
+  call-fits {B} c call reply goes well_asked (feels-birth x brought good) =
+      let born = birth-tree x owners.Caller good in
+      record {
+        after = updated (last + 1) born.0 trees;
+        fits =
+            subst (λ t. ChangeFits v (bears_node t optional.None) (CallBrings s.core call) s s' trees (updated (last + 1) born.0 trees)) born.1 (fits-born born.0 _ optional.None (λ key is. absurd (cc))
+            (λ n y brings none is. value-born born.0 _ n y x goes is (brought n y brings).0 (brought n y brings).1 (good-given owners.Caller x good) born.2));
+      }
+  call-fits {B} c call reply goes well_asked (feels-away t key k called replied) =
+      let P : Call N B → Reply N B → Type 0 = λ a b. AsksWell v s trees a b in
+      let asked : ReadsAsType v s t key = subst (λ b. P (calls.NewPagedOut t key) b) replied (subst (λ a. P a reply) called well_asked) in
+      record {
+        after = updated (last + 1) asked.read trees;
+        fits =
+            subst (λ z. ChangeFits v (bears_node z (optional.Some key)) (CallBrings s.core call) s s' trees (updated (last + 1) asked.read trees)) asked.typed (fits-born asked.read _ (optional.Some key)
+            (λ q is. let e : key ≡ q = cc in subst (λ z. ReadsTree s'.core.stored v.types z asked.read) e (tree-stays goes.stored asked.reads))
+            (λ n y brings none is. absurd (nothing-brought call (calls.NewPagedOut t key) n y called (λ b. b) brings)));
+      }
+  call-fits {B} c call reply goes well_asked (feels-key h key row called owns) =
+      let asked : (z : HandleRow) → Owns s.core owners.Caller h is_loose z → ReadsTree s.core.stored v.types key (trees z.node.0) = subst (λ a. AsksWell v s trees a reply) called well_asked in
+      record { after = trees; fits = fits-key _ row.node.0 key (λ n y brings. nothing-brought call (calls.SetDataKey h key) n y called (λ b. b) brings) (tree-stays goes.stored (asked row owns)) }
+  call-fits {B} c call reply goes well_asked (feels-known kind key h row called replied owns typed) =
+      let P : Call N B → Reply N B → Type 0 = λ a b. AsksWell v s trees a b in
+      let asked : (z : HandleRow) → Owns s.core owners.Caller h any_mode z → ReadsTree s.core.stored v.types key (trees z.node.0) = subst (λ b. P (calls.OnArcDeserialized kind key h) b) replied (subst (λ a. P a reply) called well_asked) in
+      let live = given-of well.whole.handles row.node.0 typed in
+      let is_typed : (trees row.node.0).type ≡ type_of kind.0 = same_some _ _ (sym (stands.typed row.node.0 live.0) ∙ typed) in
+      record { after = trees; fits = fits-known _ kind.0 key row.node.0 (λ n y brings. nothing-brought call (calls.OnArcDeserialized kind key h) n y called (λ b. b) brings) (record { typed = is_typed; reads = tree-stays goes.stored (asked row owns) }) }
+  call-fits {B} c call reply goes well_asked (feels-adopted l kind key x k called replied typed good) =
+      let P : Call N B → Reply N B → Type 0 = λ a b. AsksWell v s trees a b in
+      let asked : ReadsAsValue v s x key = subst (λ b. P (calls.LoadAdopt l kind key x) b) replied (subst (λ a. P a reply) called well_asked) in
+      let leads = value-leads lawful settled well stands x asked.stands.own asked.read (owners.Load l) asked.stands.typed asked.stands.means asked.stands.stands good in
+      record {
+        after = updated (last + 1) asked.read trees;
+        fits =
+            fits-born-known asked.read _ kind.0 key (first_key kind.0 key) (sym asked.stands.typed ∙ typed) (λ q is. first-of (is_pinned_kind kind.0) key q is) (tree-stays goes.stored asked.reads)
+            (λ n y brings none is. let b : (y ≡ x) × IsNewNode s.core n = subst (λ a. CallBrings s.core a n y) called brings in value-born asked.read _ n y x goes is b.0 b.1 (good-given (owners.Load l) x good) leads);
+      }
+  call-fits {B} c call reply goes well_asked (feels-lazy l kind key k called replied) =
+      let P : Call N B → Reply N B → Type 0 = λ a b. AsksWell v s trees a b in
+      let asked : ReadsAsType v s (type_of kind.0) key = subst (λ b. P (calls.LoadLazy l kind key) b) replied (subst (λ a. P a reply) called well_asked) in
+      record {
+        after = updated (last + 1) asked.read trees;
+        fits =
+            fits-born-known asked.read _ kind.0 key (optional.Some key) asked.typed (λ q is. cc) (tree-stays goes.stored asked.reads)
+            (λ n y brings none is. absurd (nothing-brought call (calls.LoadLazy l kind key) n y called (λ b. b) brings));
+      }
+  call-fits {B} c call reply goes well_asked (feels-end l x k called replied good) =
+      let P : Call N B → Reply N B → Type 0 = λ a b. AsksWell v s trees a b in
+      let asked : (n : ℕ) → IsCellOf s.core l n → ValueStands v s x (trees n) = subst (λ b. P (calls.LoadEnd l x) b) replied (subst (λ a. P a reply) called well_asked) in
+      record {
+        after = trees;
+        fits = fits-nothing _ (λ n y brings none is.
+            let b : (y ≡ x) × IsCellOf s.core l n = subst (λ a. CallBrings s.core a n y) called brings in
+            let meant = asked n b.1 in
+            let leads = value-leads lawful settled well stands x meant.own (trees n) (owners.Load l) meant.typed meant.means meant.stands good in
+            subst (λ z. ValueLeads v trees z (trees n)) (sym b.0) leads);
+      }
+
+pub calls_fit : {N B W E : Type 0} (m : Seen N B W) → CallsFit E m
+calls_fit m lawful c call reply s s' trees settled well well' stands goes asked feels = let f = call-fits lawful settled well well' stands c call reply goes asked feels in (f.after, f.fits)

@@ -1,0 +1,170 @@
+-- What a load reads goes on fitting, whatever it gets.
+use Rattle.std.proofs.Common.{◌≡◌, ℕ, zero, suc, ◌+◌, ◌<◌, ◌≤◌, Bool, true, false, List, [], ◌∷◌, ◌++◌, Option, Some, if◌then◌else◌, ◌⊎◌, inl, inr, refl, sym, ap, ◌∙◌, subst, arith}
+use Rattle.std.specs.Prelude.{slice_get, length}
+use Rattle.pagable_model.specs.Meaning.{number, integer, text, pattern, none, pair, variant, reference, followed}
+use Rattle.pagable_model.specs.Trees.{KeyRef, ReadsAs, IsFollowed, number-followed, integer-followed, text-followed, pattern-followed, none-followed, pair-followed, variant-followed, reference-followed}
+use Rattle.pagable_world.specs.declared.handles.HandleRow.{HandleRow}
+use Rattle.pagable_world.specs.Plain.{ArcRef, Kind, Blob, Types, Tree, type_of, ReadsTree, Meaning, Among, is_eager}
+use Rattle.pagable_world.specs.World.{Frame}
+use Rattle.pagable_world.specs.Loads.{Next, reads, asks, is_faulty, next_in, need_at, need_of, needs_nested, needs_lazy, root_frame, nested_frame, with_got}
+use Rattle.pagable_world.specs.Pager.{ReadsNodeTree, FrameFits, FramesFit, SameTrees}
+use Rattle.pagable_laws.specs.ReadLaws.{Needs, KeepsStored, FramesGiven, AllGoOn}
+use Rattle.pagable_laws.proofs.Decoding.{asks_next}
+
+-- ---- what is asked
+
+asked-by : (below : List Frame) (t : Bool) (k : Kind) (q : ℕ) (kind : Kind) (key : ℕ) → ((if t then needs_nested k q else needs_lazy k q) ≡ needs_nested kind key) ⊎ ((if t then needs_nested k q else needs_lazy k q) ≡ needs_lazy kind key) → asks k q ≡ asks kind key
+asked-by below true k q kind key (inl is) = let a : k ≡ kind = cc in let b : q ≡ key = cc in rw (a, b) refl
+asked-by below true k q kind key (inr is) = absurd (cc)
+asked-by below false k q kind key (inl is) = absurd (cc)
+asked-by below false k q kind key (inr is) = let a : k ≡ kind = cc in let b : q ≡ key = cc in rw (a, b) refl
+
+asked : (below : List Frame) (next : Next) (kind : Kind) (key : ℕ) → (need_at below next ≡ needs_nested kind key) ⊎ (need_at below next ≡ needs_lazy kind key) → next ≡ asks kind key
+asked below (asks k q) kind key is = asked-by below (is_eager k.0) k q kind key is
+asked [] (reads own) kind key (inl is) = absurd (cc)
+asked [] (reads own) kind key (inr is) = absurd (cc)
+asked (frame ∷ below) (reads own) kind key (inl is) = absurd (cc)
+asked (frame ∷ below) (reads own) kind key (inr is) = absurd (cc)
+asked below (is_faulty e) kind key (inl is) = absurd (cc)
+asked below (is_faulty e) kind key (inr is) = absurd (cc)
+
+-- ---- one frame
+
+pushed : {X : Type 0} (xs : List X) (y : X) (i : ℕ) (x : X) → slice_get (xs ++ y ∷ []) i ≡ Some x → (slice_get xs i ≡ Some x) ⊎ ((i ≡ length xs) × (y ≡ x))
+pushed [] y zero x is = inr (refl, cc)
+pushed [] y (suc i) x is = absurd (cc)
+pushed (z ∷ xs) y zero x is = inl is
+pushed (z ∷ xs) y (suc i) x is = elim (pushed xs y i x is) [ inl old ↦ inl old | inr new ↦ inr (let n = new.0 in omega (arith, n), new.1) ]
+
+longer : {X : Type 0} (xs : List X) (y : X) → length (xs ++ y ∷ []) ≡ length xs + 1
+longer [] y = omega arith
+longer (x ∷ xs) y = let a = longer xs y in omega (arith, a)
+
+inside : {X : Type 0} (xs : List X) (i : ℕ) (x : X) → slice_get xs i ≡ Some x → i < length xs
+inside [] i x is = absurd (cc)
+inside (y ∷ xs) zero x is = omega arith
+inside (y ∷ xs) (suc i) x is = let a = inside xs i x is in omega (arith, a)
+
+module _ {stored stored' : ℕ → Option Blob} {types : Types} (kept : KeepsStored stored stored') where
+  read-stays : {t key : ℕ} {m : Meaning KeyRef} → ReadsAs stored types t key m → ReadsAs stored' types t key m
+  read-stays {t} {key} h = record { blob = h.blob; stored = kept key h.blob h.stored; rest = h.rest; reads = h.reads }
+
+  follows-stays : {m : Meaning KeyRef} {a : Meaning ⊥} → IsFollowed (ReadsAs stored types) m a → IsFollowed (ReadsAs stored' types) m a
+  follows-stays (number-followed n) = number-followed n
+  follows-stays (integer-followed z) = integer-followed z
+  follows-stays (text-followed t) = text-followed t
+  follows-stays (pattern-followed t) = pattern-followed t
+  follows-stays none-followed = none-followed
+  follows-stays (pair-followed x y a b f g) = pair-followed x y a b (follows-stays f) (follows-stays g)
+  follows-stays (variant-followed n x a f) = variant-followed n x a (follows-stays f)
+  follows-stays (reference-followed r x a o f) = reference-followed r x a (read-stays o) (follows-stays f)
+
+  -- what a key reads as stays
+  pub tree-stays : {key : ℕ} {t : Tree} → ReadsTree stored types key t → ReadsTree stored' types key t
+  tree-stays h = record { own = h.own; reads = read-stays h.reads; follows = follows-stays h.follows }
+
+  pub node-stays : {trees trees' : ℕ → Tree} {key t n : ℕ} → trees' n ≡ trees n → ReadsNodeTree types stored trees key t n → ReadsNodeTree types stored' trees' key t n
+  node-stays {key = key} same h = record { typed = ap (λ (z : Tree). z.type) same ∙ h.typed; reads = subst (λ (z : Tree). ReadsTree stored' types key z) (sym same) (tree-stays h.reads) }
+
+  frame-stays : {trees trees' : ℕ → Tree} {frame : Frame} (last : ℕ) → SameTrees last trees trees' → ((r : ArcRef) → Among frame.got r → r.node.0 ≤ last) → FrameFits types stored trees frame → FrameFits types stored' trees' frame
+  frame-stays {frame = frame} last same given h =
+      record { is = kept frame.key frame.blob h.is; few = h.few; got = λ place key r is at. node-stays (same r.node.0 (given r (place, is))) (h.got place key r is at) }
+
+module _ {types : Types} {stored : ℕ → Option Blob} {trees : ℕ → Tree} where
+  new-fits : (frame : Frame) → frame.got ≡ [] → stored frame.key ≡ Some frame.blob → FrameFits types stored trees frame
+  new-fits frame none_got is =
+      record {
+        is = is;
+        few = let e : length frame.got ≡ 0 = rw none_got refl in omega (arith, e);
+        got = λ place key r there at. let e : slice_get frame.got place ≡ slice_get [] place = ap (λ (rs : List ArcRef). slice_get rs place) none_got in absurd (cc);
+      }
+
+  got-fits : (frame : Frame) (q : ArcRef) (key : ℕ) → slice_get frame.blob.keys (length frame.got) ≡ Some key → ReadsNodeTree types stored trees key (type_of q.kind.0) q.node.0 → FrameFits types stored trees frame
+      → FrameFits types stored trees (record frame { got = frame.got ++ q ∷ [] })
+  got-fits frame q key next read h =
+      record {
+        is = h.is;
+        few = let a = longer frame.got q in let b = inside frame.blob.keys (length frame.got) key next in omega (arith, a, b);
+        got = λ place k r is at. at-place place k r at (pushed frame.got q place r is);
+      }
+    where
+      at-place : (place k : ℕ) (r : ArcRef) → slice_get frame.blob.keys place ≡ Some k → (slice_get frame.got place ≡ Some r) ⊎ ((place ≡ length frame.got) × (q ≡ r)) → ReadsNodeTree types stored trees k (type_of r.kind.0) r.node.0
+      at-place place k r at (inl old) = h.got place k r old at
+      at-place place k r at (inr new) =
+          let there = subst (λ i. slice_get frame.blob.keys i ≡ Some k) new.0 at in
+          let same : key ≡ k = cc in
+          subst (λ (z : ArcRef). ReadsNodeTree types stored trees k (type_of z.kind.0) z.node.0) new.1 (subst (λ i. ReadsNodeTree types stored trees i (type_of q.kind.0) q.node.0) same read)
+
+-- ---- all frames
+
+module _ (types : Types) (root_key root_type : ℕ) where
+  frames-stay : (stored stored' : ℕ → Option Blob) (trees trees' : ℕ → Tree) (last : ℕ) (frames : List Frame) → KeepsStored stored stored' → SameTrees last trees trees' → FramesGiven last frames
+      → FramesFit types stored trees root_key root_type frames → FramesFit types stored' trees' root_key root_type frames
+  unfolding FramesFit
+  frames-stay stored stored' trees trees' last [] kept same given h = tt
+  frames-stay stored stored' trees trees' last (frame ∷ []) kept same given (fits, key, typed) = (frame-stays kept last same (λ r among. given frame r (zero, refl) among) fits, key, typed)
+  frames-stay stored stored' trees trees' last (frame ∷ next ∷ rest) kept same given (fits, typed, next_is, more) =
+      let below = frames-stay stored stored' trees trees' last (next ∷ rest) kept same (λ f r among got. given f r (suc among.0, among.1) got) more in
+      (frame-stays kept last same (λ r among. given frame r (zero, refl) among) fits, typed, next_is, below)
+
+  module _ (stored : ℕ → Option Blob) (trees : ℕ → Tree) where
+    root-fits : (blob : Blob) → stored root_key ≡ Some blob → FramesFit types stored trees root_key root_type (root_frame root_key root_type blob ∷ [])
+    unfolding FramesFit
+    root-fits blob is = (new-fits (root_frame root_key root_type blob) refl is, refl, refl)
+
+    nested-fits : (frames : List Frame) (kind : Kind) (key : ℕ) (blob : Blob) → FramesFit types stored trees root_key root_type frames → need_of types frames ≡ needs_nested kind key → stored key ≡ Some blob
+        → FramesFit types stored trees root_key root_type (nested_frame kind key blob ∷ frames)
+    unfolding FramesFit
+    nested-fits [] kind key blob h needs is = absurd (cc)
+    nested-fits (top ∷ below) kind key blob h needs is = (new-fits (nested_frame kind key blob) refl is, refl, asked below (next_in types top) kind key (inl needs), h)
+
+    grown-fits : (frame : Frame) (below : List Frame) (kind : Kind) (key : ℕ) (row : HandleRow) → FramesFit types stored trees root_key root_type (frame ∷ below) → next_in types frame ≡ asks kind key
+        → ReadsNodeTree types stored trees key (type_of kind.0) row.node.0 → FramesFit types stored trees root_key root_type (with_got kind row (frame ∷ below))
+    unfolding FramesFit
+    grown-fits frame [] kind key row (fits, key_is, typed) next read = (got-fits frame _ key (asks_next types frame kind key next) read fits, key_is, typed)
+    grown-fits frame (under ∷ rest) kind key row (fits, typed, next_is, more) next read = (got-fits frame _ key (asks_next types frame kind key next) read fits, typed, next_is, more)
+
+    needed-fits : (frames : List Frame) (kind : Kind) (key : ℕ) (row : HandleRow) → FramesFit types stored trees root_key root_type frames → Needs types frames kind key → ReadsNodeTree types stored trees key (type_of kind.0) row.node.0
+        → FramesFit types stored trees root_key root_type (with_got kind row frames)
+    unfolding FramesFit
+    needed-fits [] kind key row h needs read = tt
+    needed-fits (top ∷ below) kind key row h needs read = grown-fits top below kind key row h (asked below (next_in types top) kind key needs) read
+
+    made-fits : (top : Frame) (below : List Frame) (row : HandleRow) → FramesFit types stored trees root_key root_type (top ∷ below) → ReadsNodeTree types stored trees top.key (type_of top.kind.0) row.node.0
+        → FramesFit types stored trees root_key root_type (with_got top.kind row below)
+    unfolding FramesFit
+    made-fits top [] row h read = tt
+    made-fits top (frame ∷ below) row (fits, typed, next_is, more) read = grown-fits frame below top.kind top.key row more next_is read
+
+    first-fits : (top : Frame) (below : List Frame) → FramesFit types stored trees root_key root_type (top ∷ below) → FrameFits types stored trees top
+    unfolding FramesFit
+    first-fits top [] h = h.0
+    first-fits top (frame ∷ below) h = h.0
+
+    first-typed : (top frame : Frame) (below : List Frame) → FramesFit types stored trees root_key root_type (top ∷ frame ∷ below) → top.node_type ≡ type_of top.kind.0
+    unfolding FramesFit
+    first-typed top frame below h = h.1
+
+got-given : (last last' : ℕ) (frames : List Frame) (kind : Kind) (row : HandleRow) → FramesGiven last frames → last ≤ last' → row.node.0 ≤ last' → FramesGiven last' (with_got kind row frames)
+got-given last last' [] kind row given le node frame r (i, is) among = absurd (cc)
+got-given last last' (top ∷ below) kind row given le node frame r (zero, is) (place, there) =
+    let got_is : frame.got ≡ top.got ++ record { kind = kind; node = row.node; handle = row.number } ∷ [] = cc in
+    of (pushed top.got _ place r (subst (λ (rs : List ArcRef). slice_get rs place ≡ Some r) got_is there))
+  where
+    of : (slice_get top.got place ≡ Some r) ⊎ ((place ≡ length top.got) × (record { kind = kind; node = row.node; handle = row.number } ≡ r)) → r.node.0 ≤ last'
+    of (inl old) = let a = given top r (zero, refl) (place, old) in omega (arith, a, le)
+    of (inr new) = subst (λ (z : ArcRef). z.node.0 ≤ last') new.1 node
+got-given last last' (top ∷ below) kind row given le node frame r (suc i, is) among = let a = given frame r (suc i, is) among in omega (arith, a, le)
+
+pub frames_go_on : AllGoOn
+frames_go_on types root_key root_type =
+    record {
+      stays = frames-stay types root_key root_type;
+      root = root-fits types root_key root_type;
+      nested = nested-fits types root_key root_type;
+      got = needed-fits types root_key root_type;
+      made = made-fits types root_key root_type;
+      fits = first-fits types root_key root_type;
+      typed = first-typed types root_key root_type;
+      given = got-given;
+    }

@@ -1,0 +1,5 @@
+use Rattle.pagable_laws.proofs.Going.{trees_go_on}
+use Rattle.pagable_laws.proofs.runs.trees_go_on.Goals as goal
+
+pub returns : goal.returns
+returns g c = trees_go_on g.N.SeenAs.seen
