@@ -1,24 +1,23 @@
 -- A value that was read of a blob leads to what the blob's key reads as: reading the blob with the references that were got runs along the reading of
 -- its bare keys, and each of these reads as the tree of the node that was got for it.
-use Rattle.std.proofs.Common.{◌≡◌, ℕ, zero, suc, ◌+◌, ◌<◌, ◌≤◌, ◌==◌, ◌&&◌, Bool, true, false, List, [], ◌∷◌, ◌++◌, Option, Some, None, Result, Ok, Err, if◌then◌else◌, ◌⊎◌, inl, inr, refl, sym, ap, ◌∙◌, subst, arith, sum_by}
-use Rattle.std.specs.Prelude.{slice_get, length}
+use Rattle.std.proofs.Common.{◌≡◌, ℕ, zero, suc, ◌+◌, ◌≤◌, ◌==◌, ◌&&◌, Bool, true, false, List, [], ◌∷◌, ◌++◌, Option, Some, None, Result, Ok, Err, if◌then◌else◌, ◌⊎◌, inl, inr, refl, sym, ap, ◌∙◌, subst, arith, sum_by}
+use Rattle.std.specs.Prelude.{slice_get}
 use Rattle.std.proofs.lemmas.Bool.{and_parts}
 use Rattle.std.proofs.lemmas.Bool.Decides.{nat_tests}
 use Rattle.pagable_model.specs.declared.error.Error.TheVariants as errors
 use Rattle.pagable_model.specs.Meaning.{number, integer, text, pattern, none, pair, variant, reference, followed}
 use Rattle.pagable_model.specs.References.{references_in, SameReferences}
-use Rattle.pagable_model.specs.Reading.{Rest, read, read_typed}
+use Rattle.pagable_model.specs.Reading.{Rest, read_typed}
 use Rattle.pagable_model.specs.Standing.{Answer, answer_at, handles_at}
 use Rattle.pagable_model.specs.Trees.{KeyRef, key_ref, ReadsAs, blob_context, rest_of, IsFollowed, number-followed, integer-followed, text-followed, pattern-followed, none-followed, pair-followed, variant-followed, reference-followed}
-use Rattle.pagable_model.specs.Canonical.{IsReadableType}
-use Rattle.pagable_world.specs.Plain.{Error, ArcRef, Kind, Blob, Shape, Types, Tree, tree, type_of, ReadsTree, Meaning, Among, one}
+use Rattle.pagable_world.specs.Plain.{Error, ArcRef, Kind, Blob, Shape, Types, Tree, tree, type_of, Meaning, Among, one}
 use Rattle.pagable_world.specs.World.{Frame, Values, IsLawful}
-use Rattle.pagable_world.specs.Loads.{answer_of, answers_from, read_with, Next, reads, asks, next_by, next_in, IsDecoded}
+use Rattle.pagable_world.specs.Loads.{answer_of, answers_from, reads, asks, next_by, IsDecoded}
 use Rattle.pagable_world.specs.Pager.{PagerState, NodeStands, MeaningStands, number-stands, integer-stands, text-stands, pattern-stands, none-stands, pair-stands, variant-stands, followed-stands, reference-stands, ReadsNodeTree, FrameFits}
 use Rattle.pagable_world.specs.Runs.{ReadsItsTypes}
 use Rattle.pagable_laws.specs.ReadLaws.{LeadsTo, number-leads, integer-leads, text-leads, pattern-leads, none-leads, pair-leads, variant-leads, followed-leads, reference-leads, Decoded, AsksNext, DecodesWell, ReadStands}
 use Rattle.pagable_laws.proofs.Along.{Along, number-along, integer-along, text-along, pattern-along, none-along, pair-along, variant-along, reference-along, followed-along, AllTwo, no-two, more-two}
-use Rattle.pagable_laws.proofs.Related.{SameRest, Out, both-given, both-refused, first-refused, OutLook, both-looked-up, first-not, read_par}
+use Rattle.pagable_laws.proofs.Related.{Out, both-given, both-refused, first-refused, OutLook, both-looked-up, first-not, read_par}
 use Rattle.pagable_laws.proofs.Trees.{tree_is, one_tree}
 use Rattle.pagable_laws.proofs.Sums.{one-true, self-number, at-most-sum, counted}
 
@@ -76,11 +75,13 @@ module _ {types : Types} {stored : ℕ → Option Blob} {trees : ℕ → Tree} {
   answer-by true r kind key is among tree_read = both-looked-up r (key_ref kind key) (record { kind = sym (same-number _ _ is); among = among; tree_read = tree_read })
   answer-by false r kind key is among tree_read = first-not errors.WrongKind _ tt
 
-  answer-of : (o : Option ArcRef) (key : ℕ) → ((r : ArcRef) → o ≡ Some r → Among got r × ReadsNodeTree types stored trees key (type_of r.kind.0) r.node.0) → AnswersFor types stored trees got (answer_of o) key
+  answer-of : (o : Option ArcRef) (key : ℕ) → ((r : ArcRef) → o ≡ Some r → Among got r × ReadsNodeTree types stored trees key (type_of r.kind.0) r.node.0)
+      → AnswersFor types stored trees got (answer_of o) key
   answer-of None key h kind = first-not (errors.Storage kind) _ tt
   answer-of (Some r) key h kind = let p = h r refl in answer-by (r.kind.0 == kind) r kind key refl p.0 p.1
 
-  answers : (place : ℕ) (keys : List ℕ) → ((i key : ℕ) (r : ArcRef) → slice_get got (place + i) ≡ Some r → slice_get keys i ≡ Some key → ReadsNodeTree types stored trees key (type_of r.kind.0) r.node.0)
+  answers : (place : ℕ) (keys : List ℕ)
+      → ((i key : ℕ) (r : ArcRef) → slice_get got (place + i) ≡ Some r → slice_get keys i ≡ Some key → ReadsNodeTree types stored trees key (type_of r.kind.0) r.node.0)
       → AllTwo (AnswersFor types stored trees got) (answers_from got place keys) keys
   unfolding answers_from
   answers place [] h = no-two
@@ -91,7 +92,8 @@ module _ {types : Types} {stored : ℕ → Option Blob} {trees : ℕ → Tree} {
 
   -- the two readings of the blob
   both-read : {own : Meaning ArcRef} {after : Rest Answer} {first : Result (Meaning ArcRef × Rest Answer) Error} {second : Result (Meaning KeyRef × Rest ℕ) Error}
-      → Out any_cause (AnswersFor types stored trees got) (Along ⊥ (Found types stored trees got)) first second → first ≡ Ok (own, after) → (m : Meaning KeyRef) × (rest : Rest ℕ) × (second ≡ Ok (m, rest)) × Along ⊥ (Found types stored trees got) own m
+      → Out any_cause (AnswersFor types stored trees got) (Along ⊥ (Found types stored trees got)) first second → first ≡ Ok (own, after)
+      → (m : Meaning KeyRef) × (rest : Rest ℕ) × (second ≡ Ok (m, rest)) × Along ⊥ (Found types stored trees got) own m
   both-read {own} {after} (both-given p q v s) e =
       let same : p ≡ (own, after) = cc in
       (q.0, q.1, refl, subst (λ (z : Meaning ArcRef × Rest Answer). Along ⊥ (Found types stored trees got) z.0 q.0) same v)
@@ -163,7 +165,8 @@ meant-refs rs ss same r among =
 -- ---- the value
 
 module _ {N : Type 0} {v : Values N} (lawful : IsLawful v) (readable : ReadsItsTypes v.types) {stored : ℕ → Option Blob} {trees : ℕ → Tree} where
-  typed-along : (frame : Frame) (o : Option Shape) (blob : Blob) (got : List ArcRef) → v.types.nodes frame.node_type ≡ o → AllTwo (AnswersFor v.types stored trees got) (answers_from got 0 blob.keys) blob.keys
+  typed-along : (frame : Frame) (o : Option Shape) (blob : Blob) (got : List ArcRef) → v.types.nodes frame.node_type ≡ o
+      → AllTwo (AnswersFor v.types stored trees got) (answers_from got 0 blob.keys) blob.keys
       → Out any_cause (AnswersFor v.types stored trees got) (Along ⊥ (Found v.types stored trees got)) (read_typed (handles_at 0 v.types.parts) o (record { bytes = blob.bytes; refs = answers_from got 0 blob.keys })) (read_typed (blob_context v.types) o (rest_of blob))
   typed-along frame None blob got is all = both-refused errors.WrongKind
   typed-along frame (Some s) blob got is all =

@@ -23,7 +23,7 @@ use Rattle.pagable_laws.proofs.Trees.{same_some}
 use Rattle.pagable_laws.proofs.Following.{given-of, cell-of}
 use Rattle.pagable_laws.proofs.Fitting.{tree-stays}
 use Rattle.pagable_laws.proofs.Leading.{leads-on, led, own-refs, value-leads}
-use Rattle.pagable_laws.proofs.Going.{either-side}
+use Rattle.pagable_laws.proofs.TreesGoing.{either-side}
 
 -- ---- trees with one more
 

@@ -1,7 +1,6 @@
 -- What a load reads goes on fitting, whatever it gets.
 use Rattle.std.proofs.Common.{◌≡◌, ℕ, zero, suc, ◌+◌, ◌<◌, ◌≤◌, Bool, true, false, List, [], ◌∷◌, ◌++◌, Option, Some, if◌then◌else◌, ◌⊎◌, inl, inr, refl, sym, ap, ◌∙◌, subst, arith}
 use Rattle.std.specs.Prelude.{slice_get, length}
-use Rattle.pagable_model.specs.Meaning.{number, integer, text, pattern, none, pair, variant, reference, followed}
 use Rattle.pagable_model.specs.Trees.{KeyRef, ReadsAs, IsFollowed, number-followed, integer-followed, text-followed, pattern-followed, none-followed, pair-followed, variant-followed, reference-followed}
 use Rattle.pagable_world.specs.declared.handles.HandleRow.{HandleRow}
 use Rattle.pagable_world.specs.Plain.{ArcRef, Kind, Blob, Types, Tree, type_of, ReadsTree, Meaning, Among, is_eager}
@@ -13,7 +12,8 @@ use Rattle.pagable_laws.proofs.Decoding.{asks_next}
 
 -- ---- what is asked
 
-asked-by : (below : List Frame) (t : Bool) (k : Kind) (q : ℕ) (kind : Kind) (key : ℕ) → ((if t then needs_nested k q else needs_lazy k q) ≡ needs_nested kind key) ⊎ ((if t then needs_nested k q else needs_lazy k q) ≡ needs_lazy kind key) → asks k q ≡ asks kind key
+asked-by : (below : List Frame) (t : Bool) (k : Kind) (q : ℕ) (kind : Kind) (key : ℕ)
+    → ((if t then needs_nested k q else needs_lazy k q) ≡ needs_nested kind key) ⊎ ((if t then needs_nested k q else needs_lazy k q) ≡ needs_lazy kind key) → asks k q ≡ asks kind key
 asked-by below true k q kind key (inl is) = let a : k ≡ kind = cc in let b : q ≡ key = cc in rw (a, b) refl
 asked-by below true k q kind key (inr is) = absurd (cc)
 asked-by below false k q kind key (inl is) = absurd (cc)
@@ -66,7 +66,8 @@ module _ {stored stored' : ℕ → Option Blob} {types : Types} (kept : KeepsSto
   pub node-stays : {trees trees' : ℕ → Tree} {key t n : ℕ} → trees' n ≡ trees n → ReadsNodeTree types stored trees key t n → ReadsNodeTree types stored' trees' key t n
   node-stays {key = key} same h = record { typed = ap (λ (z : Tree). z.type) same ∙ h.typed; reads = subst (λ (z : Tree). ReadsTree stored' types key z) (sym same) (tree-stays h.reads) }
 
-  frame-stays : {trees trees' : ℕ → Tree} {frame : Frame} (last : ℕ) → SameTrees last trees trees' → ((r : ArcRef) → Among frame.got r → r.node.0 ≤ last) → FrameFits types stored trees frame → FrameFits types stored' trees' frame
+  frame-stays : {trees trees' : ℕ → Tree} {frame : Frame} (last : ℕ) → SameTrees last trees trees' → ((r : ArcRef) → Among frame.got r → r.node.0 ≤ last)
+      → FrameFits types stored trees frame → FrameFits types stored' trees' frame
   frame-stays {frame = frame} last same given h =
       record { is = kept frame.key frame.blob h.is; few = h.few; got = λ place key r is at. node-stays (same r.node.0 (given r (place, is))) (h.got place key r is at) }
 
@@ -79,7 +80,8 @@ module _ {types : Types} {stored : ℕ → Option Blob} {trees : ℕ → Tree} w
         got = λ place key r there at. let e : slice_get frame.got place ≡ slice_get [] place = ap (λ (rs : List ArcRef). slice_get rs place) none_got in absurd (cc);
       }
 
-  got-fits : (frame : Frame) (q : ArcRef) (key : ℕ) → slice_get frame.blob.keys (length frame.got) ≡ Some key → ReadsNodeTree types stored trees key (type_of q.kind.0) q.node.0 → FrameFits types stored trees frame
+  got-fits : (frame : Frame) (q : ArcRef) (key : ℕ) → slice_get frame.blob.keys (length frame.got) ≡ Some key → ReadsNodeTree types stored trees key (type_of q.kind.0) q.node.0
+      → FrameFits types stored trees frame
       → FrameFits types stored trees (record frame { got = frame.got ++ q ∷ [] })
   got-fits frame q key next read h =
       record {
@@ -88,7 +90,8 @@ module _ {types : Types} {stored : ℕ → Option Blob} {trees : ℕ → Tree} w
         got = λ place k r is at. at-place place k r at (pushed frame.got q place r is);
       }
     where
-      at-place : (place k : ℕ) (r : ArcRef) → slice_get frame.blob.keys place ≡ Some k → (slice_get frame.got place ≡ Some r) ⊎ ((place ≡ length frame.got) × (q ≡ r)) → ReadsNodeTree types stored trees k (type_of r.kind.0) r.node.0
+      at-place : (place k : ℕ) (r : ArcRef) → slice_get frame.blob.keys place ≡ Some k → (slice_get frame.got place ≡ Some r) ⊎ ((place ≡ length frame.got) × (q ≡ r))
+          → ReadsNodeTree types stored trees k (type_of r.kind.0) r.node.0
       at-place place k r at (inl old) = h.got place k r old at
       at-place place k r at (inr new) =
           let there = subst (λ i. slice_get frame.blob.keys i ≡ Some k) new.0 at in
@@ -112,7 +115,8 @@ module _ (types : Types) (root_key root_type : ℕ) where
     unfolding FramesFit
     root-fits blob is = (new-fits (root_frame root_key root_type blob) refl is, refl, refl)
 
-    nested-fits : (frames : List Frame) (kind : Kind) (key : ℕ) (blob : Blob) → FramesFit types stored trees root_key root_type frames → need_of types frames ≡ needs_nested kind key → stored key ≡ Some blob
+    nested-fits : (frames : List Frame) (kind : Kind) (key : ℕ) (blob : Blob) → FramesFit types stored trees root_key root_type frames → need_of types frames ≡ needs_nested kind key
+        → stored key ≡ Some blob
         → FramesFit types stored trees root_key root_type (nested_frame kind key blob ∷ frames)
     unfolding FramesFit
     nested-fits [] kind key blob h needs is = absurd (cc)
@@ -124,13 +128,15 @@ module _ (types : Types) (root_key root_type : ℕ) where
     grown-fits frame [] kind key row (fits, key_is, typed) next read = (got-fits frame _ key (asks_next types frame kind key next) read fits, key_is, typed)
     grown-fits frame (under ∷ rest) kind key row (fits, typed, next_is, more) next read = (got-fits frame _ key (asks_next types frame kind key next) read fits, typed, next_is, more)
 
-    needed-fits : (frames : List Frame) (kind : Kind) (key : ℕ) (row : HandleRow) → FramesFit types stored trees root_key root_type frames → Needs types frames kind key → ReadsNodeTree types stored trees key (type_of kind.0) row.node.0
+    needed-fits : (frames : List Frame) (kind : Kind) (key : ℕ) (row : HandleRow) → FramesFit types stored trees root_key root_type frames → Needs types frames kind key
+        → ReadsNodeTree types stored trees key (type_of kind.0) row.node.0
         → FramesFit types stored trees root_key root_type (with_got kind row frames)
     unfolding FramesFit
     needed-fits [] kind key row h needs read = tt
     needed-fits (top ∷ below) kind key row h needs read = grown-fits top below kind key row h (asked below (next_in types top) kind key needs) read
 
-    made-fits : (top : Frame) (below : List Frame) (row : HandleRow) → FramesFit types stored trees root_key root_type (top ∷ below) → ReadsNodeTree types stored trees top.key (type_of top.kind.0) row.node.0
+    made-fits : (top : Frame) (below : List Frame) (row : HandleRow) → FramesFit types stored trees root_key root_type (top ∷ below)
+        → ReadsNodeTree types stored trees top.key (type_of top.kind.0) row.node.0
         → FramesFit types stored trees root_key root_type (with_got top.kind row below)
     unfolding FramesFit
     made-fits top [] row h read = tt

@@ -1,100 +1,180 @@
--- Each node keeps its tree in a step whose change fits.
-use Rattle.std.proofs.Common.{◌≡◌, ℕ, ◌<◌, ◌≤◌, Bool, true, false, Some, ◌⊎◌, inl, inr, refl, sym, ap, ◌∙◌, subst, arith}
-use Rattle.std.specs.Prelude.{nat_lt}
-use Rattle.std.proofs.lemmas.Bool.Decides.{nat_tests}
-use Rattle.pagable_model.specs.declared.data_key.OptionalDataKey.TheVariants as optional
-use Rattle.pagable_world.specs.Plain.{NodeNumber, HandleNumber, Tree, ReadsTree, type_of}
-use Rattle.pagable_world.specs.Kinds.{held}
-use Rattle.pagable_world.specs.World.{OpenLoad, of_cell, Values, Seen, IsLawful, type_at}
-use Rattle.pagable_world.specs.Pager.{PagerState, WellFormed, Moves, Represents, ReadsNodeTree, KeyFits}
-use Rattle.pagable_world.specs.Runs.{HoldsSettled}
-use Rattle.pagable_laws.specs.ReadLaws.{LeadsTo, ValueLeads}
-use Rattle.pagable_laws.specs.TreeSteps.{Change, Bears, CoreGoes, SameNode, NewNode, NodeLeads}
-use Rattle.pagable_laws.specs.TreeRuns.{IsKeptByGains, ChangeFits, TreesGoOn}
-use Rattle.pagable_laws.proofs.Trees.{same_some}
-use Rattle.pagable_laws.proofs.Following.{given-of, held-of, cell-of}
-use Rattle.pagable_laws.proofs.Fitting.{tree-stays}
-use Rattle.pagable_laws.proofs.Leading.{leads-on, own-refs, leads-all, stands-again}
+-- A worker's step keeps what stands of its to-do list and of its table.
+use Rattle.std.proofs.Common.{◌≡◌, ℕ, zero, suc, ◌||◌, ◌⊎◌, Bool, true, false, List, [], ◌∷◌, ◌++◌, refl, ap, sym, ◌∙◌, inl, inr}
+use Rattle.std.specs.Prelude.{Option, Some, None, drop, length, max}
+use Rattle.pagable_world.specs.Plain.{ArcRef, Identity, HandleNumber, Among, above}
+use Rattle.pagable_world.specs.declared.events.WorkerAnswer.{WorkerAnswer}
+use Rattle.pagable_world.specs.Kinds.{identity_of}
+use Rattle.pagable_world.specs.World.{Shelf, Slot, no_result, Written, Open, Fault, Todo, to_start, to_pin, to_load, to_write, to_finish, to_item, to_set, to_publish, to_release, to_fail, Task, is_identity}
+use Rattle.pagable_world.specs.Workers.{next_start, settle, give}
+use Rattle.pagable_world.specs.Headline.{Meets, meets-of-item, meets-below}
+use Rattle.pagable_laws.proofs.Standing.{is_open_of, is_open_in, is_failing, HasClaim, IsMetClaim, Stands, AllStand, Covers, HasNoFailed}
+use Rattle.pagable_laws.proofs.Changing.{Changes, ShelfGrows, some-none, grows, meets-grow, published-stays, same-slots, is-self, is-same}
 
-pub kept : IsKeptByGains
-kept store more types key t stays reads = tree-stays stays reads
+-- ---- or
 
-pub either-side : (n last : ℕ) → (n ≤ last) ⊎ (last < n)
-either-side n last = at (nat_lt last n) refl
-  where
-    at : (b : Bool) → nat_lt last n ≡ b → (n ≤ last) ⊎ (last < n)
-    at true e = inr (grind (arith, nat_tests))
-    at false e = inl (grind (arith, nat_tests))
+pub or-cases : (a b : Bool) → (a || b) ≡ true → (a ≡ true) ⊎ (b ≡ true)
+or-cases true b is = inl refl
+or-cases false b is = inr is
 
-some-key : {a b : ℕ} → optional.Some a ≡ optional.Some b → a ≡ b
-some-key e = cc
+pub or-left : (a b : Bool) → a ≡ true → (a || b) ≡ true
+or-left true b is = refl
+or-left false b is = absurd (cc)
 
-module _ {N E : Type 0} {v : Values N} {c : Change} {comes : ℕ → N → Type 0} {s s' : PagerState N E} {trees trees' : ℕ → Tree} (lawful : IsLawful v)
-    (settled : HoldsSettled v s) (well : WellFormed v s) (well' : WellFormed v s') (stands : Represents v s trees) (moves : Moves comes s s') (goes : CoreGoes c s.core s'.core) (fits : ChangeFits v c comes s s' trees trees') where
-  was : (n : ℕ) → 0 < held n s.core.rows → NodeLeads v s trees n
-  was n live = leads-all lawful settled well stands n live
+pub or-right : (a b : Bool) → b ≡ true → (a || b) ≡ true
+or-right true b is = refl
+or-right false b is = is
 
-  moved-tree : (n : ℕ) {key : ℕ} → n ≤ s.core.last.node → ReadsTree s'.core.stored v.types key (trees n) → ReadsTree s'.core.stored v.types key (trees' n)
-  moved-tree n {key} within reads = subst (λ t. ReadsTree s'.core.stored v.types key t) (sym (fits.same n within)) reads
+pub true-false : {A : Type 0} {b : Bool} → b ≡ true → b ≡ false → A
+true-false is other = absurd (cc)
 
-  moved-node : (n t : ℕ) {key : ℕ} → n ≤ s.core.last.node → ReadsNodeTree v.types s.core.stored trees key t n → ReadsNodeTree v.types s'.core.stored trees' key t n
-  moved-node n t within reads = record { typed = ap (λ (z : Tree). z.type) (fits.same n within) ∙ reads.typed; reads = moved-tree n within (tree-stays goes.stored reads.reads) }
+pub not-true : (b : Bool) → (b ≡ true → ⊥) → b ≡ false
+not-true true never = absurd (never refl)
+not-true false never = refl
 
-  moved-value : (n : ℕ) (x : N) → s.values n ≡ Some x → ValueLeads v trees' x (trees' n)
-  moved-value n x is =
-      let live = given-of well.whole.handles n (well.typed n x is) in
-      let l = (was n live.0).valued x is in
-      let same = sym (fits.same n live.1) in
-      record {
-        own = l.own;
-        typed = l.typed ∙ ap (λ (z : Tree). z.type) same;
-        means = l.means;
-        leads = subst (λ (z : Tree). LeadsTo trees' l.own z.meaning) same (leads-on l.leads (λ r among. fits.same r.node.0 (given-of well.whole.handles r.node.0 (well.references n x r is (own-refs lawful x l.own l.means r among)).typed).1));
-      }
+-- ---- what stands goes on to stand
 
-  keyed-old : (n : ℕ) → n ≤ s.core.last.node → SameNode c s.core s'.core n → KeyFits v s' n (trees' n)
-  keyed-old n within same key is = elim same.key [
-    | inl stays ↦ moved-tree n within (tree-stays goes.stored ((was n (held-of well.whole.handles n same.was)).keyed key (sym stays ∙ is)))
-    | inr (k, sets, set) ↦ let e : k ≡ key = some-key (sym set ∙ is) in subst (λ q. ReadsTree s'.core.stored v.types q (trees' n)) e (moved-tree n within (fits.sets n k sets))
-  ]
+module _ (u : ℕ) (task : Task) (shelf shelf' : Shelf) (more : ShelfGrows shelf shelf') where
+  claim-stays : (i : Identity) {so : Option Written → Type 0} → ((slot : Slot) → shelf.slots i ≡ Some slot → slot.worker ≡ u → shelf'.slots i ≡ Some slot) → IsMetClaim shelf u task i so → IsMetClaim shelf' u task i so
+  claim-stays i keeps (meets, c) = (meets-grow shelf shelf' task i more meets, record { slot = c.slot; claimed = keeps c.slot c.claimed c.own; own = c.own; no_result_yet = c.no_result_yet; written_so = c.written_so })
 
-  keyed-new : (n : ℕ) → NewNode c s.core s'.core n → KeyFits v s' n (trees' n)
-  keyed-new n new key is =
-      let own : new.own ≡ optional.Some key = sym new.key ∙ is in
-      let reads = fits.keyed new.t key (subst (λ o. Bears c new.t o) own new.born) in
-      subst (λ m. ReadsTree s'.core.stored v.types key (trees' m)) (sym new.next) reads
+  -- each claim that this is about is kept
+  abbrev pub KeepsOf : (Identity → Bool) → Type 0
+  KeepsOf test = (i : Identity) → test i ≡ true → (slot : Slot) → shelf.slots i ≡ Some slot → slot.worker ≡ u → shelf'.slots i ≡ Some slot
 
-  leads-again : (n : ℕ) → 0 < held n s'.core.rows → NodeLeads v s' trees' n
-  leads-again n live =
-      let there = cell-of well'.whole.handles n live in
-      record {
-        keyed = elim (either-side n s.core.last.node) [ inl within ↦ keyed-old n within (goes.old n within there) | inr above ↦ keyed-new n (goes.new n above there) ];
-        valued = λ x is. elim (moves.each n x is) [ inl stays ↦ moved-value n x stays | inr (none, brings) ↦ fits.comes_well n x brings none is ];
-      }
+  one-stays : (x : Todo) (below : List Todo) → KeepsOf (λ i. is_open_of i x) → Stands shelf u task x below → Stands shelf' u task x below
+  one-stays (to_start r place) below keeps meets = meets-grow shelf shelf' task (identity_of r) more meets
+  one-stays (to_pin r place) below keeps stands = claim-stays (identity_of r) (keeps (identity_of r) (is-self (identity_of r))) stands
+  one-stays (to_load r place through reading) below keeps stands = claim-stays (identity_of r) (keeps (identity_of r) (is-self (identity_of r))) stands
+  one-stays (to_write r place through) below keeps stands = claim-stays (identity_of r) (keeps (identity_of r) (is-self (identity_of r))) stands
+  one-stays (to_finish o) below keeps stands = claim-stays (identity_of o.reference) (keeps (identity_of o.reference) (is-self (identity_of o.reference))) stands
+  one-stays (to_item written keys) below keeps stands = stands
+  one-stays (to_set r through key height) below keeps stands = claim-stays (identity_of r) (keeps (identity_of r) (is-self (identity_of r))) stands
+  one-stays (to_publish r key height) below keeps stands = claim-stays (identity_of r) (keeps (identity_of r) (is-self (identity_of r))) stands
+  one-stays (to_release r key height) below keeps (meets, known) = (meets-grow shelf shelf' task (identity_of r) more meets, published-stays shelf shelf' (identity_of r) key height more known)
+  one-stays (to_fail fault back) below keeps stands = tt
 
-  typed-again : (n : ℕ) → 0 < held n s'.core.rows → type_at s'.core n ≡ Some (trees' n).type
-  typed-again n live =
-      let there = cell-of well'.whole.handles n live in
-      elim (either-side n s.core.last.node) [
-        | inl within ↦ let same = goes.old n within there in same.typed ∙ stands.typed n (held-of well.whole.handles n same.was) ∙ ap (λ (z : Tree). Some z.type) (sym (fits.same n within))
-        | inr above ↦ let new = goes.new n above there in new.typed ∙ ap Some (sym (fits.born new.t new.own new.born)) ∙ ap (λ m. Some (trees' m).type) (sym new.next)
-      ]
+  pub all-stay : (todo : List Todo) → KeepsOf (λ i. is_open_in i todo) → AllStand shelf u task todo → AllStand shelf' u task todo
+  unfolding AllStand is_open_in
+  all-stay [] keeps all = tt
+  all-stay (x ∷ below) keeps (stands, apart, rest) =
+      ( one-stays x below (λ i is. keeps i (or-left (is_open_of i x) (is_open_in i below) is)) stands
+      , apart
+      , all-stay below (λ i is. keeps i (or-right (is_open_of i x) (is_open_in i below) is)) rest
+      )
 
-  loads-again : (l : ℕ) (load : OpenLoad) (node : NodeNumber) (t : ℕ) (h : HandleNumber) → s'.core.loads l ≡ Some load → load.root ≡ of_cell node t h → ReadsNodeTree v.types s'.core.stored trees' load.key t node.0
-  loads-again l load node t h is root = elim (goes.loads l load is) [
-    | inl stays ↦ moved-node node.0 t (well.whole.loads.roots l load node t h stays root).given.1 (stands.loads l load node t h stays root)
-    | inr (above, begins) ↦
-        let b = begins node t h root in
-        let live = given-of well.whole.handles node.0 b.0 in
-        let typed : (trees node.0).type ≡ t = same_some _ _ (sym (stands.typed node.0 live.0) ∙ b.0) in
-        moved-node node.0 t live.1 (record { typed = typed; reads = (was node.0 live.0).keyed load.key b.1 })
-  ]
+-- ---- one worker
 
-  cache-again : (kind key n : ℕ) → s'.core.cache kind key ≡ Some n → ReadsNodeTree v.types s'.core.stored trees' key (type_of kind) n
-  cache-again kind key n is = elim (goes.cache kind key n is) [ inl stays ↦ moved-node n (type_of kind) (well.whole.cache kind key n stays).given (stands.cache kind key n stays) | inr knows ↦ fits.knows kind key n knows ]
+module _ (v : ℕ) (task : Task) where
+  module _ (shelf : Shelf) (i : Identity) where
+    abbrev pub IsSlot : Type 0
+    IsSlot = (slot : Slot) × (shelf.slots i ≡ Some slot)
 
-  goes-on : Represents v s' trees'
-  goes-on = record { stands = stands-again lawful well' leads-again; typed = typed-again; loads = loads-again; cache = cache-again }
+    of-claim : (j : Identity) {so : Option Written → Type 0} → HasClaim shelf v j so → is_identity i j ≡ true → IsSlot
+    of-claim j c is = (c.slot, sym (ap shelf.slots (is-same i j is)) ∙ c.claimed)
 
-pub trees_go_on : {N B W E : Type 0} (m : Seen N B W) → TreesGoOn E m
-trees_go_on m lawful u event c s s' trees trees' settled well well' stands moves goes fits = goes-on lawful settled well well' stands moves goes fits
+    of-one : (x : Todo) (below : List Todo) → Stands shelf v task x below → is_open_of i x ≡ true → IsSlot
+    of-one (to_start r place) below stands is = absurd (cc)
+    of-one (to_pin r place) below stands is = of-claim (identity_of r) stands.1 is
+    of-one (to_load r place through reading) below stands is = of-claim (identity_of r) stands.1 is
+    of-one (to_write r place through) below stands is = of-claim (identity_of r) stands.1 is
+    of-one (to_finish o) below stands is = of-claim (identity_of o.reference) stands.1 is
+    of-one (to_item written keys) below stands is = absurd (cc)
+    of-one (to_set r through key height) below stands is = of-claim (identity_of r) stands.1 is
+    of-one (to_publish r key height) below stands is = of-claim (identity_of r) stands.1 is
+    of-one (to_release r key height) below stands is = absurd (cc)
+    of-one (to_fail fault back) below stands is = absurd (cc)
+
+    -- what is open has a slot
+    pub open-slot : (todo : List Todo) → AllStand shelf v task todo → is_open_in i todo ≡ true → IsSlot
+    unfolding AllStand is_open_in
+    open-slot [] all is = absurd (cc)
+    open-slot (x ∷ below) (stands, apart, rest) is = elim (or-cases (is_open_of i x) (is_open_in i below) is) [ inl a ↦ of-one x below stands a | inr b ↦ open-slot below rest b ]
+
+  -- each claim without a result is worked at
+  abbrev pub CoversBy : Shelf → List Todo → Type 0
+  CoversBy shelf todo = (i : Identity) (slot : Slot) → shelf.slots i ≡ Some slot → slot.worker ≡ v → slot.outcome ≡ no_result → is_open_in i todo ≡ true
+
+  -- table and list after a step
+  pub record Goes (shelf : Shelf) (answer : Option WorkerAnswer) (shelf' : Shelf) (todo : List Todo) : Type 0 where
+    pub changes : Changes v shelf shelf'
+    pub all : AllStand shelf' v task todo
+    pub covers : Covers shelf' v todo
+    pub unfailed : answer ≡ None → HasNoFailed shelf' v
+    pub done : (a : WorkerAnswer) → answer ≡ Some a → todo ≡ []
+    pub met : (i : Identity) (slot : Slot) → shelf.slots i ≡ None → shelf'.slots i ≡ Some slot → Meets shelf' task i
+
+  -- the same slots
+  module _ (shelf shelf' : Shelf) (same : (i : Identity) → shelf'.slots i ≡ shelf.slots i) (clean : HasNoFailed shelf v) where
+    pub plain : (answer : Option WorkerAnswer) (todo : List Todo) → ((a : WorkerAnswer) → answer ≡ Some a → todo ≡ []) → AllStand shelf v task todo → CoversBy shelf todo → Goes shelf answer shelf' todo
+    plain answer todo done all covers =
+        record {
+          changes = same-slots v shelf shelf' same;
+          all = all-stay v task shelf shelf' (grows v shelf shelf' (same-slots v shelf shelf' same)) todo (λ i is slot there own. same i ∙ there) all;
+          covers = λ i slot there own still. or-right (is_failing todo) (is_open_in i todo) (covers i slot (sym (same i) ∙ there) own still);
+          unfailed = λ none i slot there own. clean i slot (sym (same i) ∙ there) own;
+          done = done;
+          met = λ i slot none there. some-none (sym (same i) ∙ there) none;
+        }
+
+    pub fails : (fault : Fault) (back : Option HandleNumber) → Goes shelf None shelf' (to_fail fault back ∷ [])
+    unfolding AllStand is_open_in
+    fails fault back =
+        record {
+          changes = same-slots v shelf shelf' same;
+          all = (tt, (λ i is. absurd (cc)), tt);
+          covers = λ i slot there own still. refl;
+          unfailed = λ none i slot there own. clean i slot (sym (same i) ∙ there) own;
+          done = λ a is. absurd (cc);
+          met = λ i slot none there. some-none (sym (same i) ∙ there) none;
+        }
+
+    -- what stands at the front becomes something else about the same claim
+    pub swaps : (x y : Todo) (below : List Todo) → AllStand shelf v task (x ∷ below) → CoversBy shelf (x ∷ below) → ((i : Identity) → is_open_of i y ≡ is_open_of i x) → (Stands shelf v task x below → Stands shelf v task y below) → Goes shelf None shelf' (y ∷ below)
+    unfolding AllStand is_open_in
+    swaps x y below (stands, apart, rest) covers about goes =
+        plain None (y ∷ below) (λ a is. absurd (cc)) (goes stands, (λ i is. apart i (sym (about i) ∙ is)), rest) (λ i slot there own still. ap (λ b. b || is_open_in i below) (about i) ∙ covers i slot there own still)
+
+  -- ---- references are started
+
+  among-drop : (k : ℕ) (rs : List ArcRef) (r : ArcRef) → Among (drop k rs) r → Among rs r
+  among-drop zero rs r among = among
+  among-drop (suc k) [] r among = among
+  among-drop (suc k) (x ∷ rs) r among = let a = among-drop k rs r among in (suc a.0, a.1)
+
+  module _ (shelf : Shelf) where
+    started : (place : ℕ) (rs : List ArcRef) (todo : List Todo) → ((r : ArcRef) → Among rs r → Meets shelf task (identity_of r)) → AllStand shelf v task todo → AllStand shelf v task (next_start place rs ++ todo)
+    unfolding AllStand
+    started place [] todo meets all = all
+    started place (r ∷ rs) todo meets all = (meets r (zero, refl), (λ i is. absurd (cc)), all)
+
+    pub started-open : (i : Identity) (place : ℕ) (rs : List ArcRef) (todo : List Todo) → is_open_in i (next_start place rs ++ todo) ≡ is_open_in i todo
+    unfolding is_open_in
+    started-open i place [] todo = refl
+    started-open i place (r ∷ rs) todo = refl
+
+    pub settles : (o : Open) (below : List Todo) → AllStand shelf v task (to_finish o ∷ below) → AllStand shelf v task (settle (to_finish o ∷ below))
+    unfolding AllStand
+    settles o below ((meets, c), apart, rest) =
+        started o.place (drop (length o.keys) o.written.references) (to_finish o ∷ below)
+          (λ r among. meets-below (identity_of o.reference) c.slot o.written r meets c.claimed c.written_so (among-drop (length o.keys) o.written.references r among)) ((meets, c), apart, rest)
+
+    pub item-settles : (written : Written) (keys : List ℕ) (below : List Todo) → AllStand shelf v task (to_item written keys ∷ below) → AllStand shelf v task (settle (to_item written keys ∷ below))
+    unfolding AllStand
+    item-settles written keys below ((is, last), apart, rest) =
+        started 0 (drop (length keys) written.references) (to_item written keys ∷ below) (λ r among. meets-of-item written r is (among-drop (length keys) written.references r among)) ((is, last), apart, rest)
+
+    pub gives : (r : ArcRef) (key height : ℕ) (todo : List Todo) → AllStand shelf v task todo → AllStand shelf v task (give r key height todo)
+    unfolding AllStand
+    gives r key height [] all = all
+    gives r key height (to_finish o ∷ below) all = settles (record o { keys = o.keys ++ key ∷ []; height = max o.height (above r.kind.0 height) }) below all
+    gives r key height (to_item written keys ∷ below) all = item-settles written (keys ++ key ∷ []) below all
+    gives r key height (_ ∷ below) all = all
+
+    pub given-open : (i : Identity) (r : ArcRef) (key height : ℕ) (todo : List Todo) → is_open_in i (give r key height todo) ≡ is_open_in i todo
+    unfolding is_open_in
+    given-open i r key height [] = refl
+    given-open i r key height (to_finish o ∷ below) =
+        let p : Open = record o { keys = o.keys ++ key ∷ []; height = max o.height (above r.kind.0 height) } in
+        started-open i p.place (drop (length p.keys) p.written.references) (to_finish p ∷ below)
+    given-open i r key height (to_item written keys ∷ below) = started-open i 0 (drop (length (keys ++ key ∷ [])) written.references) (to_item written (keys ++ key ∷ []) ∷ below)
+    given-open i r key height (_ ∷ below) = refl

@@ -31,6 +31,14 @@ mod Calling
 mod Called
 mod Feeling
 mod Once
+mod Standing
+mod Changing
+mod Going
+mod Turning
+mod Claiming
+mod Numbered
+mod Holding
+mod Coming
 mod Headlines
 mod Working
 mod Doing
@@ -41,7 +49,7 @@ mod Shelves
 mod Stepping
 mod Publishing
 mod Leading
-mod Going
+mod TreesGoing
 mod Taking
 mod Felt
 mod Answering

@@ -1,16 +1,15 @@
 -- What a load has read fits after its step; and a node whose value is in memory gives its tree, as does what a load of a key answers.
-use Rattle.std.proofs.Common.{◌≡◌, ℕ, zero, suc, ◌+◌, ◌<◌, ◌≤◌, ◌==◌, ◌&&◌, ◌||◌, not, Bool, true, false, List, [], ◌∷◌, Option, Some, None, if◌then◌else◌, ◌⊎◌, inl, inr, refl, sym, ap, ◌∙◌, subst, arith}
+use Rattle.std.proofs.Common.{◌≡◌, ℕ, zero, suc, ◌+◌, ◌<◌, ◌≤◌, Bool, true, false, List, [], ◌∷◌, Option, Some, None, if◌then◌else◌, inr, refl, sym, ap, ◌∙◌, subst, arith}
 use Rattle.std.specs.Prelude.{is_some, nat_lt, slice_get}
 use Rattle.std.proofs.lemmas.Bool.Decides.{nat_tests}
-use Rattle.pagable_model.specs.declared.data_key.OptionalDataKey.TheVariants as optional
 use Rattle.pagable_world.specs.declared.handles.HandleRow.{HandleRow}
 use Rattle.pagable_world.specs.declared.handles.Owner.TheVariants as owners
 use Rattle.pagable_world.specs.Plain.{OptionalDataKey, ArcRef, Kind, HandleNumber, Blob, Types, Tree, ReadsTree, type_of, Among, one, is_eager}
-use Rattle.pagable_world.specs.Kinds.{find_row, is_handle, is_at, is_pin, is_pinning, held, pins, has_key, is_in_memory}
-use Rattle.pagable_world.specs.World.{Core, OpenLoad, Frame, Reading, row_at, key_at, is_here, Values, IsLawful}
+use Rattle.pagable_world.specs.Kinds.{find_row, is_handle, is_at, is_pin, is_pinning, held, pins}
+use Rattle.pagable_world.specs.World.{Core, OpenLoad, Frame, Reading, row_at, Values, IsLawful}
 use Rattle.pagable_world.specs.Refusals.{IsReference}
 use Rattle.pagable_world.specs.Loads.{Next, reads, asks, is_faulty, next_in, need_at, need_of, needs_nested, needs_lazy, to_adopt, ReadsRoot, ReadsNode, root_frame, nested_frame, with_got}
-use Rattle.pagable_world.specs.Pager.{PagerState, HandlesAreWhole, IsWhole, WellFormed, NodeStands, here, away, ValueStands, ReadsNodeTree, FramesFit, FrameFits, SameTrees, Represents}
+use Rattle.pagable_world.specs.Pager.{PagerState, HandlesAreWhole, IsWhole, WellFormed, NodeStands, here, away, ValueStands, ReadsNodeTree, FramesFit, SameTrees, Represents}
 use Rattle.pagable_world.specs.Runs.{ReadsItsTypes}
 use Rattle.pagable_world.specs.Headline.{ReadIsRight}
 use Rattle.pagable_laws.specs.TreeSteps.{Change, bears_known, CoreGoes, ReadingFeels, reads-root, reads-blob, gets-known, gets-lazy, makes-known, makes-node, reading-ends}
@@ -94,12 +93,14 @@ new-given last frame frames none_got given f r (zero, is) (place, there) =
 new-given last frame frames none_got given f r (suc i, is) among = given f r (i, is) among
 
 module _ {N : Type 0} {v : Values N} {w' : Core} {trees' : ℕ → Tree} (k t : ℕ) where
-  fit-got : (frames : List Frame) (kind : Kind) (row : HandleRow) → HandlesAreWhole w' → row_at w' row.number ≡ Some row → FramesGiven w'.last.node frames → FramesFit v.types w'.stored trees' k t (with_got kind row frames)
+  fit-got : (frames : List Frame) (kind : Kind) (row : HandleRow) → HandlesAreWhole w' → row_at w' row.number ≡ Some row → FramesGiven w'.last.node frames
+      → FramesFit v.types w'.stored trees' k t (with_got kind row frames)
       → FitAfter v w' trees' k t (with_got kind row frames)
   fit-got frames kind row whole live given fit = record { fit = fit; given = (frames_go_on v.types k t).given w'.last.node w'.last.node frames kind row given (omega arith) (row-given whole row.number row live) }
 
 module _ {N : Type 0} {v : Values N} {w w' : Core} {trees trees' : ℕ → Tree} where
-  known-reads : {c : Change} → AtStep v c w w' trees trees' → (kind : Kind) (key n : ℕ) (row : HandleRow) → w.cache kind.0 key ≡ Some n → row.node.0 ≡ n → ReadsNodeTree v.types w'.stored trees' key (type_of kind.0) row.node.0
+  known-reads : {c : Change} → AtStep v c w w' trees trees' → (kind : Kind) (key n : ℕ) (row : HandleRow) → w.cache kind.0 key ≡ Some n → row.node.0 ≡ n
+      → ReadsNodeTree v.types w'.stored trees' key (type_of kind.0) row.node.0
   known-reads h kind key n row known at =
       let few = (h.before.cache kind.0 key n known).given in
       subst (λ m. ReadsNodeTree v.types w'.stored trees' key (type_of kind.0) m) (sym at) (node-stays h.goes.stored (h.same n few) (h.cache kind.0 key n known))
@@ -118,7 +119,8 @@ module _ {N : Type 0} {v : Values N} {w w' : Core} {trees trees' : ℕ → Tree}
 
   module _ (k t : ℕ) where
     fit-made : {c : Change} → AtStep v c w w' trees trees' → (reading : Reading) (x : N) (made : ReadsNode v reading x) (row : HandleRow) → row_at w' row.number ≡ Some row
-        → ReadsNodeTree v.types w'.stored trees' made.top.key (type_of made.top.kind.0) row.node.0 → FitAfter v w' trees' k t reading.frames → FitAfter v w' trees' k t (with_got made.top.kind row made.below)
+        → ReadsNodeTree v.types w'.stored trees' made.top.key (type_of made.top.kind.0) row.node.0 → FitAfter v w' trees' k t reading.frames
+        → FitAfter v w' trees' k t (with_got made.top.kind row made.below)
     fit-made h reading x made row live read f =
         let g = subst (λ fs. FitAfter v w' trees' k t fs) made.frames f in
         let under : FramesGiven w'.last.node made.below = λ frame r among got. g.given frame r (suc among.0, among.1) got in
@@ -182,7 +184,8 @@ module _ {N : Type 0} {v : Values N} (lawful : IsLawful v) (readable : ReadsItsT
       (decodes lawful readable r.top x (law.fits stored trees r.top r.below here) r.decoded, law.typed stored trees r.top over.0 over.1 there)
 
   -- what a load of a key answers stands for the tree that the key reads as
-  pub root-right : {E : Type 0} (s : PagerState N E) (trees : ℕ → Tree) (reading : Reading) (x : N) (key : ℕ) → WellFormed v s → Represents v s trees → FramesFit v.types s.core.stored trees key reading.node_type reading.frames
+  pub root-right : {E : Type 0} (s : PagerState N E) (trees : ℕ → Tree) (reading : Reading) (x : N) (key : ℕ) → WellFormed v s → Represents v s trees
+      → FramesFit v.types s.core.stored trees key reading.node_type reading.frames
       → ReadsRoot v reading x → ((r : ArcRef) → Among (v.references x) r → IsReference s.core owners.Caller r) → ReadIsRight v s key x
   root-right s trees reading x key whole represents fit root own =
       let here = subst (λ fs. FramesFit v.types s.core.stored trees key reading.node_type fs) root.frames fit in

@@ -6,6 +6,7 @@ pub mod Rows
 pub mod SmallWorlds
 pub mod FallLaws
 pub mod RunLaws
+pub mod OrderLaws
 pub mod SmallMoments
 pub mod SmallWork
 pub mod MetLaws

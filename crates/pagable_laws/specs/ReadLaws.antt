@@ -40,7 +40,8 @@ pub record Decoded {N : Type 0} (v : Values N) (stored : ℕ → Option Blob) (t
 
 -- A value that was read of a blob leads to the tree that the blob's key reads as.
 abbrev pub DecodesWell : {N : Type 0} → Values N → Type 0
-DecodesWell {N} v = IsLawful v → ReadsItsTypes v.types → (stored : ℕ → Option Blob) (trees : ℕ → Tree) (frame : Frame) (x : N) → FrameFits v.types stored trees frame → IsDecoded v frame x → Decoded v stored trees frame x
+DecodesWell {N} v = IsLawful v → ReadsItsTypes v.types → (stored : ℕ → Option Blob) (trees : ℕ → Tree) (frame : Frame) (x : N) → FrameFits v.types stored trees frame → IsDecoded v frame x
+    → Decoded v stored trees frame x
 
 -- The key that a blob asks for next is the next of its keys.
 abbrev pub AsksNext : Type 0
@@ -52,7 +53,8 @@ FramesGiven last frames = (frame : Frame) (r : ArcRef) → Among frames frame �
 
 -- It stands for that tree, where the nodes of its references stand for theirs.
 abbrev pub ReadStands : {N : Type 0} → (E : Type 0) → Values N → Type 0
-ReadStands {N} E v = IsLawful v → ReadsItsTypes v.types → (s : PagerState N E) (trees : ℕ → Tree) (frame : Frame) (x : N) (t : Tree) → FrameFits v.types s.core.stored trees frame → IsDecoded v frame x
+ReadStands {N} E v = IsLawful v → ReadsItsTypes v.types → (s : PagerState N E) (trees : ℕ → Tree) (frame : Frame) (x : N) (t : Tree) → FrameFits v.types s.core.stored trees frame
+    → IsDecoded v frame x
     → ((r : ArcRef) → Among (v.references x) r → NodeStands v s r.node.0 (trees r.node.0)) → t.type ≡ frame.node_type → ReadsTree s.core.stored v.types frame.key t → ValueStands v s x t
 
 -- the load needs a reference of this kind under this key, whether what it leads to is read or not
@@ -76,7 +78,8 @@ pub record FramesGoOn (types : Types) (root_key root_type : ℕ) : Type 0 where
   pub made : (stored : ℕ → Option Blob) (trees : ℕ → Tree) (top : Frame) (below : List Frame) (row : HandleRow) → FramesFit types stored trees root_key root_type (top ∷ below)
       → ReadsNodeTree types stored trees top.key (type_of top.kind.0) row.node.0 → FramesFit types stored trees root_key root_type (with_got top.kind row below)
   pub fits : (stored : ℕ → Option Blob) (trees : ℕ → Tree) (top : Frame) (below : List Frame) → FramesFit types stored trees root_key root_type (top ∷ below) → FrameFits types stored trees top
-  pub typed : (stored : ℕ → Option Blob) (trees : ℕ → Tree) (top frame : Frame) (below : List Frame) → FramesFit types stored trees root_key root_type (top ∷ frame ∷ below) → top.node_type ≡ type_of top.kind.0
+  pub typed : (stored : ℕ → Option Blob) (trees : ℕ → Tree) (top frame : Frame) (below : List Frame) → FramesFit types stored trees root_key root_type (top ∷ frame ∷ below)
+      → top.node_type ≡ type_of top.kind.0
   -- where the node of each handle that is got was given, all stay given
   pub given : (last last' : ℕ) (frames : List Frame) (kind : Kind) (row : HandleRow) → FramesGiven last frames → last ≤ last' → row.node.0 ≤ last' → FramesGiven last' (with_got kind row frames)
 
@@ -85,4 +88,5 @@ AllGoOn = (types : Types) (root_key root_type : ℕ) → FramesGoOn types root_k
 
 -- Each handle that pins gives the tree that its node was made with.
 abbrev pub PinStands : {N : Type 0} → (E : Type 0) → Values N → Type 0
-PinStands {N} E v = (s : PagerState N E) (trees : ℕ → Tree) (k : HandleNumber) (row : HandleRow) → WellFormed v s → Represents v s trees → row_at s.core k ≡ Some row → is_pinning row.mode ≡ true → GivesTree v s trees k
+PinStands {N} E v = (s : PagerState N E) (trees : ℕ → Tree) (k : HandleNumber) (row : HandleRow) → WellFormed v s → Represents v s trees → row_at s.core k ≡ Some row
+    → is_pinning row.mode ≡ true → GivesTree v s trees k

@@ -5,6 +5,7 @@
 pub mod steps;
 pub mod runs;
 pub mod keys;
+pub mod order;
 pub mod values;
 pub mod worked;
 pub mod world;

@@ -5,7 +5,7 @@ ghost use Rattle.pagable_laws.specs.TreeRuns.{CallsFit, IsKeptByGains, TreesGoOn
 use crate::world::SeenAs;
 
 /// A key reads as the same tree when the storage has gained blobs.
-#[tactic(auto, using(crate::proofs::Going::kept))]
+#[tactic(auto, using(crate::proofs::TreesGoing::kept))]
 pub fn gains_keep_trees()
     ensures { IsKeptByGains }
 {}

@@ -1,4 +1,4 @@
-use Rattle.pagable_laws.proofs.Going.{trees_go_on}
+use Rattle.pagable_laws.proofs.TreesGoing.{trees_go_on}
 use Rattle.pagable_laws.proofs.runs.trees_go_on.Goals as goal
 
 pub returns : goal.returns

@@ -1,0 +1,100 @@
+-- Each node keeps its tree in a step whose change fits.
+use Rattle.std.proofs.Common.{◌≡◌, ℕ, ◌<◌, ◌≤◌, Bool, true, false, Some, ◌⊎◌, inl, inr, refl, sym, ap, ◌∙◌, subst, arith}
+use Rattle.std.specs.Prelude.{nat_lt}
+use Rattle.std.proofs.lemmas.Bool.Decides.{nat_tests}
+use Rattle.pagable_model.specs.declared.data_key.OptionalDataKey.TheVariants as optional
+use Rattle.pagable_world.specs.Plain.{NodeNumber, HandleNumber, Tree, ReadsTree, type_of}
+use Rattle.pagable_world.specs.Kinds.{held}
+use Rattle.pagable_world.specs.World.{OpenLoad, of_cell, Values, Seen, IsLawful, type_at}
+use Rattle.pagable_world.specs.Pager.{PagerState, WellFormed, Moves, Represents, ReadsNodeTree, KeyFits}
+use Rattle.pagable_world.specs.Runs.{HoldsSettled}
+use Rattle.pagable_laws.specs.ReadLaws.{LeadsTo, ValueLeads}
+use Rattle.pagable_laws.specs.TreeSteps.{Change, Bears, CoreGoes, SameNode, NewNode, NodeLeads}
+use Rattle.pagable_laws.specs.TreeRuns.{IsKeptByGains, ChangeFits, TreesGoOn}
+use Rattle.pagable_laws.proofs.Trees.{same_some}
+use Rattle.pagable_laws.proofs.Following.{given-of, held-of, cell-of}
+use Rattle.pagable_laws.proofs.Fitting.{tree-stays}
+use Rattle.pagable_laws.proofs.Leading.{leads-on, own-refs, leads-all, stands-again}
+
+pub kept : IsKeptByGains
+kept store more types key t stays reads = tree-stays stays reads
+
+pub either-side : (n last : ℕ) → (n ≤ last) ⊎ (last < n)
+either-side n last = at (nat_lt last n) refl
+  where
+    at : (b : Bool) → nat_lt last n ≡ b → (n ≤ last) ⊎ (last < n)
+    at true e = inr (grind (arith, nat_tests))
+    at false e = inl (grind (arith, nat_tests))
+
+some-key : {a b : ℕ} → optional.Some a ≡ optional.Some b → a ≡ b
+some-key e = cc
+
+module _ {N E : Type 0} {v : Values N} {c : Change} {comes : ℕ → N → Type 0} {s s' : PagerState N E} {trees trees' : ℕ → Tree} (lawful : IsLawful v)
+    (settled : HoldsSettled v s) (well : WellFormed v s) (well' : WellFormed v s') (stands : Represents v s trees) (moves : Moves comes s s') (goes : CoreGoes c s.core s'.core) (fits : ChangeFits v c comes s s' trees trees') where
+  was : (n : ℕ) → 0 < held n s.core.rows → NodeLeads v s trees n
+  was n live = leads-all lawful settled well stands n live
+
+  moved-tree : (n : ℕ) {key : ℕ} → n ≤ s.core.last.node → ReadsTree s'.core.stored v.types key (trees n) → ReadsTree s'.core.stored v.types key (trees' n)
+  moved-tree n {key} within reads = subst (λ t. ReadsTree s'.core.stored v.types key t) (sym (fits.same n within)) reads
+
+  moved-node : (n t : ℕ) {key : ℕ} → n ≤ s.core.last.node → ReadsNodeTree v.types s.core.stored trees key t n → ReadsNodeTree v.types s'.core.stored trees' key t n
+  moved-node n t within reads = record { typed = ap (λ (z : Tree). z.type) (fits.same n within) ∙ reads.typed; reads = moved-tree n within (tree-stays goes.stored reads.reads) }
+
+  moved-value : (n : ℕ) (x : N) → s.values n ≡ Some x → ValueLeads v trees' x (trees' n)
+  moved-value n x is =
+      let live = given-of well.whole.handles n (well.typed n x is) in
+      let l = (was n live.0).valued x is in
+      let same = sym (fits.same n live.1) in
+      record {
+        own = l.own;
+        typed = l.typed ∙ ap (λ (z : Tree). z.type) same;
+        means = l.means;
+        leads = subst (λ (z : Tree). LeadsTo trees' l.own z.meaning) same (leads-on l.leads (λ r among. fits.same r.node.0 (given-of well.whole.handles r.node.0 (well.references n x r is (own-refs lawful x l.own l.means r among)).typed).1));
+      }
+
+  keyed-old : (n : ℕ) → n ≤ s.core.last.node → SameNode c s.core s'.core n → KeyFits v s' n (trees' n)
+  keyed-old n within same key is = elim same.key [
+    | inl stays ↦ moved-tree n within (tree-stays goes.stored ((was n (held-of well.whole.handles n same.was)).keyed key (sym stays ∙ is)))
+    | inr (k, sets, set) ↦ let e : k ≡ key = some-key (sym set ∙ is) in subst (λ q. ReadsTree s'.core.stored v.types q (trees' n)) e (moved-tree n within (fits.sets n k sets))
+  ]
+
+  keyed-new : (n : ℕ) → NewNode c s.core s'.core n → KeyFits v s' n (trees' n)
+  keyed-new n new key is =
+      let own : new.own ≡ optional.Some key = sym new.key ∙ is in
+      let reads = fits.keyed new.t key (subst (λ o. Bears c new.t o) own new.born) in
+      subst (λ m. ReadsTree s'.core.stored v.types key (trees' m)) (sym new.next) reads
+
+  leads-again : (n : ℕ) → 0 < held n s'.core.rows → NodeLeads v s' trees' n
+  leads-again n live =
+      let there = cell-of well'.whole.handles n live in
+      record {
+        keyed = elim (either-side n s.core.last.node) [ inl within ↦ keyed-old n within (goes.old n within there) | inr above ↦ keyed-new n (goes.new n above there) ];
+        valued = λ x is. elim (moves.each n x is) [ inl stays ↦ moved-value n x stays | inr (none, brings) ↦ fits.comes_well n x brings none is ];
+      }
+
+  typed-again : (n : ℕ) → 0 < held n s'.core.rows → type_at s'.core n ≡ Some (trees' n).type
+  typed-again n live =
+      let there = cell-of well'.whole.handles n live in
+      elim (either-side n s.core.last.node) [
+        | inl within ↦ let same = goes.old n within there in same.typed ∙ stands.typed n (held-of well.whole.handles n same.was) ∙ ap (λ (z : Tree). Some z.type) (sym (fits.same n within))
+        | inr above ↦ let new = goes.new n above there in new.typed ∙ ap Some (sym (fits.born new.t new.own new.born)) ∙ ap (λ m. Some (trees' m).type) (sym new.next)
+      ]
+
+  loads-again : (l : ℕ) (load : OpenLoad) (node : NodeNumber) (t : ℕ) (h : HandleNumber) → s'.core.loads l ≡ Some load → load.root ≡ of_cell node t h → ReadsNodeTree v.types s'.core.stored trees' load.key t node.0
+  loads-again l load node t h is root = elim (goes.loads l load is) [
+    | inl stays ↦ moved-node node.0 t (well.whole.loads.roots l load node t h stays root).given.1 (stands.loads l load node t h stays root)
+    | inr (above, begins) ↦
+        let b = begins node t h root in
+        let live = given-of well.whole.handles node.0 b.0 in
+        let typed : (trees node.0).type ≡ t = same_some _ _ (sym (stands.typed node.0 live.0) ∙ b.0) in
+        moved-node node.0 t live.1 (record { typed = typed; reads = (was node.0 live.0).keyed load.key b.1 })
+  ]
+
+  cache-again : (kind key n : ℕ) → s'.core.cache kind key ≡ Some n → ReadsNodeTree v.types s'.core.stored trees' key (type_of kind) n
+  cache-again kind key n is = elim (goes.cache kind key n is) [ inl stays ↦ moved-node n (type_of kind) (well.whole.cache kind key n stays).given (stands.cache kind key n stays) | inr knows ↦ fits.knows kind key n knows ]
+
+  goes-on : Represents v s' trees'
+  goes-on = record { stands = stands-again lawful well' leads-again; typed = typed-again; loads = loads-again; cache = cache-again }
+
+pub trees_go_on : {N B W E : Type 0} (m : Seen N B W) → TreesGoOn E m
+trees_go_on m lawful u event c s s' trees trees' settled well well' stands moves goes fits = goes-on lawful settled well well' stands moves goes fits
