@@ -106,7 +106,7 @@ module _ {N B W : Type 0} (m : Seen N B W) (w : Core) (me : Owner) (free : NotLo
   quiet : {call : Call N B} {reply : Reply N B} → ((n : ℕ) (x : N) → CallBrings w call n x → IsNewNode w n ⊎ StaysAway w w' n) → Quiet w w' → CG call reply
   quiet brings q = record { change = nothing_felt; goes = quiet-goes nothing_felt q; feels = feels-nothing brings }
 
-  births : (call : Call N B) (x : N) (mode : Mode) → ((n : ℕ) (y : N) → CallBrings w call n y → (y ≡ x) × IsNewNode w n) → (r : Result HandleNumber (Error × N)) → BirthCall w me x (m.values.node_type x) (m.values.references x) mode r w' → CG call (replies.Made r)
+  pub births : (call : Call N B) (x : N) (mode : Mode) → ((n : ℕ) (y : N) → CallBrings w call n y → (y ≡ x) × IsNewNode w n) → (r : Result HandleNumber (Error × N)) → BirthCall w me x (m.values.node_type x) (m.values.references x) mode r w' → CG call (replies.Made r)
   births call x mode brings (Ok k) c =
       let references = m.values.references x in
       let t = m.values.node_type x in
@@ -146,7 +146,7 @@ module _ {N B W : Type 0} (m : Seen N B W) (w : Core) (me : Owner) (free : NotLo
   ]
   offers kind key h (Err e) c = quiet (λ n x b. absurd b) (alike c.refused.stays)
 
-  adopting : (l : LoadNumber) (kind : Kind) (key : ℕ) (x : N) (r : Result HandleNumber (Error × N)) → AdoptCall w me l kind key x (m.values.node_type x) (m.values.references x) r w' → CG (calls.LoadAdopt l kind key x) (replies.Made r)
+  pub adopting : (l : LoadNumber) (kind : Kind) (key : ℕ) (x : N) (r : Result HandleNumber (Error × N)) → AdoptCall w me l kind key x (m.values.node_type x) (m.values.references x) r w' → CG (calls.LoadAdopt l kind key x) (replies.Made r)
   adopting l kind key x (Ok k) c = elim c.adopts.makes [
     | inl (n, usable, f) ↦ quiet (λ n y b. inl b.1) (quiet-then (a-handle w _ _ (owners.Load l)) (fell-anyhow f))
     | inr (none, few, a) ↦ record {
@@ -157,7 +157,7 @@ module _ {N B W : Type 0} (m : Seen N B W) (w : Core) (me : Owner) (free : NotLo
   ]
   adopting l kind key x (Err e) c = quiet (λ n y b. inl b.1) (alike c.refused.1.stays)
 
-  lazily : (l : LoadNumber) (kind : Kind) (key : ℕ) (r : Result HandleNumber Error) → LazyCall w me l kind key r w' → CG (calls.LoadLazy l kind key) (replies.Handle r)
+  pub lazily : (l : LoadNumber) (kind : Kind) (key : ℕ) (r : Result HandleNumber Error) → LazyCall w me l kind key r w' → CG (calls.LoadLazy l kind key) (replies.Handle r)
   lazily l kind key (Ok k) c = elim c.makes.3 [
     | inl known ↦ quiet (λ n x b. absurd b) (gets-known known)
     | inr (none, few, next, a) ↦ record {
@@ -181,8 +181,8 @@ module _ {N B W : Type 0} (m : Seen N B W) (w : Core) (me : Owner) (free : NotLo
           let g : row ≡ c.was = some-is (sym owns.live ∙ c.live) in
           free l (sym owns.own ∙ (ap (λ (x : HandleRow). x.owner) g ∙ (sym (ap (λ (x : HandleRow). x.owner) f) ∙ is)))
 
-  ends : (l : LoadNumber) (x : N) (r : Result HandleNumber (Error × Option N)) → EndCall w me l x (m.values.node_type x) (m.values.references x) r w' → CG (calls.LoadEnd l x) (replies.LoadEnded r)
-  ends l x (Ok k) c =
+  pub ends-load : (l : LoadNumber) (x : N) (r : Result HandleNumber (Error × Option N)) → EndCall w me l x (m.values.node_type x) (m.values.references x) r w' → CG (calls.LoadEnd l x) (replies.LoadEnded r)
+  ends-load l x (Ok k) c =
       let node = c.installs.0 in
       let h = c.installs.1 in
       let may = c.installs.2 in
@@ -199,8 +199,8 @@ module _ {N B W : Type 0} (m : Seen N B W) (w : Core) (me : Owner) (free : NotLo
     where
       pin-of : (u : Core) (h : HandleNumber) (node : NodeNumber) → ((r : HandleRow) → find_row h.0 u.rows ≡ Some r → NotLoads r.owner) → Quiet u (with_pin u h node me)
       pin-of u h node safe = quiet-then (only-rows (rows-mode u.last.handle u.rows h modes.LoosePinned refl safe) (le-self _)) (a-handle (with_mode u h modes.LoosePinned) node modes.Pinned me)
-  ends l x (Err (e, Some y)) c = quiet (λ n z b. inr (alike-away c.refused.1.stays n)) (alike c.refused.1.stays)
-  ends l x (Err (e, None)) c = quiet (λ n z b. inr (fell-away c.refused.closes n)) (closes l c.refused.closes)
+  ends-load l x (Err (e, Some y)) c = quiet (λ n z b. inr (alike-away c.refused.1.stays n)) (alike c.refused.1.stays)
+  ends-load l x (Err (e, None)) c = quiet (λ n z b. inr (fell-away c.refused.closes n)) (closes l c.refused.closes)
 
   none-come : {call : Call N B} {reply : Reply N B} → ((n : ℕ) (x : N) → CallBrings w call n x → ⊥) → Quiet w w' → CG call reply
   none-come none q = quiet (λ n x b. absurd (none n x b)) q
@@ -271,7 +271,7 @@ module _ {N B W : Type 0} (m : Seen N B W) (w : Core) (me : Owner) (free : NotLo
   calls-go (calls.LoadAdopt l kind key x) reply stays c = absurd c
   calls-go (calls.LoadLazy l kind key) (replies.Handle r) stays c = lazily l kind key r c
   calls-go (calls.LoadLazy l kind key) reply stays c = absurd c
-  calls-go (calls.LoadEnd l x) (replies.LoadEnded r) stays c = ends l x r c
+  calls-go (calls.LoadEnd l x) (replies.LoadEnded r) stays c = ends-load l x r c
   calls-go (calls.LoadEnd l x) reply stays c = absurd c
   calls-go (calls.LoadTake l hs) (replies.Done r) stays c = quiet (λ n x b. absurd b) (hands-over free l hs.items r c)
   calls-go (calls.LoadTake l hs) reply stays c = absurd c

@@ -29,6 +29,7 @@ mod Goes
 mod GoodReferences
 mod Calling
 mod Called
+mod LoadSteps
 mod Feeling
 mod Once
 mod Standing

@@ -1,12 +1,14 @@
--- What each call keeps, as a law of calls alone.
-use Rattle.std.specs.Prelude.{ℕ, ◌≡◌, ◌≤◌, Some}
+-- What each call and each step of a load keeps.
+use Rattle.std.specs.Prelude.{ℕ, ◌≡◌, ◌≤◌, List, Option, Some}
 use Rattle.pagable_world.specs.Plain.{Blob, LoadNumber}
 use Rattle.pagable_world.specs.declared.handles.Owner.{Owner}
 use Rattle.pagable_world.specs.declared.handles.Owner.TheVariants as owners
 use Rattle.pagable_world.specs.declared.calls.Call.{Call}
 use Rattle.pagable_world.specs.declared.calls.Reply.{Reply}
 use Rattle.pagable_world.specs.declared.events.Event.TheVariants as events
-use Rattle.pagable_world.specs.World.{Core, Seen}
+use Rattle.pagable_world.specs.declared.events.LoadAnswer.{LoadAnswer}
+use Rattle.pagable_world.specs.World.{Core, Seen, Values, Reading, Frame}
+use Rattle.pagable_world.specs.Loads.{ReadingDoes}
 use Rattle.pagable_world.specs.Events.{CallStep}
 use Rattle.pagable_world.specs.Runs.{KeepsOpen}
 
@@ -20,3 +22,7 @@ pub record StoredStays (w w' : Core) : Type 0 where
 -- of each call by the caller or a worker, but for the one that closes the storage
 pub record CallsKeep {N B W : Type 0} (m : Seen N B W) : Type 0 where
   pub each : (w w' : Core) (me : Owner) (call : Call N B) (reply : Reply N B) → ((l : LoadNumber) → me ≡ owners.Load l → ⊥) → KeepsOpen {N = N} {B = B} {W = W} (events.Call call) → CallStep m w me call reply w' → StoredStays w w'
+
+-- of each step of a load of theirs
+pub record LoadsKeep {N : Type 0} (v : Values N) : Type 0 where
+  pub each : (w w' : Core) (me : Owner) (reading : Reading) (answer : Option (LoadAnswer N)) (frames : List Frame) → ((l : LoadNumber) → me ≡ owners.Load l → ⊥) → ReadingDoes v w me reading answer frames w' → StoredStays w w'

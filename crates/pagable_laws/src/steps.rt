@@ -1,10 +1,15 @@
-//! What each call keeps, whatever trees there are.
+//! What each call and each step of a load keeps, whatever trees there are.
 
-ghost use Rattle.pagable_laws.specs.StepLaws.{CallsKeep};
+ghost use Rattle.pagable_laws.specs.StepLaws.{CallsKeep, LoadsKeep};
 
 use crate::world::SeenAs;
 
 /// What is stored stays stored until the storage is closed, and last numbers don't shrink.
 pub fn calls_keep<N: SeenAs<B, W>, B, W>()
     ensures { CallsKeep N.seen }
+{}
+
+/// So it is in each step of a load.
+pub fn loads_keep<N: SeenAs<B, W>, B, W>()
+    ensures { LoadsKeep N.seen.values }
 {}
