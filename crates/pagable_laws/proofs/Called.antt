@@ -117,7 +117,7 @@ module _ {N B W : Type 0} (m : Seen N B W) (w : Core) (me : Owner) (free : NotLo
       }
   births call x mode brings (Err e) c = quiet (λ n y b. inl (brings n y b).1) (alike c.refused.1.stays)
 
-  sets : (h : HandleNumber) (key : ℕ) (r : Result (Unit {0}) Error) → SetKeyCall w me h key r w' → CG (calls.SetDataKey h key) (replies.Done r)
+  pub sets : (h : HandleNumber) (key : ℕ) (r : Result (Unit {0}) Error) → SetKeyCall w me h key r w' → CG (calls.SetDataKey h key) (replies.Done r)
   sets h key r c = elim c.does [
     | inl refused ↦ quiet (λ n x b. absurd b) (refused-call r refused)
     | inr (row, owns, inl (mode, told, a)) ↦ quiet (λ n x b. absurd b) (alike a)

@@ -30,6 +30,7 @@ mod GoodReferences
 mod Calling
 mod Called
 mod LoadSteps
+mod WalkSteps
 mod Feeling
 mod Once
 mod Standing

@@ -20,7 +20,7 @@ pub record Felt (w w' : Core) : Type 0 where
   pub change : Change
   pub goes : Goes change w w'
 
-quiet : {w w' : Core} → Quiet w w' → Felt w w'
+pub quiet : {w w' : Core} → Quiet w w' → Felt w w'
 quiet q = record { change = nothing_felt; goes = quiet-goes nothing_felt q }
 
 closed : {w m w' : Core} → Felt w m → Quiet m w' → Felt w w'

@@ -1,4 +1,4 @@
--- What each call and each step of a load keeps.
+-- What each call, each step of a load and each step of a worker keeps.
 use Rattle.std.specs.Prelude.{ℕ, ◌≡◌, ◌≤◌, List, Option, Some}
 use Rattle.pagable_world.specs.Plain.{Blob, LoadNumber}
 use Rattle.pagable_world.specs.declared.handles.Owner.{Owner}
@@ -9,6 +9,8 @@ use Rattle.pagable_world.specs.declared.events.Event.TheVariants as events
 use Rattle.pagable_world.specs.declared.events.LoadAnswer.{LoadAnswer}
 use Rattle.pagable_world.specs.World.{Core, Seen, Values, Reading, Frame}
 use Rattle.pagable_world.specs.Loads.{ReadingDoes}
+use Rattle.pagable_world.specs.Workers.{Site, WalkDoes}
+use Rattle.pagable_world.specs.declared.events.Took.{Took}
 use Rattle.pagable_world.specs.Events.{CallStep}
 use Rattle.pagable_world.specs.Runs.{KeepsOpen}
 
@@ -26,3 +28,7 @@ pub record CallsKeep {N B W : Type 0} (m : Seen N B W) : Type 0 where
 -- of each step of a load of theirs
 pub record LoadsKeep {N : Type 0} (v : Values N) : Type 0 where
   pub each : (w w' : Core) (me : Owner) (reading : Reading) (answer : Option (LoadAnswer N)) (frames : List Frame) → ((l : LoadNumber) → me ≡ owners.Load l → ⊥) → ReadingDoes v w me reading answer frames w' → StoredStays w w'
+
+-- and of each step of a worker
+pub record WalksKeep {N B W : Type 0} (m : Seen N B W) : Type 0 where
+  pub each : (v : ℕ) (s s' : Site) (step : Took W) → WalkDoes m v s step s' → StoredStays s.core s'.core

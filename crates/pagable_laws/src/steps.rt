@@ -1,6 +1,6 @@
-//! What each call and each step of a load keeps, whatever trees there are.
+//! What each call and each step of a load or a worker keeps, whatever trees there are.
 
-ghost use Rattle.pagable_laws.specs.StepLaws.{CallsKeep, LoadsKeep};
+ghost use Rattle.pagable_laws.specs.StepLaws.{CallsKeep, LoadsKeep, WalksKeep};
 
 use crate::world::SeenAs;
 
@@ -12,4 +12,9 @@ pub fn calls_keep<N: SeenAs<B, W>, B, W>()
 /// So it is in each step of a load.
 pub fn loads_keep<N: SeenAs<B, W>, B, W>()
     ensures { LoadsKeep N.seen.values }
+{}
+
+/// And in each step of a worker.
+pub fn walks_keep<N: SeenAs<B, W>, B, W>()
+    ensures { WalksKeep N.seen }
 {}
