@@ -2,8 +2,10 @@
 
 ghost use Rattle.std.specs.Int.{w16};
 ghost use Rattle.pagable.specs.Carried.{tagged_by};
+ghost use Rattle.pagable.specs.Causes.{either_is_own_reading, either_may_refuse_writing, memory_may_refuse_writing, memory_or_is_own_reading, memory_or_may_refuse_writing, long_or_may_refuse_writing, never_is_own_reading};
+ghost use Rattle.pagable.specs.Gives.{either, long_or, memory, memory_or, never};
 ghost use Rattle.pagable.specs.Shape.{both, static_value, unsigned};
-ghost use Rattle.pagable.specs.Statics.{meanings_of};
+ghost use Rattle.pagable.specs.Statics.{meanings_of, unregistered, unregistered_may_refuse_writing};
 ghost use Rattle.pagable.specs.Tagged.{grammars};
 ghost use Rattle.pagable_examples.specs.Animals.{written, grammar_of};
 ghost use Rattle.pagable_examples.specs.Sightings.{sighting_means, sighting_has_meaning};
@@ -35,9 +37,9 @@ impl Carried<Zoo> for Sighting {
 }
 
 impl PagableSerialize<Zoo> for Sighting {
-    ghost write_causes = { ⟦<(Animal, (StaticStr, u16)) as PagableSerialize<Zoo>>⟧.write_causes };
+    ghost write_causes = { either (long_or (memory_or (memory_or unregistered))) (either (memory_or unregistered) memory) };
 
-    ghost write_causes_may_refuse = { ⟦<(Animal, (StaticStr, u16)) as PagableSerialize<Zoo>>⟧.write_causes_may_refuse };
+    ghost write_causes_may_refuse = { either_may_refuse_writing (long_or (memory_or (memory_or unregistered))) (either (memory_or unregistered) memory) (long_or_may_refuse_writing (memory_or (memory_or unregistered)) (memory_or_may_refuse_writing (memory_or unregistered) (memory_or_may_refuse_writing unregistered unregistered_may_refuse_writing))) (either_may_refuse_writing (memory_or unregistered) memory (memory_or_may_refuse_writing unregistered unregistered_may_refuse_writing) memory_may_refuse_writing) };
 
     fn pagable_serialize<S: PagableSerializer<Zoo>>(
         &self,
@@ -48,9 +50,9 @@ impl PagableSerialize<Zoo> for Sighting {
 }
 
 impl<'de> PagableDeserialize<'de, Zoo> for Sighting {
-    ghost read_causes = { ⟦<(Animal, (StaticStr, u16)) as PagableDeserialize<'de, Zoo>>⟧.read_causes };
+    ghost read_causes = { either (memory_or never) (either never never) };
 
-    ghost read_causes_are_own = { ⟦<(Animal, (StaticStr, u16)) as PagableDeserialize<'de, Zoo>>⟧.read_causes_are_own };
+    ghost read_causes_are_own = { either_is_own_reading (memory_or never) (either never never) (memory_or_is_own_reading never never_is_own_reading) (either_is_own_reading never never never_is_own_reading never_is_own_reading) };
 
     fn pagable_deserialize<D: PagableDeserializer<Zoo>>(
         alloc: Global,

@@ -55,3 +55,6 @@ mod TreesGoing
 mod Taking
 mod Felt
 mod Answering
+mod Tested
+mod Whole
+mod States

@@ -8,7 +8,7 @@ use Rattle.pagable_model.specs.Shape.{Shape}
 use Rattle.pagable_model.specs.Reading.{Rest, Look, Context, read, deepest}
 use Rattle.pagable_model.specs.Form.{Form}
 use Rattle.pagable_model.specs.Blob.{Blob, IsBlob, preimage}
-use Rattle.pagable_model.specs.Canonical.{IsCanonical, IsReadable, Throughout, HasOneForm}
+use Rattle.pagable_model.specs.Canonical.{IsCanonical, Throughout, HasOneForm}
 
 -- what is left to be read: these bytes, and these references
 abbrev pub rest : {A : Type 0} → List ℕ → List A → Rest A

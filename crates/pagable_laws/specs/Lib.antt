@@ -15,3 +15,4 @@ pub mod TreeSteps
 pub mod TreeRuns
 pub mod ReadLaws
 pub mod PageOutLaws
+pub mod TwoLevels

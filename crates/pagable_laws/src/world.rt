@@ -4,6 +4,7 @@ ghost use Rattle.pagable_world.specs.World.{Seen};
 ghost use Rattle.pagable_laws.specs.FallLaws.{IsThere, IsOne, IsGivenAlone, PinsAreAFilter, TwoLevelsFall, LoneIsListed};
 ghost use Rattle.pagable_laws.specs.MetLaws.{HeadlineIsMet, WorkMeetsHeadline};
 ghost use Rattle.pagable_laws.specs.ReadLaws.{AllGoOn, AsksNext, DecodesWell, PinStands, ReadStands};
+ghost use Rattle.pagable_laws.specs.TwoLevels.{TwoLevelsAreWhole};
 ghost use Rattle.pagable_laws.specs.RunLaws.{ChainsJoin, NewIsWhole, NextIsOneOf, StepsFollow, IsOnceEach, KeysTellTheirTrees};
 
 use crate::values::is_key_of_one_tree;
@@ -120,4 +121,10 @@ pub fn reading_goes_on_fitting()
 /// Each handle that pins gives the tree that its node was made with.
 pub fn what_is_pinned_stands<N: SeenAs<B, W>, B, W, E>()
     ensures { PinStands E N.seen.values }
+{}
+
+/// Each pager is whole that a chain of two levels goes through: births, a page-out, an eviction, and loads of parent and child.
+#[tactic(auto, using(crate::proofs::States::all_whole))]
+pub fn two_levels_are_whole()
+    ensures { TwoLevelsAreWhole }
 {}
