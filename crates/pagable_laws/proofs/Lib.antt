@@ -25,6 +25,13 @@ mod Two
 mod Joining
 mod Telling
 mod Nexts
+mod Goes
+mod GoodReferences
+mod Calling
+mod Called
+mod LoadSteps
+mod WalkSteps
+mod Feeling
 mod Once
 mod Standing
 mod Changing

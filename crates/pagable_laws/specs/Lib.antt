@@ -10,6 +10,7 @@ pub mod OrderLaws
 pub mod SmallMoments
 pub mod SmallWork
 pub mod MetLaws
+pub mod StepLaws
 pub mod TreeSteps
 pub mod TreeRuns
 pub mod ReadLaws

@@ -4,6 +4,7 @@
 
 pub mod keys;
 pub mod runs;
+pub mod steps;
 pub mod order;
 pub mod values;
 pub mod worked;

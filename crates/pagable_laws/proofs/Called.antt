@@ -1,0 +1,284 @@
+-- What trees feel of each call that doesn't close the storage, by the call and its reply.
+use Rattle.std.proofs.Common.{◌≡◌, ℕ, ◌+◌, ◌<◌, ◌≤◌, Bool, true, false, List, [], ◌∷◌, refl, ap, sym, subst, ◌∙◌, inl, inr, arith}
+use Rattle.std.specs.Prelude.{Option, Some, None, ◌⊎◌, Result, Ok, Err}
+use Rattle.pagable_world.specs.Plain.{Error, ArcRef, Kind, HandleNumber, LoadNumber, NodeNumber, type_of}
+use Rattle.pagable_world.specs.declared.handles.Owner.{Owner}
+use Rattle.pagable_world.specs.declared.handles.HandleRow.{HandleRow}
+use Rattle.pagable_world.specs.declared.rows.Mode.{Mode}
+use Rattle.pagable_world.specs.declared.calls.Call.{Call}
+use Rattle.pagable_world.specs.declared.calls.Reply.{Reply}
+use Rattle.pagable_world.specs.declared.events.Event.TheVariants as events
+use Rattle.pagable_world.specs.declared.handles.Owner.TheVariants as owners
+use Rattle.pagable_world.specs.declared.rows.Mode.TheVariants as modes
+use Rattle.pagable_world.specs.declared.calls.Call.TheVariants as calls
+use Rattle.pagable_world.specs.declared.calls.Reply.TheVariants as replies
+use Rattle.pagable_model.specs.declared.data_key.OptionalDataKey.TheVariants as optional
+use Rattle.pagable_world.specs.Kinds.{find_row, is_loose, any_mode, fits_mode, is_pinned, is_unpinned, mode_of, owner_value}
+use Rattle.pagable_world.specs.World.{Core, Alike, Seen, Values}
+use Rattle.pagable_world.specs.Refusals.{Owns}
+use Rattle.pagable_world.specs.Cascade.{Falls, FallsAnyhow, only_handle}
+use Rattle.pagable_world.specs.Calls.{with_handle, with_mode, with_node, with_key, with_known, next_node, moved, is_named_by, BirthCall, LetsGo, UnpinCall, ReleaseCall, SetKeyCall, ScheduleCall, TakeCall, RecallCall, OfferCall, IsRefused, ClearCall, CloseCall}
+use Rattle.pagable_world.specs.LoadCalls.{AdoptCall, LazyCall, EndCall, HandOverCall, DropCall, with_pin, without_load, first_key}
+use Rattle.pagable_world.specs.Events.{Does}
+use Rattle.pagable_world.specs.Pager.{CallBrings, IsNewNode}
+use Rattle.pagable_world.specs.Runs.{KeepsOpen}
+use Rattle.pagable_laws.specs.TreeSteps.{Change, nothing_felt, sets_key, knows_node, bears_node, bears_known, CallFeels, feels-nothing, feels-birth, feels-away, feels-key, feels-known, feels-adopted, feels-lazy, feels-end, StaysAway}
+use Rattle.pagable_laws.proofs.Goes.{RowsGo, Quiet, Goes, NotLoads, rows-self, rows-then, rows-mode, rows-moved, Changed, found-changed, quiet-then, alike, only-rows, fell, fell-anyhow, a-handle, quiet-goes, goes-quiet, born, keyed, goes-known, adopts}
+use Rattle.pagable_laws.proofs.GoodReferences.{good, alike-away, fell-away}
+use Rattle.pagable_laws.proofs.Calling.{own-mode, made-handle, some-moved, closed-load, was-asked, stores, clones, pins, begins, begins-key, gets-known, asks, closes}
+
+le-self : (n : ℕ) → n ≤ n
+le-self n = omega arith
+
+some-is : {x y : HandleRow} → Some x ≡ Some y → x ≡ y
+some-is is = cc
+
+pub refused-call : {cause : Option Error} {w w' : Core} (r : Result (Unit {0}) Error) → IsRefused cause w r w' → Quiet w w'
+refused-call r c = alike c.stays
+
+module _ {w w' : Core} {me : Owner} (free : NotLoads me) where
+  pub unpins : (h : HandleNumber) (r : Result (Unit {0}) Error) → UnpinCall w me h r w' → Quiet w w'
+  unpins h r c = elim c.does [
+    | inl refused ↦ refused-call r refused
+    | inr (row, owns, inl (mode, told, a)) ↦ alike a
+    | inr (row, owns, inr (mode, f)) ↦ quiet-then (own-mode w me h is_loose row modes.LooseUnpinned refl free owns) (fell f)
+  ]
+
+  pub releases : (h : HandleNumber) (r : Result (Unit {0}) Error) → ReleaseCall w me h r w' → Quiet w w'
+  releases h r c = elim c.does [
+    | inl refused ↦ refused-call r refused
+    | inr (row, owns, f) ↦ fell f
+  ]
+
+  pub schedules : (h : HandleNumber) (r : Result (Unit {0}) Error) → ScheduleCall w me h r w' → Quiet w w'
+  schedules h (Ok u) c = elim c.moves.2 [
+    | inl (open_still, a) ↦ quiet-then (some-moved w (only_handle h) owners.List _ (λ l is. absurd (cc))) (alike a)
+    | inr (closed, f) ↦ fell-anyhow f
+  ]
+  schedules h (Err e) c = alike c.refused.stays
+
+  pub takes : (i : ℕ) (h : Option HandleNumber) → TakeCall w me i h w' → Quiet w w'
+  takes i (Some h) c = quiet-then (some-moved w (only_handle h) me _ free) (alike c.1)
+  takes i None c = alike c.1
+
+  pub recalls : (kind : Kind) (key : ℕ) (r : Result (Option HandleNumber) Error) → RecallCall w me kind key r w' → Quiet w w'
+  recalls kind key (Ok (Some k)) c = made-handle _ _ _ c.answers.3
+  recalls kind key (Ok None) c = alike c.answers.1
+  recalls kind key (Err e) c = alike c.refused.stays
+
+  pub drops : (l : LoadNumber) (r : Result (Unit {0}) Error) → DropCall w me l r w' → Quiet w w'
+  drops l r c = elim c.does [
+    | inl refused ↦ refused-call r refused
+    | inr (load, owned, closing) ↦ closes l closing
+  ]
+
+  pub hands-over : (l : LoadNumber) (hs : List HandleNumber) (r : Result (Unit {0}) Error) → HandOverCall w me l hs r w' → Quiet w w'
+  hands-over l hs (Ok u) c = quiet-then (quiet-then (closed-load w l) (some-moved (without_load w l) _ me w.list free)) (fell-anyhow c.hands.1)
+  hands-over l hs (Err e) c = alike c.refused.1
+
+pub cleared : {w w' : Core} (r : Result (Unit {0}) Error) → ClearCall w r w' → Quiet w w'
+cleared {w} r c = quiet-then none-known (alike c.leaves)
+  where
+    none-known : Quiet w (record w { cache = λ kind key. None })
+    none-known =
+        record {
+          nodes = le-self _;
+          handles = le-self _;
+          loads_last = le-self _;
+          cells = λ n cell is. is;
+          stored = λ q blob is. is;
+          loads = λ l load is. is;
+          cache = λ kind key n is. absurd (cc);
+          rows = rows-self w.last.handle w.rows w.rows refl;
+        }
+
+-- a change, with what it does and how it is felt
+pub record CallGoes {N B : Type 0} (v : Values N) (w : Core) (me : Owner) (call : Call N B) (reply : Reply N B) (w' : Core) : Type 0 where
+  pub change : Change
+  pub goes : Goes change w w'
+  pub feels : CallFeels v w me call reply w' change
+
+module _ {N B W : Type 0} (m : Seen N B W) (w : Core) (me : Owner) (free : NotLoads me) (w' : Core) where
+  abbrev CG : Call N B → Reply N B → Type 0
+  CG call reply = CallGoes m.values w me call reply w'
+
+  -- nothing is felt, and the call brings no value
+  quiet : {call : Call N B} {reply : Reply N B} → ((n : ℕ) (x : N) → CallBrings w call n x → IsNewNode w n ⊎ StaysAway w w' n) → Quiet w w' → CG call reply
+  quiet brings q = record { change = nothing_felt; goes = quiet-goes nothing_felt q; feels = feels-nothing brings }
+
+  pub births : (call : Call N B) (x : N) (mode : Mode) → ((n : ℕ) (y : N) → CallBrings w call n y → (y ≡ x) × IsNewNode w n) → (r : Result HandleNumber (Error × N)) → BirthCall w me x (m.values.node_type x) (m.values.references x) mode r w' → CG call (replies.Made r)
+  births call x mode brings (Ok k) c =
+      let references = m.values.references x in
+      let t = m.values.node_type x in
+      record {
+        change = bears_node t optional.None;
+        goes = goes-quiet (born (bears_node t optional.None) w t optional.None references (refl, refl)) (made-handle (next_node w) mode me c.made.3);
+        feels = feels-birth x brings (good w me [] references c.made.0);
+      }
+  births call x mode brings (Err e) c = quiet (λ n y b. inl (brings n y b).1) (alike c.refused.1.stays)
+
+  pub sets : (h : HandleNumber) (key : ℕ) (r : Result (Unit {0}) Error) → SetKeyCall w me h key r w' → CG (calls.SetDataKey h key) (replies.Done r)
+  sets h key r c = elim c.does [
+    | inl refused ↦ quiet (λ n x b. absurd b) (refused-call r refused)
+    | inr (row, owns, inl (mode, told, a)) ↦ quiet (λ n x b. absurd b) (alike a)
+    | inr (row, owns, inr (loose, f)) ↦ record {
+        change = sets_key row.node.0 key;
+        goes = goes-quiet (keyed w row.node key) (fell f);
+        feels = feels-key h key row refl (record { live = owns.live; own = owns.own; as_asked = loose });
+      }
+  ]
+
+  offers : (kind : Kind) (key : ℕ) (h : HandleNumber) (r : Result (Option HandleNumber) Error) → OfferCall w me kind key h r w' → CG (calls.OnArcDeserialized kind key h) (replies.FromCache r)
+  offers kind key h (Ok None) c =
+      let row : HandleRow = c.answers.0 in
+      let owns = c.answers.1 in
+      record {
+        change = knows_node kind.0 key row.node.0;
+        goes = goes-quiet (goes-known (quiet-goes (knows_node kind.0 key row.node.0) (alike-self w)) kind key row.node (refl, refl, refl)) (alike c.answers.3.2);
+        feels = feels-known kind key h row refl refl (record { live = owns.live; own = owns.own; as_asked = refl }) c.answers.2;
+      }
+    where
+      alike-self : (w : Core) → Quiet w w
+      alike-self w = only-rows {list = w.list} (rows-self w.last.handle w.rows w.rows refl) (le-self _)
+  offers kind key h (Ok (Some k)) c = elim c.answers.3 [
+    | inl (closed, same, a) ↦ quiet (λ n x b. absurd b) (alike a)
+    | inr (open_still, (n, usable, next, f)) ↦ quiet (λ n x b. absurd b) (quiet-then (a-handle w _ _ me) (fell-anyhow f))
+  ]
+  offers kind key h (Err e) c = quiet (λ n x b. absurd b) (alike c.refused.stays)
+
+  pub adopting : (l : LoadNumber) (kind : Kind) (key : ℕ) (x : N) (r : Result HandleNumber (Error × N)) → AdoptCall w me l kind key x (m.values.node_type x) (m.values.references x) r w' → CG (calls.LoadAdopt l kind key x) (replies.Made r)
+  adopting l kind key x (Ok k) c = elim c.adopts.makes [
+    | inl (n, usable, f) ↦ quiet (λ n y b. inl b.1) (quiet-then (a-handle w _ _ (owners.Load l)) (fell-anyhow f))
+    | inr (none, few, a) ↦ record {
+        change = bears_known kind.0 key (first_key kind.0 key);
+        goes = goes-quiet (adopts w l kind key (first_key kind.0 key) (m.values.references x)) (alike a);
+        feels = feels-adopted l kind key x k refl refl c.adopts.typed (good w (owners.Load l) [] (m.values.references x) c.adopts.good);
+      }
+  ]
+  adopting l kind key x (Err e) c = quiet (λ n y b. inl b.1) (alike c.refused.1.stays)
+
+  pub lazily : (l : LoadNumber) (kind : Kind) (key : ℕ) (r : Result HandleNumber Error) → LazyCall w me l kind key r w' → CG (calls.LoadLazy l kind key) (replies.Handle r)
+  lazily l kind key (Ok k) c = elim c.makes.3 [
+    | inl known ↦ quiet (λ n x b. absurd b) (gets-known known)
+    | inr (none, few, next, a) ↦ record {
+        change = bears_known kind.0 key (optional.Some key);
+        goes = goes-quiet (adopts w l kind key (optional.Some key) []) (alike a);
+        feels = feels-lazy l kind key k refl refl;
+      }
+  ]
+  lazily l kind key (Err e) c = quiet (λ n x b. absurd b) (alike c.refused.stays)
+
+  -- the caller's handle was not a load's, and isn't one's after references have moved to the value
+  pinned-free : (h : HandleNumber) (s : ℕ → Bool) (n : ℕ) (row : HandleRow) → Owns w me h is_loose row → (r : HandleRow) → find_row h.0 (moved s (owner_value n) w.rows) ≡ Some r → NotLoads r.owner
+  pinned-free h s n row owns r found l is =
+      let c = found-changed (λ (r : HandleRow). s r.number.0) (λ row. record row { owner = owner_value n }) (λ r. refl) h.0 w.rows r found in
+      at c (s c.was.number.0) refl
+    where
+      at : (c : Changed (λ (r : HandleRow). s r.number.0) (λ row. record row { owner = owner_value n }) w.rows h.0 r) → (b : Bool) → s c.was.number.0 ≡ b → ⊥
+      at c true e = let f : r ≡ record c.was { owner = owner_value n } = rw e at c.is in let g : r.owner ≡ owner_value n = ap (λ (x : HandleRow). x.owner) f in absurd (cc)
+      at c false e =
+          let f : r ≡ c.was = rw e at c.is in
+          let g : row ≡ c.was = some-is (sym owns.live ∙ c.live) in
+          free l (sym owns.own ∙ (ap (λ (x : HandleRow). x.owner) g ∙ (sym (ap (λ (x : HandleRow). x.owner) f) ∙ is)))
+
+  pub ends-load : (l : LoadNumber) (x : N) (r : Result HandleNumber (Error × Option N)) → EndCall w me l x (m.values.node_type x) (m.values.references x) r w' → CG (calls.LoadEnd l x) (replies.LoadEnded r)
+  ends-load l x (Ok k) c =
+      let node = c.installs.0 in
+      let h = c.installs.1 in
+      let may = c.installs.2 in
+      let i = c.installs.3 in
+      let references = m.values.references x in
+      record {
+        change = nothing_felt;
+        goes = quiet-goes nothing_felt (elim i.falls [
+          | inl (away, f) ↦ quiet-then (quiet-then (quiet-then (closed-load w l) (some-moved (without_load w l) (is_named_by references) (owner_value node.0) w.list (λ l is. absurd (cc)))) (pin-of (record (without_load w l) { rows = moved (is_named_by references) (owner_value node.0) w.rows }) h node (pinned-free h (is_named_by references) node.0 i.row i.owned))) (fell-anyhow f)
+          | inr (there, f) ↦ quiet-then (quiet-then (closed-load w l) (quiet-then (own-mode (without_load w l) me h is_loose i.row modes.LoosePinned refl free (record { live = i.owned.live; own = i.owned.own; as_asked = i.owned.as_asked })) (a-handle _ node modes.Pinned me))) (fell-anyhow f)
+        ]);
+        feels = feels-end l x k refl refl (good w (owners.Load l) [] references may.good);
+      }
+    where
+      pin-of : (u : Core) (h : HandleNumber) (node : NodeNumber) → ((r : HandleRow) → find_row h.0 u.rows ≡ Some r → NotLoads r.owner) → Quiet u (with_pin u h node me)
+      pin-of u h node safe = quiet-then (only-rows (rows-mode u.last.handle u.rows h modes.LoosePinned refl safe) (le-self _)) (a-handle (with_mode u h modes.LoosePinned) node modes.Pinned me)
+  ends-load l x (Err (e, Some y)) c = quiet (λ n z b. inr (alike-away c.refused.1.stays n)) (alike c.refused.1.stays)
+  ends-load l x (Err (e, None)) c = quiet (λ n z b. inr (fell-away c.refused.closes n)) (closes l c.refused.closes)
+
+  none-come : {call : Call N B} {reply : Reply N B} → ((n : ℕ) (x : N) → CallBrings w call n x → ⊥) → Quiet w w' → CG call reply
+  none-come none q = quiet (λ n x b. absurd (none n x b)) q
+
+  pub calls-go : (call : Call N B) (reply : Reply N B) → KeepsOpen {N = N} {B = B} {W = W} (events.Call call) → Does m w me call reply w' → CG call reply
+  calls-go (calls.NewPinned x) (replies.Made r) stays c = births (calls.NewPinned x) x modes.Pinned (λ n y b. b) r c
+  calls-go (calls.NewPinned x) reply stays c = absurd c
+  calls-go (calls.NewLoose x) (replies.Made r) stays c = births (calls.NewLoose x) x modes.LoosePinned (λ n y b. b) r c
+  calls-go (calls.NewLoose x) reply stays c = absurd c
+  calls-go (calls.NewShared x) (replies.Made r) stays c = births (calls.NewShared x) x modes.Shared (λ n y b. b) r c
+  calls-go (calls.NewShared x) reply stays c = absurd c
+  calls-go (calls.NewPagedOut t key) (replies.Handle (Ok k)) stays c =
+      record {
+        change = bears_node t (optional.Some key);
+        goes = goes-quiet (born (bears_node t (optional.Some key)) w t (optional.Some key) [] (refl, refl)) (made-handle (next_node w) modes.LooseUnpinned me c.made.2);
+        feels = feels-away t key k refl refl;
+      }
+  calls-go (calls.NewPagedOut t key) (replies.Handle (Err e)) stays c = quiet (λ n x b. absurd b) (alike c.refused.stays)
+  calls-go (calls.NewPagedOut t key) reply stays c = absurd c
+  calls-go (calls.Clone h) (replies.Handle r) stays c = quiet (λ n x b. absurd b) (clones r c)
+  calls-go (calls.Clone h) reply stays c = absurd c
+  calls-go (calls.Pin h) (replies.Pin r) stays c = quiet (λ n x b. absurd b) (pins free r c)
+  calls-go (calls.Pin h) reply stays c = absurd c
+  calls-go (calls.Unpin h) (replies.Done r) stays c = quiet (λ n x b. absurd b) (unpins free h r c)
+  calls-go (calls.Unpin h) reply stays c = absurd c
+  calls-go (calls.Release h) (replies.Done r) stays c = quiet (λ n x b. absurd b) (releases free h r c)
+  calls-go (calls.Release h) reply stays c = absurd c
+  calls-go (calls.IntoPagable h) (replies.Handle (Ok k)) stays c = quiet (λ n x b. absurd b) (quiet-then (own-mode w me h is_pinned c.turned.0 modes.LoosePinned refl free c.turned.1) (alike c.turned.3))
+  calls-go (calls.IntoPagable h) (replies.Handle (Err e)) stays c = quiet (λ n x b. absurd b) (alike c.refused.1)
+  calls-go (calls.IntoPagable h) reply stays c = absurd c
+  calls-go (calls.SetDataKey h key) (replies.Done r) stays c = sets h key r c
+  calls-go (calls.SetDataKey h key) reply stays c = absurd c
+  calls-go (calls.Count h) (replies.Count r) stays c = quiet (λ n x b. absurd b) (alike c.1)
+  calls-go (calls.Count h) reply stays c = absurd c
+  calls-go (calls.Key h) (replies.KeyFound r) stays c = quiet (λ n x b. absurd b) (alike c.1)
+  calls-go (calls.Key h) reply stays c = absurd c
+  calls-go (calls.IsPagedOut h) (replies.Away r) stays c = quiet (λ n x b. absurd b) (alike c.1)
+  calls-go (calls.IsPagedOut h) reply stays c = absurd c
+  calls-go (calls.NodeOf h) (replies.Node r) stays c = quiet (λ n x b. absurd b) (alike c.1)
+  calls-go (calls.NodeOf h) reply stays c = absurd c
+  calls-go (calls.NodeLive k) (replies.NodeType t) stays c = quiet (λ n x b. absurd b) (alike c.1)
+  calls-go (calls.NodeLive k) reply stays c = absurd c
+  calls-go (calls.ScheduleForPaging h) (replies.Done r) stays c = quiet (λ n x b. absurd b) (schedules free h r c)
+  calls-go (calls.ScheduleForPaging h) reply stays c = absurd c
+  calls-go calls.Pending (replies.Length n) stays c = quiet (λ n x b. absurd b) (alike c.1)
+  calls-go calls.Pending reply stays c = absurd c
+  calls-go (calls.TakePending i) (replies.Taken h) stays c = quiet (λ n x b. absurd b) (takes free i h c)
+  calls-go (calls.TakePending i) reply stays c = absurd c
+  calls-go (calls.CacheGet kind key) (replies.FromCache r) stays c = quiet (λ n x b. absurd b) (recalls free kind key r c)
+  calls-go (calls.CacheGet kind key) reply stays c = absurd c
+  calls-go (calls.OnArcDeserialized kind key h) (replies.FromCache r) stays c = offers kind key h r c
+  calls-go (calls.OnArcDeserialized kind key h) reply stays c = absurd c
+  calls-go calls.CacheClear (replies.Done r) stays c = quiet (λ n x b. absurd b) (cleared r c)
+  calls-go calls.CacheClear reply stays c = absurd c
+  calls-go (calls.Fetch key) (replies.Fetched r) stays c = quiet (λ n x b. absurd b) (was-asked c.asked)
+  calls-go (calls.Fetch key) reply stays c = absurd c
+  calls-go (calls.Store b) (replies.Stored r) stays c = quiet (λ n x b. absurd b) (stores r c)
+  calls-go (calls.Store b) reply stays c = absurd c
+  calls-go calls.Flush (replies.Done r) stays c = quiet (λ n x b. absurd b) (was-asked c.asked)
+  calls-go calls.Flush reply stays c = absurd c
+  calls-go (calls.LoadBegin h) (replies.Begun r) stays c = record { change = nothing_felt; goes = begins r c; feels = feels-nothing (λ n x b. absurd b) }
+  calls-go (calls.LoadBegin h) reply stays c = absurd c
+  calls-go (calls.LoadKey key) (replies.Begun r) stays c = record { change = nothing_felt; goes = begins-key r c; feels = feels-nothing (λ n x b. absurd b) }
+  calls-go (calls.LoadKey key) reply stays c = absurd c
+  calls-go (calls.LoadFetch l want) (replies.LoadFound r) stays c = quiet (λ n x b. absurd b) (asks _ c)
+  calls-go (calls.LoadFetch l want) reply stays c = absurd c
+  calls-go (calls.LoadAdopt l kind key x) (replies.Made r) stays c = adopting l kind key x r c
+  calls-go (calls.LoadAdopt l kind key x) reply stays c = absurd c
+  calls-go (calls.LoadLazy l kind key) (replies.Handle r) stays c = lazily l kind key r c
+  calls-go (calls.LoadLazy l kind key) reply stays c = absurd c
+  calls-go (calls.LoadEnd l x) (replies.LoadEnded r) stays c = ends-load l x r c
+  calls-go (calls.LoadEnd l x) reply stays c = absurd c
+  calls-go (calls.LoadTake l hs) (replies.Done r) stays c = quiet (λ n x b. absurd b) (hands-over free l hs.items r c)
+  calls-go (calls.LoadTake l hs) reply stays c = absurd c
+  calls-go (calls.LoadDrop l) (replies.Done r) stays c = quiet (λ n x b. absurd b) (drops free l r c)
+  calls-go (calls.LoadDrop l) reply stays c = absurd c
+  calls-go (calls.Reserve k) (replies.Done r) stays c = quiet (λ n x b. absurd b) (alike c.stays)
+  calls-go (calls.Reserve k) reply stays c = absurd c
+  calls-go calls.Room (replies.Length n) stays c = quiet (λ n x b. absurd b) (alike c.1)
+  calls-go calls.Room reply stays c = absurd c
+  calls-go calls.Close reply stays c = absurd stays

@@ -1,0 +1,402 @@
+-- What a step does to the plain world as far as trees feel it, with no premise: the parts of which the summary of each call is made.
+use Rattle.std.proofs.Common.{◌≡◌, ℕ, zero, suc, ◌+◌, ◌<◌, ◌≤◌, ◌==◌, ◌&&◌, Bool, true, false, List, [], ◌∷◌, ◌++◌, refl, ap, sym, subst, ◌∙◌, inl, inr, arith}
+use Rattle.std.specs.Prelude.{Option, Some, None, ◌⊎◌, filter, not, nat_lt, map, length, if◌then◌else◌}
+use Rattle.std.proofs.lemmas.Bool.Decides.{nat_tests}
+use Rattle.pagable_world.specs.Plain.{Blob, ArcRef, Kind, type_of, HandleNumber, LoadNumber, NodeNumber, OptionalDataKey, changed, updated, if_there}
+use Rattle.pagable_world.specs.declared.handles.HandleRow.{HandleRow}
+use Rattle.pagable_world.specs.declared.handles.Owner.{Owner}
+use Rattle.pagable_world.specs.declared.rows.Mode.{Mode}
+use Rattle.pagable_world.specs.declared.handles.Owner.TheVariants as owners
+use Rattle.pagable_model.specs.declared.data_key.OptionalDataKey.TheVariants as optional
+use Rattle.pagable_world.specs.Kinds.{find_row, is_handle, mode_of, is_loose}
+use Rattle.pagable_world.specs.World.{Core, Cell, OpenLoad, Root, Last, Alike, type_at, key_at}
+use Rattle.pagable_world.specs.Cascade.{AreNewEntries, Falls, FallsAnyhow, fallen, left_rows}
+use Rattle.pagable_world.specs.Calls.{row_of, with_handle, with_mode, with_node, with_key, with_cached, next_node, moved}
+use Rattle.pagable_world.specs.LoadCalls.{with_load, adopted}
+use Rattle.pagable_laws.specs.TreeSteps.{Change, nothing_felt, sets_key, bears_known, Sets, Knows, Bears, BeginsWell}
+
+-- the row of a handle before: at the same node, and the same if it is a load's now; a loose handle stays loose
+pub record Was (rows : List HandleRow) (q : ℕ) (row : HandleRow) : Type 0 where
+  pub was : HandleRow
+  pub live : find_row q rows ≡ Some was
+  pub at : was.node ≡ row.node
+  pub mine : (l : LoadNumber) → row.owner ≡ owners.Load l → was ≡ row
+  pub loose : is_loose was.mode ≡ true → is_loose row.mode ≡ true
+
+-- each handle up to this number was there
+abbrev pub RowsGo : ℕ → List HandleRow → List HandleRow → Type 0
+RowsGo last rows rows' = (q : ℕ) (row : HandleRow) → find_row q rows' ≡ Some row → q ≤ last → Was rows q row
+
+-- a step that sets no key, bears no node, begins no load and lets the cache know nothing
+pub record Quiet (w w' : Core) : Type 0 where
+  pub nodes : w.last.node ≤ w'.last.node
+  pub handles : w.last.handle ≤ w'.last.handle
+  pub loads_last : w.last.load ≤ w'.last.load
+  pub cells : (n : ℕ) (cell : Cell) → w'.cells n ≡ Some cell → w.cells n ≡ Some cell
+  pub stored : (q : ℕ) (b : Blob) → w.stored q ≡ Some b → w'.stored q ≡ Some b
+  pub loads : (l : ℕ) (load : OpenLoad) → w'.loads l ≡ Some load → w.loads l ≡ Some load
+  pub cache : (kind key n : ℕ) → w'.cache kind key ≡ Some n → w.cache kind key ≡ Some n
+  pub rows : RowsGo w.last.handle w.rows w'.rows
+
+-- a cell that was there, but for a key that it may get
+pub record Kept (c : Change) (w : Core) (n : ℕ) (cell : Cell) : Type 0 where
+  pub was : Cell
+  pub live : w.cells n ≡ Some was
+  pub typed : cell.node_type ≡ was.node_type
+  pub key : (cell.key ≡ was.key) ⊎ ((key : ℕ) × Sets c n key × (cell.key ≡ optional.Some key))
+
+pub record Goes (c : Change) (w w' : Core) : Type 0 where
+  pub nodes : w.last.node ≤ w'.last.node
+  pub handles : w.last.handle ≤ w'.last.handle
+  pub loads_last : w.last.load ≤ w'.last.load
+  pub cells : (n : ℕ) (cell : Cell) → w'.cells n ≡ Some cell → Kept c w n cell ⊎ ((n ≡ w.last.node + 1) × Bears c cell.node_type cell.key)
+  pub stored : (q : ℕ) (b : Blob) → w.stored q ≡ Some b → w'.stored q ≡ Some b
+  pub loads : (l : ℕ) (load : OpenLoad) → w'.loads l ≡ Some load → (w.loads l ≡ Some load) ⊎ ((w.last.load < l) × BeginsWell w load)
+  pub cache : (kind key n : ℕ) → w'.cache kind key ≡ Some n → (w.cache kind key ≡ Some n) ⊎ Knows c w kind key n
+  pub rows : RowsGo w.last.handle w.rows w'.rows
+
+-- ---- rows
+
+pub rows-self : (last : ℕ) (rows rows' : List HandleRow) → rows' ≡ rows → RowsGo last rows rows'
+rows-self last rows rows' same q row found few = record { was = row; live = subst (λ r. find_row q r ≡ Some row) same found; at = refl; mine = λ l is. refl; loose = λ is. is }
+
+pub rows-then : (last more : ℕ) (rows mid rows' : List HandleRow) → last ≤ more → RowsGo last rows mid → RowsGo more mid rows' → RowsGo last rows rows'
+rows-then last more rows mid rows' le first second q row found few =
+    let b = second q row found (omega arith) in
+    let a = first q b.was b.live few in
+    record { was = a.was; live = a.live; at = a.at ∙ b.at; mine = λ l is. let e = b.mine l is in a.mine l (ap (λ (r : HandleRow). r.owner) e ∙ is) ∙ e; loose = λ is. b.loose (a.loose is) }
+
+same-number : (a b : ℕ) → (a == b) ≡ true → a ≡ b
+same-number a b e = grind (arith, nat_tests)
+
+-- what is found has the number
+pub found-number : (q : ℕ) (rows : List HandleRow) (row : HandleRow) → find_row q rows ≡ Some row → row.number.0 ≡ q
+unfolding find_row
+found-number q [] row found = absurd (cc)
+found-number q (h ∷ hs) row found = at (λ f. found-number q hs row f) (is_handle q h) refl found
+  where
+    at : (find_row q hs ≡ Some row → row.number.0 ≡ q) → (b : Bool) → is_handle q h ≡ b → (if b then Some h else find_row q hs) ≡ Some row → row.number.0 ≡ q
+    at rest true is found = let e : h ≡ row = cc in sym (ap (λ (r : HandleRow). r.number.0) e) ∙ same-number _ _ is
+    at rest false is found = rest found
+
+-- a handle that is found in a changed row was found before
+pub record Changed (test : HandleRow → Bool) (f : HandleRow → HandleRow) (rows : List HandleRow) (q : ℕ) (row : HandleRow) : Type 0 where
+  pub was : HandleRow
+  pub live : find_row q rows ≡ Some was
+  pub is : row ≡ (if test was then f was else was)
+
+pub found-changed : (test : HandleRow → Bool) (f : HandleRow → HandleRow) → ((h : HandleRow) → (f h).number ≡ h.number) → (q : ℕ) (rows : List HandleRow) (row : HandleRow) → find_row q (changed test f rows) ≡ Some row → Changed test f rows q row
+unfolding find_row
+found-changed test f same q [] row found = absurd (cc)
+found-changed test f same q (h ∷ hs) row found = at (λ e. found-changed test f same q hs row e) (is_handle q h) refl
+  where
+    rest : Changed test f hs q row → is_handle q h ≡ false → Changed test f (h ∷ hs) q row
+    rest c other = record { was = c.was; live = rw other c.live; is = c.is }
+
+    number : (b : Bool) → (if b then f h else h).number ≡ h.number
+    number true = same h
+    number false = refl
+
+    at : (find_row q (changed test f hs) ≡ Some row → Changed test f hs q row) → (d : Bool) → is_handle q h ≡ d → Changed test f (h ∷ hs) q row
+    at back true is =
+        let there : is_handle q (if test h then f h else h) ≡ true = ap (λ (k : HandleNumber). k.0 == q) (number (test h)) ∙ is in
+        let found' : Some (if test h then f h else h) ≡ Some row = rw there at found in
+        record { was = h; live = rw is refl; is = cc }
+    at back false is =
+        let there : is_handle q (if test h then f h else h) ≡ false = ap (λ (k : HandleNumber). k.0 == q) (number (test h)) ∙ is in
+        let found' : find_row q (changed test f hs) ≡ Some row = rw there at found in
+        rest (back found') is
+
+
+abbrev pub NotLoads : Owner → Type 0
+NotLoads o = (l : LoadNumber) → o ≡ owners.Load l → ⊥
+
+pub rows-mode : (last : ℕ) (rows : List HandleRow) (h : HandleNumber) (mode : Mode) → is_loose mode ≡ true → ((r : HandleRow) → find_row h.0 rows ≡ Some r → NotLoads r.owner) → RowsGo last rows (changed (is_handle h.0) (λ row. record row { mode = mode }) rows)
+rows-mode last rows h mode is_so free q row found few = let c = found-changed (is_handle h.0) (λ row. record row { mode = mode }) (λ r. refl) q rows row found in at c (is_handle h.0 c.was) refl
+  where
+    at : (c : Changed (is_handle h.0) (λ row. record row { mode = mode }) rows q row) → (b : Bool) → is_handle h.0 c.was ≡ b → Was rows q row
+    at c true is =
+        let e : row ≡ record c.was { mode = mode } = rw is at c.is in
+        let n : q ≡ h.0 = sym (found-number q rows c.was c.live) ∙ same-number _ _ is in
+        let o : row.owner ≡ c.was.owner = ap (λ (r : HandleRow). r.owner) e in
+        record { was = c.was; live = c.live; at = sym (ap (λ (r : HandleRow). r.node) e); mine = λ l mine. absurd (free c.was (subst (λ k. find_row k rows ≡ Some c.was) n c.live) l (sym o ∙ mine)); loose = λ was. ap is_loose (ap (λ (r : HandleRow). r.mode) e) ∙ is_so }
+    at c false is = let e : row ≡ c.was = rw is at c.is in record { was = c.was; live = c.live; at = sym (ap (λ (r : HandleRow). r.node) e); mine = λ l mine. sym e; loose = λ was. ap is_loose (ap (λ (r : HandleRow). r.mode) e) ∙ was }
+
+pub rows-moved : (last : ℕ) (rows : List HandleRow) (s : ℕ → Bool) (owner : Owner) → NotLoads owner → RowsGo last rows (moved s owner rows)
+rows-moved last rows s owner free q row found few = let c = found-changed (λ (r : HandleRow). s r.number.0) (λ row. record row { owner = owner }) (λ r. refl) q rows row found in at c (s c.was.number.0) refl
+  where
+    at : (c : Changed (λ (r : HandleRow). s r.number.0) (λ row. record row { owner = owner }) rows q row) → (b : Bool) → s c.was.number.0 ≡ b → Was rows q row
+    at c true is =
+        let e : row ≡ record c.was { owner = owner } = rw is at c.is in
+        record { was = c.was; live = c.live; at = sym (ap (λ (r : HandleRow). r.node) e); mine = λ l mine. absurd (free l (sym (ap (λ (r : HandleRow). r.owner) e) ∙ mine)); loose = λ was. ap is_loose (ap (λ (r : HandleRow). r.mode) e) ∙ was }
+    at c false is = let e : row ≡ c.was = rw is at c.is in record { was = c.was; live = c.live; at = sym (ap (λ (r : HandleRow). r.node) e); mine = λ l mine. sym e; loose = λ was. ap is_loose (ap (λ (r : HandleRow). r.mode) e) ∙ was }
+
+other-number : (q n last : ℕ) → q ≤ last → n ≡ last + 1 → (n == q) ≡ false
+other-number q n last few next = grind (arith, nat_tests)
+
+-- handles that come at the end have greater numbers
+pub rows-more : (last : ℕ) (rows more : List HandleRow) → ((q : ℕ) → q ≤ last → find_row q more ≡ None) → RowsGo last rows (rows ++ more)
+unfolding find_row
+rows-more last [] more new q row found few = let none = new q few in absurd (cc)
+rows-more last (h ∷ hs) more new q row found few = at (λ f. rows-more last hs more new q row f few) (is_handle q h) refl found
+  where
+    at : (find_row q (hs ++ more) ≡ Some row → Was hs q row) → (b : Bool) → is_handle q h ≡ b → (if b then Some h else find_row q (hs ++ more)) ≡ Some row → Was (h ∷ hs) q row
+    at back true is found = let e : h ≡ row = cc in record { was = h; live = rw is refl; at = ap (λ (r : HandleRow). r.node) e; mine = λ l mine. e; loose = λ was. ap is_loose (sym (ap (λ (r : HandleRow). r.mode) e)) ∙ was }
+    at back false is found = let w = back found in record { was = w.was; live = rw is w.live; at = w.at; mine = w.mine; loose = w.loose }
+
+pub none-in-new : (last q : ℕ) (entries : List HandleRow) → AreNewEntries last entries → q ≤ last → find_row q entries ≡ None
+unfolding find_row
+none-in-new last q [] new few = refl
+none-in-new last q (h ∷ hs) (number, mode, owner, new) few = let a : is_handle q h ≡ false = other-number q h.number.0 last few number in rw a (none-in-new (last + 1) q hs new (omega arith))
+
+pub none-in-next : (last q : ℕ) (h : HandleRow) → h.number.0 ≡ last + 1 → q ≤ last → find_row q (h ∷ []) ≡ None
+unfolding find_row
+none-in-next last q h next few = let a : is_handle q h ≡ false = other-number q h.number.0 last few next in rw a refl
+
+-- what is left was there
+pub found-left : (gone : ℕ → Bool) (q : ℕ) (rows : List HandleRow) (row : HandleRow) → find_row q (left_rows gone rows) ≡ Some row → (find_row q rows ≡ Some row) × (gone q ≡ false)
+unfolding find_row
+found-left gone q [] row found = absurd (cc)
+found-left gone q (h ∷ hs) row found = at (λ f. found-left gone q hs row f) (gone h.number.0) refl (is_handle q h) refl
+  where
+    at : (find_row q (left_rows gone hs) ≡ Some row → (find_row q hs ≡ Some row) × (gone q ≡ false)) → (b : Bool) → gone h.number.0 ≡ b → (d : Bool) → is_handle q h ≡ d → (find_row q (h ∷ hs) ≡ Some row) × (gone q ≡ false)
+    at back true goes true is =
+        let f : find_row q (left_rows gone hs) ≡ Some row = rw goes at found in
+        let b = back f in
+        let e : gone q ≡ true = sym (ap gone (same-number _ _ is)) ∙ goes in
+        absurd (cc)
+    at back true goes false is = let f : find_row q (left_rows gone hs) ≡ Some row = rw goes at found in let b = back f in (rw is b.0, b.1)
+    at back false goes true is = let f : find_row q (h ∷ left_rows gone hs) ≡ Some row = rw goes at found in let g : Some h ≡ Some row = rw is at f in (rw is g, sym (ap gone (same-number _ _ is)) ∙ goes)
+    at back false goes false is = let f : find_row q (h ∷ left_rows gone hs) ≡ Some row = rw goes at found in let g : find_row q (left_rows gone hs) ≡ Some row = rw is at f in let b = back g in (rw is b.0, b.1)
+
+pub rows-left : (last : ℕ) (rows : List HandleRow) (gone : ℕ → Bool) → RowsGo last rows (left_rows gone rows)
+rows-left last rows gone q row found few = record { was = row; live = (found-left gone q rows row found).0; at = refl; mine = λ l is. refl; loose = λ is. is }
+
+-- ---- quiet steps
+
+pub quiet-then : {w m w' : Core} → Quiet w m → Quiet m w' → Quiet w w'
+quiet-then {w} {m} {w'} a b =
+    record {
+      nodes = let c = a.nodes in let d = b.nodes in omega arith;
+      handles = let c = a.handles in let d = b.handles in omega arith;
+      loads_last = let c = a.loads_last in let d = b.loads_last in omega arith;
+      cells = λ n cell is. a.cells n cell (b.cells n cell is);
+      stored = λ q blob is. b.stored q blob (a.stored q blob is);
+      loads = λ l load is. a.loads l load (b.loads l load is);
+      cache = λ kind key n is. a.cache kind key n (b.cache kind key n is);
+      rows = rows-then w.last.handle m.last.handle w.rows m.rows w'.rows a.handles a.rows b.rows;
+    }
+
+le-of : (a b : ℕ) → b ≡ a → a ≤ b
+le-of a b is = omega arith
+
+pub alike : {w w' : Core} → Alike w w' → Quiet w w'
+alike {w} {w'} a =
+    record {
+      nodes = le-of _ _ (ap (λ (l : Last). l.node) a.last);
+      handles = le-of _ _ (ap (λ (l : Last). l.handle) a.last);
+      loads_last = le-of _ _ (ap (λ (l : Last). l.load) a.last);
+      cells = λ n cell is. sym (a.cells n) ∙ is;
+      stored = λ q blob is. a.stored q ∙ is;
+      loads = λ l load is. sym (a.loads l) ∙ is;
+      cache = a.cache.only;
+      rows = rows-self w.last.handle w.rows w'.rows a.rows;
+    }
+
+-- rows and list alone change
+pub only-rows : {w : Core} {rows : List HandleRow} {list : List HandleNumber} {last : ℕ} → RowsGo w.last.handle w.rows rows → w.last.handle ≤ last → Quiet w (record w { rows = rows; list = list; last = record w.last { handle = last } })
+only-rows {w} go le =
+    record { nodes = le-self w.last.node; handles = le; loads_last = le-self w.last.load; cells = λ n cell is. is; stored = λ q blob is. is; loads = λ l load is. is; cache = λ kind key n is. is; rows = go }
+  where
+    le-self : (n : ℕ) → n ≤ n
+    le-self n = omega arith
+
+if-some : {X : Type 0} (b : Bool) (x : Option X) (y : X) → (if b then x else None) ≡ Some y → x ≡ Some y
+if-some true x y is = is
+if-some false x y is = absurd (cc)
+
+le-more : (a b : ℕ) → a ≤ a + b
+le-more a b = omega arith
+
+pub fell : {before w w' : Core} {given : ℕ → Bool} {r : _} → Falls before w given r w' → Quiet w w'
+fell {before} {w} {w'} f = quiet-then {m = fallen w f.gone f.entries} falls (alike f.leaves)
+  where
+    falls : Quiet w (fallen w f.gone f.entries)
+    falls =
+        record {
+          nodes = le-of _ _ refl;
+          handles = le-more _ _;
+          loads_last = le-of _ _ refl;
+          cells = λ n cell is. if-some _ (w.cells n) cell is;
+          stored = λ q blob is. is;
+          loads = λ l load is. is;
+          cache = λ kind key n is. is;
+          rows = rows-then w.last.handle w.last.handle w.rows (left_rows f.gone w.rows) _ (le-of _ _ refl) (rows-left w.last.handle w.rows f.gone) (rows-more w.last.handle (left_rows f.gone w.rows) f.entries (λ q few. none-in-new w.last.handle q f.entries f.new few));
+        }
+
+pub fell-anyhow : {before w w' : Core} {given : ℕ → Bool} → FallsAnyhow before w given w' → Quiet w w'
+fell-anyhow f = fell f.falls
+
+pub a-handle : (w : Core) (node : NodeNumber) (mode : Mode) (owner : Owner) → Quiet w (with_handle w node mode owner)
+a-handle w node mode owner = only-rows (rows-more w.last.handle w.rows _ (λ q few. none-in-next w.last.handle q (row_of (w.last.handle + 1) node mode owner) refl few)) (le-more _ _)
+
+-- ---- steps that are felt
+
+le-self : (n : ℕ) → n ≤ n
+le-self n = omega arith
+
+pub quiet-goes : (c : Change) {w w' : Core} → Quiet w w' → Goes c w w'
+quiet-goes c q =
+    record {
+      nodes = q.nodes;
+      handles = q.handles;
+      loads_last = q.loads_last;
+      cells = λ n cell is. inl (record { was = cell; live = q.cells n cell is; typed = refl; key = inl refl });
+      stored = q.stored;
+      loads = λ l load is. inl (q.loads l load is);
+      cache = λ kind key n is. inl (q.cache kind key n is);
+      rows = q.rows;
+    }
+
+pub goes-quiet : {c : Change} {w m w' : Core} → Goes c w m → Quiet m w' → Goes c w w'
+goes-quiet {c} {w} {m} {w'} a b =
+    record {
+      nodes = let c = a.nodes in let d = b.nodes in omega arith;
+      handles = let c = a.handles in let d = b.handles in omega arith;
+      loads_last = let c = a.loads_last in let d = b.loads_last in omega arith;
+      cells = λ n cell is. a.cells n cell (b.cells n cell is);
+      stored = λ q blob is. b.stored q blob (a.stored q blob is);
+      loads = λ l load is. a.loads l load (b.loads l load is);
+      cache = λ kind key n is. a.cache kind key n (b.cache kind key n is);
+      rows = rows-then w.last.handle m.last.handle w.rows m.rows w'.rows a.handles a.rows b.rows;
+    }
+
+-- at a number, or elsewhere
+pub at-updated : {X : Type 0} (m : ℕ) (x : Option X) (f : ℕ → Option X) (n : ℕ) (y : X) → updated m x f n ≡ Some y → ((n ≡ m) × (x ≡ Some y)) ⊎ (f n ≡ Some y)
+at-updated m x f n y is = at (n == m) refl is
+  where
+    at : (b : Bool) → (n == m) ≡ b → (if b then x else f n) ≡ Some y → ((n ≡ m) × (x ≡ Some y)) ⊎ (f n ≡ Some y)
+    at true e is = inl (same-number _ _ e, is)
+    at false e is = inr is
+
+pub born : (c : Change) (w : Core) (t : ℕ) (key : OptionalDataKey) (references : List ArcRef) → Bears c t key → Goes c w (with_node w t key references)
+born c w t key references bears =
+    record {
+      nodes = le-more _ _;
+      handles = le-self _;
+      loads_last = le-self _;
+      cells = λ n cell is. elim (at-updated _ _ w.cells n cell is) [
+        | inl (next, e) ↦ let f : record { node_type = t; key = key } ≡ cell = cc in inr (next, subst (λ (x : Cell). Bears c x.node_type x.key) f bears)
+        | inr there ↦ inl (record { was = cell; live = there; typed = refl; key = inl refl })
+      ];
+      stored = λ q blob is. is;
+      loads = λ l load is. inl is;
+      cache = λ kind q n is. inl is;
+      rows = rows-moved w.last.handle w.rows _ _ (λ l is. absurd (cc));
+    }
+
+keyed-cell : (w : Core) (m : ℕ) (key : ℕ) (cell : Cell) (found : Option Cell) → w.cells m ≡ found → if_there (λ (x : Cell). Some (record x { key = optional.Some key })) None found ≡ Some cell → Kept (sets_key m key) w m cell
+keyed-cell w m key cell None there is = absurd (cc)
+keyed-cell w m key cell (Some was) there is = let e : record was { key = optional.Some key } ≡ cell = cc in record { was = was; live = there; typed = sym (ap (λ (x : Cell). x.node_type) e); key = inr (key, (refl, refl), sym (ap (λ (x : Cell). x.key) e)) }
+
+pub keyed : (w : Core) (node : NodeNumber) (key : ℕ) → Goes (sets_key node.0 key) w (with_key w node key)
+keyed w node key =
+    record {
+      nodes = le-self _;
+      handles = le-self _;
+      loads_last = le-self _;
+      cells = λ n cell is. elim (at-updated _ _ w.cells n cell is) [
+        | inl (at, e) ↦ inl (subst (λ k. Kept (sets_key node.0 key) w k cell) (sym at) (keyed-cell w node.0 key cell (w.cells node.0) refl e))
+        | inr there ↦ inl (record { was = cell; live = there; typed = refl; key = inl refl })
+      ];
+      stored = λ q blob is. is;
+      loads = λ l load is. inl is;
+      cache = λ kind q n is. inl is;
+      rows = rows-self w.last.handle w.rows w.rows refl;
+    }
+
+pub begun : (c : Change) (w : Core) (key : ℕ) (root : Root) (me : Owner) → BeginsWell w (record { owner = me; key = key; root = root }) → Goes c w (with_load w key root me)
+begun c w key root me well =
+    record {
+      nodes = le-self _;
+      handles = le-self _;
+      loads_last = le-more _ _;
+      cells = λ n cell is. inl (record { was = cell; live = is; typed = refl; key = inl refl });
+      stored = λ q blob is. is;
+      loads = λ l load is. elim (at-updated _ _ w.loads l load is) [
+        | inl (at, e) ↦ let f : record { owner = me; key = key; root = root } ≡ load = cc in inr (next-above l w.last.load at, subst (λ (x : OpenLoad). BeginsWell w x) f well)
+        | inr there ↦ inl there
+      ];
+      cache = λ kind q n is. inl is;
+      rows = rows-self w.last.handle w.rows w.rows refl;
+    }
+  where
+    next-above : (l last : ℕ) → l ≡ last + 1 → last < l
+    next-above l last is = omega arith
+
+-- the cells that a quiet step leaves are the ones that a load that begins then is of
+pub quiet-begins : {w m w' : Core} → Quiet w m → Goes nothing_felt m w' → Goes nothing_felt w w'
+quiet-begins {w} {m} {w'} a b =
+    record {
+      nodes = let c = a.nodes in let d = b.nodes in omega arith;
+      handles = let c = a.handles in let d = b.handles in omega arith;
+      loads_last = let c = a.loads_last in let d = b.loads_last in omega arith;
+      cells = λ n cell is. elim (b.cells n cell is) [
+        | inl k ↦ inl (record { was = k.was; live = a.cells n k.was k.live; typed = k.typed; key = kept-key k })
+        | inr (next, bears) ↦ absurd bears
+      ];
+      stored = λ q blob is. b.stored q blob (a.stored q blob is);
+      loads = λ l load is. elim (b.loads l load is) [
+        | inl there ↦ inl (a.loads l load there)
+        | inr (above, well) ↦ inr (let c = a.loads_last in omega arith, λ node t h root. let k = well node t h root in both node.0 t load.key (m.cells node.0) refl k.0 k.1)
+      ];
+      cache = λ kind key n is. elim (b.cache kind key n is) [
+        | inl there ↦ inl (a.cache kind key n there)
+        | inr known ↦ absurd known
+      ];
+      rows = rows-then w.last.handle m.last.handle w.rows m.rows w'.rows a.handles a.rows b.rows;
+    }
+  where
+    kept-key : {n : ℕ} {cell : Cell} → (k : Kept nothing_felt m n cell) → (cell.key ≡ k.was.key) ⊎ ((key : ℕ) × Sets nothing_felt n key × (cell.key ≡ optional.Some key))
+    kept-key k = elim k.key [
+      | inl same ↦ inl same
+      | inr (key, none, is) ↦ absurd none
+    ]
+
+    both : (n t key : ℕ) (found : Option Cell) → m.cells n ≡ found → type_at m n ≡ Some t → key_at m n ≡ optional.Some key → (type_at w n ≡ Some t) × (key_at w n ≡ optional.Some key)
+    both n t key None there typed own = let e : type_at m n ≡ None = rw there refl in absurd (cc)
+    both n t key (Some cell) there typed own =
+        let e : w.cells n ≡ m.cells n = a.cells n cell there ∙ sym there in
+        (ap (λ (x : Option Cell). if_there (λ (c : Cell). Some c.node_type) None x) e ∙ typed, ap (λ (x : Option Cell). if_there (λ (c : Cell). c.key) optional.None x) e ∙ own)
+
+at-cached : (k q m kind key n : ℕ) (old : Option ℕ) (b d : Bool) → (kind == k) ≡ b → (key == q) ≡ d → (if b && d then Some m else old) ≡ Some n → ((kind ≡ k) × (key ≡ q) × (n ≡ m)) ⊎ (old ≡ Some n)
+at-cached k q m kind key n old true true e f is = let g : m ≡ n = cc in inl (same-number _ _ e, same-number _ _ f, sym g)
+at-cached k q m kind key n old true false e f is = inr is
+at-cached k q m kind key n old false d e f is = inr is
+
+pub goes-known : {c : Change} {w m : Core} → Goes c w m → (kind : Kind) (key : ℕ) (n : NodeNumber) → Knows c w kind.0 key n.0 → Goes c w (with_cached m kind key n)
+goes-known {c} {w} {m} a kind key n knows =
+    record {
+      nodes = a.nodes;
+      handles = a.handles;
+      loads_last = a.loads_last;
+      cells = a.cells;
+      stored = a.stored;
+      loads = a.loads;
+      cache = λ k q there is. elim (at-cached kind.0 key n.0 k q there (m.cache k q) (k == kind.0) (q == key) refl refl is) [
+        | inl (e, f, g) ↦ inr (moved-to k q there e f g)
+        | inr old ↦ a.cache k q there old
+      ];
+      rows = a.rows;
+    }
+  where
+    moved-to : (k q there : ℕ) → k ≡ kind.0 → q ≡ key → there ≡ n.0 → Knows c w k q there
+    moved-to k q there e f g = subst (λ x. Knows c w x q there) (sym e) (subst (λ x. Knows c w kind.0 x there) (sym f) (subst (λ x. Knows c w kind.0 key x) (sym g) knows))
+
+pub goes-known-if : {c : Change} {w m : Core} → Goes c w m → (kind : Kind) (key : ℕ) (n : NodeNumber) → Knows c w kind.0 key n.0 → (b : Bool) → Goes c w (if b then m else with_cached m kind key n)
+goes-known-if a kind key n knows true = a
+goes-known-if a kind key n knows false = goes-known a kind key n knows
+
+pub adopts : (w : Core) (l : LoadNumber) (kind : Kind) (key : ℕ) (own : OptionalDataKey) (references : List ArcRef) → Goes (bears_known kind.0 key own) w (adopted w l kind key own references)
+adopts w l kind key own references =
+    goes-known-if (goes-quiet (born (bears_known kind.0 key own) w (type_of kind.0) own references (refl, refl)) (a-handle _ (next_node w) (mode_of kind.0) (owners.Load l))) kind key (next_node w) (refl, refl, refl) w.closed

@@ -1,0 +1,121 @@
+-- References that nothing is to be said against name handles of their owner, as they should. A handle that is given up doesn't bring a value back.
+use Rattle.std.proofs.Common.{◌≡◌, ℕ, zero, suc, ◌+◌, ◌<◌, ◌≤◌, ◌==◌, ◌&&◌, ◌||◌, Bool, true, false, List, [], ◌∷◌, ◌++◌, sum_by, cond, refl, ap, sym, subst, ◌∙◌, inl, inr, arith}
+use Rattle.std.specs.Prelude.{Option, Some, None, ◌⊎◌, filter, not, nat_lt, is_some, if◌then◌else◌}
+use Rattle.std.proofs.lemmas.Bool.Decides.{nat_tests}
+use Rattle.std.proofs.lemmas.List.Sums.{sum_by-cons}
+use Rattle.pagable_world.specs.Plain.{Error, ArcRef, NodeNumber, type_of, OptionalDataKey, is_in, or_else, if_there, one, Among}
+use Rattle.pagable_world.specs.declared.handles.Owner.{Owner}
+use Rattle.pagable_world.specs.declared.handles.HandleRow.{HandleRow}
+use Rattle.pagable_world.specs.declared.handles.Owner.TheVariants as owners
+use Rattle.pagable_world.specs.declared.rows.Mode.TheVariants as modes
+use Rattle.pagable_model.specs.declared.data_key.OptionalDataKey.TheVariants as optional
+use Rattle.pagable_model.specs.declared.error.Error.TheVariants as errors
+use Rattle.pagable_world.specs.Kinds.{is_owner, fits_mode, pins, is_pin, is_in_memory, is_pinning, has_key}
+use Rattle.pagable_world.specs.World.{Core, Cell, row_at, type_at, key_at, is_here, Alike}
+use Rattle.pagable_world.specs.Cascade.{AreNewEntries, Falls, left_rows}
+use Rattle.pagable_world.specs.Refusals.{refused_if, is_type, row_fault, reference_fault, references_fault, IsReference}
+use Rattle.pagable_laws.specs.TreeSteps.{AreGood, StaysAway}
+use Rattle.pagable_laws.proofs.Goes.{Quiet, alike, fell}
+
+or-none : {X : Type 0} (a b : Option X) → or_else a b ≡ None → (a ≡ None) × (b ≡ None)
+or-none None b is = (refl, is)
+or-none (Some x) b is = absurd (cc)
+
+same-number : (a b : ℕ) → (a == b) ≡ true → a ≡ b
+same-number a b e = grind (arith, nat_tests)
+
+pub same-owner : (o p : Owner) → is_owner o p ≡ true → p ≡ o
+same-owner owners.Caller owners.Caller is = refl
+same-owner owners.List owners.List is = refl
+same-owner (owners.Value n) (owners.Value k) is = ap (λ x. owners.Value (record { 0 = x })) (same-number k.0 n.0 is)
+same-owner (owners.Load n) (owners.Load k) is = ap (λ x. owners.Load (record { 0 = x })) (same-number k.0 n.0 is)
+same-owner (owners.Worker n) (owners.Worker k) is = ap (λ x. owners.Worker (record { 0 = x })) (same-number k.0 n.0 is)
+same-owner owners.Caller p is = absurd (cc)
+same-owner owners.List p is = absurd (cc)
+same-owner (owners.Value n) p is = absurd (cc)
+same-owner (owners.Load n) p is = absurd (cc)
+same-owner (owners.Worker n) p is = absurd (cc)
+
+typed-by : (t : ℕ) (found : Option ℕ) → is_type t found ≡ true → found ≡ Some t
+typed-by t None is = absurd (cc)
+typed-by t (Some u) is = ap (λ (x : ℕ). Some x) (same-number u t is)
+
+module _ (w : Core) (owner : Owner) where
+  good-one : (seen : List ℕ) (r : ArcRef) → reference_fault w owner seen r ≡ None → IsReference w owner r
+  good-one seen r none = by-row (row_at w r.handle) refl none
+    where
+      by-row : (found : Option HandleRow) → row_at w r.handle ≡ found → if_there (λ (row : HandleRow). row_fault w r (refused_if (not (is_owner owner row.owner) || is_in seen r.handle.0) errors.NotYours) row) (Some errors.NoSuchHandle) found ≡ None → IsReference w owner r
+      by-row None live none = absurd (cc)
+      by-row (Some row) live none = at (row.node.0 == r.node.0) refl (is_owner owner row.owner) refl (is_in seen r.handle.0) refl (fits_mode r.kind.0 row.mode) refl (is_type (type_of r.kind.0) (type_at w r.node.0)) refl
+        where
+          at : (a : Bool) → (row.node.0 == r.node.0) ≡ a → (b : Bool) → is_owner owner row.owner ≡ b → (c : Bool) → is_in seen r.handle.0 ≡ c → (d : Bool) → fits_mode r.kind.0 row.mode ≡ d → (e : Bool) → is_type (type_of r.kind.0) (type_at w r.node.0) ≡ e → IsReference w owner r
+          at false p b q c s d t e u = let f : Some errors.NoSuchHandle ≡ None = rw p at none in absurd (cc)
+          at true p false q c s d t e u = let f : Some errors.NotYours ≡ None = rw (p, q) at none in absurd (cc)
+          at true p true q true s d t e u = let f : Some errors.NotYours ≡ None = rw (p, q, s) at none in absurd (cc)
+          at true p true q false s false t e u = let f : Some errors.WrongMode ≡ None = rw (p, q, s, t) at none in absurd (cc)
+          at true p true q false s true t false u = let f : Some errors.WrongKind ≡ None = rw (p, q, s, t, u) at none in absurd (cc)
+          at true p true q false s true t true u =
+              record { row = row; live = live; at = ap (λ x. record { 0 = x }) (same-number row.node.0 r.node.0 p); owned = same-owner owner row.owner q; fits = t; typed = typed-by (type_of r.kind.0) (type_at w r.node.0) u }
+
+  pub good : (seen : List ℕ) (references : List ArcRef) → references_fault w owner seen references ≡ None → AreGood w owner references
+  unfolding references_fault
+  good seen [] none r (i, is) = absurd (cc)
+  good seen (x ∷ xs) none r (zero, is) = let e : x ≡ r = cc in subst (λ y. IsReference w owner y) e (good-one seen x (or-none _ _ none).0)
+  good seen (x ∷ xs) none r (suc i, is) = good (x.handle.0 ∷ seen) xs (or-none _ _ none).1 r (i, is)
+
+-- ---- values that are away
+
+away-by : (p q : ℕ) (key : OptionalDataKey) → q ≤ p → is_in_memory p key ≡ false → is_in_memory q key ≡ false
+away-by p zero key le is = at (nat_lt 0 p) is
+  where
+    at : (b : Bool) → (b || not (has_key key)) ≡ false → is_in_memory 0 key ≡ false
+    at true e = absurd (cc)
+    at false e = e
+away-by p (suc q) key le is = let e : nat_lt 0 p ≡ true = grind (arith, nat_tests) in let f : true ≡ false = rw e at is in absurd (cc)
+
+pub still-away : (w w' : Core) → Quiet w w' → ((n : ℕ) → pins n w'.rows ≤ pins n w.rows) → (n : ℕ) → StaysAway w w' n
+still-away w w' q fewer n away there = at (w'.cells n) refl there
+  where
+    at : (found : Option Cell) → w'.cells n ≡ found → is_some found ≡ true → is_here w' n ≡ false
+    at None e is = absurd (cc)
+    at (Some cell) e is =
+        let same : key_at w' n ≡ key_at w n = ap (λ (x : Option Cell). if_there (λ (c : Cell). c.key) optional.None x) (e ∙ sym (q.cells n cell e)) in
+        subst (λ k. is_in_memory (pins n w'.rows) k ≡ false) (sym same) (away-by (pins n w.rows) (pins n w'.rows) (key_at w n) (fewer n) away)
+
+pub alike-away : {w w' : Core} → Alike w w' → (n : ℕ) → StaysAway w w' n
+alike-away {w} {w'} a n = still-away w w' (alike a) (λ k. le-of _ _ (ap (pins k) a.rows)) n
+  where
+    le-of : (a b : ℕ) → b ≡ a → b ≤ a
+    le-of a b is = omega arith
+
+pin : ℕ → HandleRow → ℕ
+pin n h = one (is_pin n h)
+
+pins-left : (n : ℕ) (gone : ℕ → Bool) (rows more : List HandleRow) (k : ℕ) → pins n more ≡ 0 → pins n (left_rows gone rows ++ more) ≤ pins n rows
+pins-left n gone [] more k none = le-of _ none
+  where
+    le-of : (b : ℕ) → b ≡ 0 → b ≤ 0
+    le-of b is = omega arith
+pins-left n gone (h ∷ hs) more k none = at (gone h.number.0) (pins-left n gone hs more k none) (sum_by-cons (λ x. one (is_pin n x)) h hs) (sum_by-cons (λ x. one (is_pin n x)) h (left_rows gone hs ++ more))
+  where
+    at : (b : Bool) → pins n (left_rows gone hs ++ more) ≤ pins n hs → pins n (h ∷ hs) ≡ one (is_pin n h) + pins n hs → pins n (h ∷ left_rows gone hs ++ more) ≡ one (is_pin n h) + pins n (left_rows gone hs ++ more)
+        → pins n (cond (not b) (h ∷ left_rows gone hs) (left_rows gone hs) ++ more) ≤ pins n (h ∷ hs)
+    at true le a b = omega arith
+    at false le a b = omega arith
+
+entry-pins : (b : Bool) → one (b && false) ≡ 0
+entry-pins true = refl
+entry-pins false = refl
+
+no-pins : (n last : ℕ) (entries : List HandleRow) → AreNewEntries last entries → pins n entries ≡ 0
+no-pins n last [] new = refl
+no-pins n last (h ∷ hs) (number, mode, owner, new) =
+    let a : one (is_pin n h) ≡ 0 = rw mode (entry-pins _) in
+    let b = no-pins n (last + 1) hs new in
+    let c = sum_by-cons (λ x. one (is_pin n x)) h hs in omega arith
+
+pub fell-away : {before w w' : Core} {given : ℕ → Bool} {r : _} → Falls before w given r w' → (n : ℕ) → StaysAway w w' n
+fell-away {before} {w} {w'} f n = still-away w w' (fell f) (λ k. le-by _ _ _ (ap (pins k) f.leaves.rows) (pins-left k f.gone w.rows f.entries 0 (no-pins k w.last.handle f.entries f.new))) n
+  where
+    le-by : (a b c : ℕ) → a ≡ b → b ≤ c → a ≤ c
+    le-by a b c is le = omega arith
