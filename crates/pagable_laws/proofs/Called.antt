@@ -1,7 +1,7 @@
 -- What trees feel of each call that doesn't close the storage, by the call and its reply.
-use Rattle.std.proofs.Common.{◌≡◌, ℕ, ◌+◌, ◌<◌, ◌≤◌, Bool, true, false, List, [], ◌∷◌, refl, ap, sym, subst, ◌∙◌, inl, inr, arith}
+use Rattle.std.proofs.Common.{◌≡◌, ℕ, ◌≤◌, Bool, true, false, List, [], refl, ap, sym, ◌∙◌, inl, inr, arith}
 use Rattle.std.specs.Prelude.{Option, Some, None, ◌⊎◌, Result, Ok, Err}
-use Rattle.pagable_world.specs.Plain.{Error, ArcRef, Kind, HandleNumber, LoadNumber, NodeNumber, type_of}
+use Rattle.pagable_world.specs.Plain.{Error, Kind, HandleNumber, LoadNumber, NodeNumber}
 use Rattle.pagable_world.specs.declared.handles.Owner.{Owner}
 use Rattle.pagable_world.specs.declared.handles.HandleRow.{HandleRow}
 use Rattle.pagable_world.specs.declared.rows.Mode.{Mode}
@@ -13,17 +13,17 @@ use Rattle.pagable_world.specs.declared.rows.Mode.TheVariants as modes
 use Rattle.pagable_world.specs.declared.calls.Call.TheVariants as calls
 use Rattle.pagable_world.specs.declared.calls.Reply.TheVariants as replies
 use Rattle.pagable_model.specs.declared.data_key.OptionalDataKey.TheVariants as optional
-use Rattle.pagable_world.specs.Kinds.{find_row, is_loose, any_mode, fits_mode, is_pinned, is_unpinned, mode_of, owner_value}
-use Rattle.pagable_world.specs.World.{Core, Alike, Seen, Values}
+use Rattle.pagable_world.specs.Kinds.{find_row, is_loose, is_pinned, owner_value}
+use Rattle.pagable_world.specs.World.{Core, Seen, Values}
 use Rattle.pagable_world.specs.Refusals.{Owns}
-use Rattle.pagable_world.specs.Cascade.{Falls, FallsAnyhow, only_handle}
-use Rattle.pagable_world.specs.Calls.{with_handle, with_mode, with_node, with_key, with_known, next_node, moved, is_named_by, BirthCall, LetsGo, UnpinCall, ReleaseCall, SetKeyCall, ScheduleCall, TakeCall, RecallCall, OfferCall, IsRefused, ClearCall, CloseCall}
+use Rattle.pagable_world.specs.Cascade.{only_handle}
+use Rattle.pagable_world.specs.Calls.{with_mode, next_node, moved, is_named_by, BirthCall, UnpinCall, ReleaseCall, SetKeyCall, ScheduleCall, TakeCall, RecallCall, OfferCall, IsRefused, ClearCall}
 use Rattle.pagable_world.specs.LoadCalls.{AdoptCall, LazyCall, EndCall, HandOverCall, DropCall, with_pin, without_load, first_key}
 use Rattle.pagable_world.specs.Events.{Does}
 use Rattle.pagable_world.specs.Pager.{CallBrings, IsNewNode}
 use Rattle.pagable_world.specs.Runs.{KeepsOpen}
 use Rattle.pagable_laws.specs.TreeSteps.{Change, nothing_felt, sets_key, knows_node, bears_node, bears_known, CallFeels, feels-nothing, feels-birth, feels-away, feels-key, feels-known, feels-adopted, feels-lazy, feels-end, StaysAway}
-use Rattle.pagable_laws.proofs.Goes.{RowsGo, Quiet, Goes, NotLoads, rows-self, rows-then, rows-mode, rows-moved, Changed, found-changed, quiet-then, alike, only-rows, fell, fell-anyhow, a-handle, quiet-goes, goes-quiet, born, keyed, goes-known, adopts}
+use Rattle.pagable_laws.proofs.Goes.{Quiet, Goes, NotLoads, rows-self, rows-mode, Changed, found-changed, quiet-then, alike, only-rows, fell, fell-anyhow, a-handle, quiet-goes, goes-quiet, born, keyed, goes-known, adopts}
 use Rattle.pagable_laws.proofs.GoodReferences.{good, alike-away, fell-away}
 use Rattle.pagable_laws.proofs.Calling.{own-mode, made-handle, some-moved, closed-load, was-asked, stores, clones, pins, begins, begins-key, gets-known, asks, closes}
 

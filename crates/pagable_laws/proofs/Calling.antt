@@ -1,38 +1,28 @@
 -- What trees feel of each call, by the call and its reply.
-use Rattle.std.proofs.Common.{◌≡◌, ℕ, ◌+◌, ◌<◌, ◌≤◌, ◌==◌, Bool, true, false, List, [], ◌∷◌, refl, ap, sym, subst, ◌∙◌, inl, inr, arith}
-use Rattle.std.specs.Prelude.{Option, Some, None, ◌⊎◌, Result, Ok, Err, if◌then◌else◌}
+use Rattle.std.proofs.Common.{◌≡◌, ℕ, ◌≤◌, ◌==◌, Bool, true, false, List, refl, ap, sym, subst, ◌∙◌, inl, inr, arith}
+use Rattle.std.specs.Prelude.{Option, Some, None, Result, Ok, Err, if◌then◌else◌}
 use Rattle.std.proofs.lemmas.Bool.Decides.{nat_tests}
 use Rattle.pagable_model.specs.Stored.{Adds}
-use Rattle.pagable_world.specs.Plain.{Error, ArcRef, Kind, Blob, HandleNumber, LoadNumber, NodeNumber, OptionalDataKey, type_of}
+use Rattle.pagable_world.specs.Plain.{Error, Kind, Blob, HandleNumber, LoadNumber, NodeNumber}
 use Rattle.pagable_world.specs.declared.handles.Owner.{Owner}
 use Rattle.pagable_world.specs.declared.handles.HandleRow.{HandleRow}
 use Rattle.pagable_world.specs.declared.rows.Mode.{Mode}
-use Rattle.pagable_world.specs.declared.calls.Call.{Call}
-use Rattle.pagable_world.specs.declared.calls.Reply.{Reply}
 use Rattle.pagable_world.specs.declared.calls.Want.{Want}
 use Rattle.pagable_world.specs.declared.answers.Pinning.{Pinning}
 use Rattle.pagable_world.specs.declared.answers.Beginning.{Beginning}
-use Rattle.pagable_world.specs.declared.events.Event.TheVariants as events
 use Rattle.pagable_world.specs.declared.handles.Owner.TheVariants as owners
 use Rattle.pagable_world.specs.declared.rows.Mode.TheVariants as modes
-use Rattle.pagable_world.specs.declared.calls.Call.TheVariants as calls
-use Rattle.pagable_world.specs.declared.calls.Reply.TheVariants as replies
 use Rattle.pagable_world.specs.declared.calls.Want.TheVariants as wants
 use Rattle.pagable_world.specs.declared.answers.Pinning.TheVariants as pinnings
 use Rattle.pagable_world.specs.declared.answers.Beginning.TheVariants as beginnings
 use Rattle.pagable_model.specs.declared.data_key.OptionalDataKey.TheVariants as optional
-use Rattle.pagable_world.specs.Kinds.{find_row, is_loose}
-use Rattle.pagable_world.specs.World.{Core, Cell, OpenLoad, Root, of_cell, of_key, type_at, key_at, Alike, Seen, Values, row_at, digest}
+use Rattle.pagable_world.specs.Kinds.{is_loose}
+use Rattle.pagable_world.specs.World.{Core, OpenLoad, of_cell, of_key, type_at, key_at, Alike}
 use Rattle.pagable_world.specs.Refusals.{Owns}
-use Rattle.pagable_world.specs.Cascade.{Falls}
-use Rattle.pagable_world.specs.Calls.{with_handle, with_mode, with_node, with_key, next_node, moved, BirthCall, CloneCall, PinCall, LoosenCall, UnpinCall, ReleaseCall, SetKeyCall, ScheduleCall, TakeCall, RecallCall, OfferCall, Asked, FetchCall, StoreCall, AwayBirthCall, ClearCall, ReserveCall, FlushCall, IsRefused}
-use Rattle.pagable_world.specs.LoadCalls.{with_load, without_load, BeginCall, BeginKeyCall, Given, from_cache, from_store, AskCall, Asks, AsksInVain, AdoptCall, LazyCall, EndCall, HandOverCall, DropCall, GetsKnown, first_key, LoadCloses}
-use Rattle.pagable_world.specs.Events.{Does}
-use Rattle.pagable_world.specs.Pager.{CallBrings, IsNewNode}
-use Rattle.pagable_world.specs.Runs.{KeepsOpen}
-use Rattle.pagable_laws.specs.TreeSteps.{Change, nothing_felt, sets_key, knows_node, bears_node, bears_known, BeginsWell, CallFeels, feels-nothing, feels-birth, feels-away, feels-key, feels-known, feels-adopted, feels-lazy, feels-end, StaysAway}
-use Rattle.pagable_laws.proofs.Goes.{RowsGo, Quiet, Goes, NotLoads, rows-self, rows-then, rows-mode, rows-moved, found-changed, quiet-then, alike, only-rows, fell, fell-anyhow, a-handle, quiet-goes, quiet-begins, goes-quiet, born, keyed, begun, goes-known, adopts}
-use Rattle.pagable_laws.proofs.GoodReferences.{good, alike-away, fell-away}
+use Rattle.pagable_world.specs.Calls.{with_handle, with_mode, moved, CloneCall, PinCall, Asked, StoreCall}
+use Rattle.pagable_world.specs.LoadCalls.{without_load, BeginCall, BeginKeyCall, Given, from_cache, from_store, AskCall, AsksInVain, GetsKnown, LoadCloses}
+use Rattle.pagable_laws.specs.TreeSteps.{nothing_felt, BeginsWell}
+use Rattle.pagable_laws.proofs.Goes.{Quiet, Goes, NotLoads, rows-self, rows-mode, rows-moved, quiet-then, alike, only-rows, fell, a-handle, quiet-goes, quiet-begins, goes-quiet, begun}
 
 le-self : (n : ℕ) → n ≤ n
 le-self n = omega arith

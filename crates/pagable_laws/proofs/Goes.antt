@@ -1,6 +1,6 @@
 -- What a step does to the plain world as far as trees feel it, with no premise: the parts of which the summary of each call is made.
-use Rattle.std.proofs.Common.{◌≡◌, ℕ, zero, suc, ◌+◌, ◌<◌, ◌≤◌, ◌==◌, ◌&&◌, Bool, true, false, List, [], ◌∷◌, ◌++◌, refl, ap, sym, subst, ◌∙◌, inl, inr, arith}
-use Rattle.std.specs.Prelude.{Option, Some, None, ◌⊎◌, filter, not, nat_lt, map, length, if◌then◌else◌}
+use Rattle.std.proofs.Common.{◌≡◌, ℕ, ◌+◌, ◌<◌, ◌≤◌, ◌==◌, ◌&&◌, Bool, true, false, List, [], ◌∷◌, ◌++◌, refl, ap, sym, subst, ◌∙◌, inl, inr, arith}
+use Rattle.std.specs.Prelude.{Option, Some, None, ◌⊎◌, if◌then◌else◌}
 use Rattle.std.proofs.lemmas.Bool.Decides.{nat_tests}
 use Rattle.pagable_world.specs.Plain.{Blob, ArcRef, Kind, type_of, HandleNumber, LoadNumber, NodeNumber, OptionalDataKey, changed, updated, if_there}
 use Rattle.pagable_world.specs.declared.handles.HandleRow.{HandleRow}
@@ -11,7 +11,7 @@ use Rattle.pagable_model.specs.declared.data_key.OptionalDataKey.TheVariants as 
 use Rattle.pagable_world.specs.Kinds.{find_row, is_handle, mode_of, is_loose}
 use Rattle.pagable_world.specs.World.{Core, Cell, OpenLoad, Root, Last, Alike, type_at, key_at}
 use Rattle.pagable_world.specs.Cascade.{AreNewEntries, Falls, FallsAnyhow, fallen, left_rows}
-use Rattle.pagable_world.specs.Calls.{row_of, with_handle, with_mode, with_node, with_key, with_cached, next_node, moved}
+use Rattle.pagable_world.specs.Calls.{row_of, with_handle, with_node, with_key, with_cached, next_node, moved}
 use Rattle.pagable_world.specs.LoadCalls.{with_load, adopted}
 use Rattle.pagable_laws.specs.TreeSteps.{Change, nothing_felt, sets_key, bears_known, Sets, Knows, Bears, BeginsWell}
 

@@ -1,16 +1,15 @@
 -- References that nothing is to be said against name handles of their owner, as they should. A handle that is given up doesn't bring a value back.
-use Rattle.std.proofs.Common.{◌≡◌, ℕ, zero, suc, ◌+◌, ◌<◌, ◌≤◌, ◌==◌, ◌&&◌, ◌||◌, Bool, true, false, List, [], ◌∷◌, ◌++◌, sum_by, cond, refl, ap, sym, subst, ◌∙◌, inl, inr, arith}
-use Rattle.std.specs.Prelude.{Option, Some, None, ◌⊎◌, filter, not, nat_lt, is_some, if◌then◌else◌}
+use Rattle.std.proofs.Common.{◌≡◌, ℕ, zero, suc, ◌+◌, ◌≤◌, ◌==◌, ◌&&◌, ◌||◌, Bool, true, false, List, [], ◌∷◌, ◌++◌, cond, refl, ap, sym, subst, ◌∙◌, arith}
+use Rattle.std.specs.Prelude.{Option, Some, None, not, nat_lt, is_some}
 use Rattle.std.proofs.lemmas.Bool.Decides.{nat_tests}
 use Rattle.std.proofs.lemmas.List.Sums.{sum_by-cons}
-use Rattle.pagable_world.specs.Plain.{Error, ArcRef, NodeNumber, type_of, OptionalDataKey, is_in, or_else, if_there, one, Among}
+use Rattle.pagable_world.specs.Plain.{ArcRef, type_of, OptionalDataKey, is_in, or_else, if_there, one}
 use Rattle.pagable_world.specs.declared.handles.Owner.{Owner}
 use Rattle.pagable_world.specs.declared.handles.HandleRow.{HandleRow}
 use Rattle.pagable_world.specs.declared.handles.Owner.TheVariants as owners
-use Rattle.pagable_world.specs.declared.rows.Mode.TheVariants as modes
 use Rattle.pagable_model.specs.declared.data_key.OptionalDataKey.TheVariants as optional
 use Rattle.pagable_model.specs.declared.error.Error.TheVariants as errors
-use Rattle.pagable_world.specs.Kinds.{is_owner, fits_mode, pins, is_pin, is_in_memory, is_pinning, has_key}
+use Rattle.pagable_world.specs.Kinds.{is_owner, fits_mode, pins, is_pin, is_in_memory, has_key}
 use Rattle.pagable_world.specs.World.{Core, Cell, row_at, type_at, key_at, is_here, Alike}
 use Rattle.pagable_world.specs.Cascade.{AreNewEntries, Falls, left_rows}
 use Rattle.pagable_world.specs.Refusals.{refused_if, is_type, row_fault, reference_fault, references_fault, IsReference}

@@ -1,19 +1,17 @@
 -- What a load's step and a worker's do to the plain world, as trees feel it.
-use Rattle.std.proofs.Common.{◌≡◌, ℕ, List, [], ◌∷◌, refl, inl, inr}
-use Rattle.std.specs.Prelude.{Option, Some, None, ◌⊎◌, Result, Ok, Err}
-use Rattle.pagable_world.specs.Plain.{Error, ArcRef, Kind, HandleNumber, LoadNumber}
+use Rattle.std.proofs.Common.{List, inl, inr}
+use Rattle.std.specs.Prelude.{Option, Some, None, ◌⊎◌, Ok, Err}
+use Rattle.pagable_world.specs.Plain.{Error}
 use Rattle.pagable_world.specs.declared.handles.Owner.{Owner}
 use Rattle.pagable_world.specs.declared.events.LoadAnswer.{LoadAnswer}
 use Rattle.pagable_world.specs.declared.events.LoadAnswer.TheVariants as ends
-use Rattle.pagable_world.specs.declared.calls.Call.TheVariants as calls
-use Rattle.pagable_world.specs.declared.calls.Reply.TheVariants as replies
 use Rattle.pagable_world.specs.World.{Core, Frame, Reading, Seen}
 use Rattle.pagable_world.specs.Loads.{Does, GoesOn, Meets, Fails, RefusesRoot, LoadIs, IsOfCell, IsOfKey, handles_of}
 use Rattle.pagable_world.specs.LoadCalls.{EndCall, HandOverCall}
 use Rattle.pagable_laws.specs.TreeSteps.{Change, nothing_felt}
 use Rattle.pagable_laws.proofs.Goes.{Quiet, Goes, NotLoads, quiet-goes, goes-quiet, alike}
 use Rattle.pagable_laws.proofs.Calling.{asks, closes}
-use Rattle.pagable_laws.proofs.Called.{CallGoes, hands-over, adopting, lazily, ends-load}
+use Rattle.pagable_laws.proofs.Called.{hands-over, adopting, lazily, ends-load}
 
 -- some change, and what the step does to the world with it
 pub record Felt (w w' : Core) : Type 0 where

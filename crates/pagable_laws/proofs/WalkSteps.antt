@@ -1,6 +1,6 @@
 -- What a worker's step does to the plain world, as trees feel it.
-use Rattle.std.proofs.Common.{◌≡◌, ℕ, List, [], ◌∷◌, refl, inl, inr}
-use Rattle.std.specs.Prelude.{Option, Some, None, ◌⊎◌, Result, Ok, Err}
+use Rattle.std.proofs.Common.{ℕ, List, [], ◌∷◌, inl, inr}
+use Rattle.std.specs.Prelude.{Option, Some, None, Ok, Err}
 use Rattle.pagable_world.specs.Plain.{Error, ArcRef, HandleNumber, LoadNumber}
 use Rattle.pagable_world.specs.declared.answers.Pinning.TheVariants as pinnings
 use Rattle.pagable_world.specs.declared.answers.Beginning.TheVariants as beginnings
@@ -13,7 +13,7 @@ use Rattle.pagable_world.specs.Kinds.{owner_worker}
 use Rattle.pagable_world.specs.World.{Core, Todo, to_start, to_pin, to_load, to_write, to_finish, to_item, to_set, to_publish, to_release, to_fail, Seen}
 use Rattle.pagable_world.specs.Workers.{Site, Does, PinsAtOnce, PinsByLoad, PinRefused, GivesBack}
 use Rattle.pagable_laws.specs.TreeSteps.{nothing_felt}
-use Rattle.pagable_laws.proofs.Goes.{Quiet, Goes, NotLoads, quiet-goes, quiet-then, quiet-begins, alike, fell-anyhow}
+use Rattle.pagable_laws.proofs.Goes.{Goes, NotLoads, quiet-then, quiet-begins, alike, fell-anyhow}
 use Rattle.pagable_laws.proofs.Calling.{clones, pins, begins, stores}
 use Rattle.pagable_laws.proofs.Called.{schedules, sets}
 use Rattle.pagable_laws.proofs.LoadSteps.{Felt, quiet, reading-goes}
