@@ -122,10 +122,10 @@ module _ {N B W : Type 0} (m : Seen N B W) (w : Core) (me : Owner) (free : NotLo
     | inl refused ↦ quiet (λ n x b. absurd b) (refused-call r refused)
     | inr (row, owns, inl (mode, told, a)) ↦ quiet (λ n x b. absurd b) (alike a)
     | inr (row, owns, inr (loose, f)) ↦ record {
-        change = sets_key row.node.0 key;
-        goes = goes-quiet (keyed w row.node key) (fell f);
-        feels = feels-key h key row refl (record { live = owns.live; own = owns.own; as_asked = loose });
-      }
+      change = sets_key row.node.0 key;
+      goes = goes-quiet (keyed w row.node key) (fell f);
+      feels = feels-key h key row refl (record { live = owns.live; own = owns.own; as_asked = loose });
+    }
   ]
 
   offers : (kind : Kind) (key : ℕ) (h : HandleNumber) (r : Result (Option HandleNumber) Error) → OfferCall w me kind key h r w' → CG (calls.OnArcDeserialized kind key h) (replies.FromCache r)
@@ -150,10 +150,10 @@ module _ {N B W : Type 0} (m : Seen N B W) (w : Core) (me : Owner) (free : NotLo
   adopting l kind key x (Ok k) c = elim c.adopts.makes [
     | inl (n, usable, f) ↦ quiet (λ n y b. inl b.1) (quiet-then (a-handle w _ _ (owners.Load l)) (fell-anyhow f))
     | inr (none, few, a) ↦ record {
-        change = bears_known kind.0 key (first_key kind.0 key);
-        goes = goes-quiet (adopts w l kind key (first_key kind.0 key) (m.values.references x)) (alike a);
-        feels = feels-adopted l kind key x k refl refl c.adopts.typed (good w (owners.Load l) [] (m.values.references x) c.adopts.good);
-      }
+      change = bears_known kind.0 key (first_key kind.0 key);
+      goes = goes-quiet (adopts w l kind key (first_key kind.0 key) (m.values.references x)) (alike a);
+      feels = feels-adopted l kind key x k refl refl c.adopts.typed (good w (owners.Load l) [] (m.values.references x) c.adopts.good);
+    }
   ]
   adopting l kind key x (Err e) c = quiet (λ n y b. inl b.1) (alike c.refused.1.stays)
 
@@ -161,10 +161,10 @@ module _ {N B W : Type 0} (m : Seen N B W) (w : Core) (me : Owner) (free : NotLo
   lazily l kind key (Ok k) c = elim c.makes.3 [
     | inl known ↦ quiet (λ n x b. absurd b) (gets-known known)
     | inr (none, few, next, a) ↦ record {
-        change = bears_known kind.0 key (optional.Some key);
-        goes = goes-quiet (adopts w l kind key (optional.Some key) []) (alike a);
-        feels = feels-lazy l kind key k refl refl;
-      }
+      change = bears_known kind.0 key (optional.Some key);
+      goes = goes-quiet (adopts w l kind key (optional.Some key) []) (alike a);
+      feels = feels-lazy l kind key k refl refl;
+    }
   ]
   lazily l kind key (Err e) c = quiet (λ n x b. absurd b) (alike c.refused.stays)
 

@@ -38,27 +38,27 @@ grows-self slot = record { worker = refl; written = λ w is. is; outcome = λ cl
 
 pub grows : (v : ℕ) (shelf shelf' : Shelf) → Changes v shelf shelf' → ShelfGrows shelf shelf'
 grows v shelf shelf' changes i slot there = elim (changes i) [
-    | stays same ↦ (slot, same ∙ there, grows-self slot)
-    | is-new new none is of_it ↦ some-none there none
-    | is-changed old slot' was of_it is more ↦ (slot', is, subst (λ s. SlotGrows s slot') (some-same was there) more)
-  ]
+  | stays same ↦ (slot, same ∙ there, grows-self slot)
+  | is-new new none is of_it ↦ some-none there none
+  | is-changed old slot' was of_it is more ↦ (slot', is, subst (λ s. SlotGrows s slot') (some-same was there) more)
+]
 
 -- what another claimed stays as it is
 pub others-stay : (v u : ℕ) (shelf shelf' : Shelf) → Changes v shelf shelf' → nat_eq u v ≡ false → (i : Identity) (slot : Slot) → shelf.slots i ≡ Some slot → slot.worker ≡ u → shelf'.slots i ≡ Some slot
 others-stay v u shelf shelf' changes other i slot there of_it = elim (changes i) [
-    | stays same ↦ same ∙ there
-    | is-new new none is own ↦ some-none there none
-    | is-changed old slot' was own is more ↦ let e : old ≡ slot = some-same was there in let f : u ≡ v = sym of_it ∙ (sym (ap (λ (s : Slot). s.worker) e) ∙ own) in absurd (grind (arith, nat_tests))
-  ]
+  | stays same ↦ same ∙ there
+  | is-new new none is own ↦ some-none there none
+  | is-changed old slot' was own is more ↦ let e : old ≡ slot = some-same was there in let f : u ≡ v = sym of_it ∙ (sym (ap (λ (s : Slot). s.worker) e) ∙ own) in absurd (grind (arith, nat_tests))
+]
 
 -- and what is another's was so
 pub others-were : (v u : ℕ) (shelf shelf' : Shelf) → Changes v shelf shelf' → nat_eq u v ≡ false → (i : Identity) (slot : Slot) → shelf'.slots i ≡ Some slot → slot.worker ≡ u → shelf.slots i ≡ Some slot
 others-were v u shelf shelf' changes other i slot there of_it = elim (changes i) [
-    | stays same ↦ sym same ∙ there
-    | is-new new none is own ↦ let e : new ≡ slot = some-same is there in let f : u ≡ v = sym of_it ∙ (sym (ap (λ (s : Slot). s.worker) e) ∙ own) in absurd (grind (arith, nat_tests))
-    | is-changed old slot' was own is more ↦
+  | stays same ↦ sym same ∙ there
+  | is-new new none is own ↦ let e : new ≡ slot = some-same is there in let f : u ≡ v = sym of_it ∙ (sym (ap (λ (s : Slot). s.worker) e) ∙ own) in absurd (grind (arith, nat_tests))
+  | is-changed old slot' was own is more ↦
       let e : slot' ≡ slot = some-same is there in let f : u ≡ v = sym of_it ∙ (sym (ap (λ (s : Slot). s.worker) e) ∙ (more.worker ∙ own)) in absurd (grind (arith, nat_tests))
-  ]
+]
 
 pub meets-grow : (shelf shelf' : Shelf) (task : Task) (i : Identity) → ShelfGrows shelf shelf' → Meets shelf task i → Meets shelf' task i
 meets-grow shelf shelf' task i more (meets-of-item written r is among) = meets-of-item written r is among
@@ -169,4 +169,3 @@ fails-own v shelf shelf' same i = by (shelf.slots i) refl (same.slots i)
     by : (o : Option Slot) → shelf.slots i ≡ o → shelf'.slots i ≡ if_there (λ (slot : Slot). Some (if nat_eq slot.worker v then with_outcome failed slot else slot)) None o → SlotChanges v (shelf.slots i) (shelf'.slots i)
     by None none is = stays (is ∙ sym none)
     by (Some slot) there is = of-slot slot there (nat_eq slot.worker v) refl is
-

@@ -27,7 +27,7 @@ module _ {N B W : Type 0} (m : Seen N B W) (v : ℕ) (task : Task) (s s' : Site)
   known r place key height [] (meets, apart, rest) covers is same = plain v task s.shelf s'.shelf same clean None (to_release r key height ∷ []) (λ a is. absurd (cc)) ((meets, is), (λ i no. absurd (cc)), tt) covers
   known r place key height (x ∷ below) (meets, apart, rest) covers is same =
       plain v task s.shelf s'.shelf same clean None (give r key height (x ∷ below)) (λ a is. absurd (cc)) (gives v task s.shelf r key height (x ∷ below) rest)
-        (λ i slot there own still. given-open v task s.shelf i r key height (x ∷ below) ∙ covers i slot there own still)
+      (λ i slot there own still. given-open v task s.shelf i r key height (x ∷ below) ∙ covers i slot there own still)
 
   released : (r : ArcRef) (key height : ℕ) (below : List Todo) → AllStand s.shelf v task (to_release r key height ∷ below) → CoversBy v task s.shelf (to_release r key height ∷ below)
       → ((i : Identity) → s'.shelf.slots i ≡ s.shelf.slots i) → (step : Took W) → Goes v task s.shelf (answer_after (to_release r key height ∷ below) step) s'.shelf (give r key height below)
@@ -35,7 +35,7 @@ module _ {N B W : Type 0} (m : Seen N B W) (v : ℕ) (task : Task) (s s' : Site)
   released r key height [] (stands, apart, rest) covers same step = plain v task s.shelf s'.shelf same clean _ [] (λ a is. refl) tt covers
   released r key height (x ∷ below) (stands, apart, rest) covers same step =
       plain v task s.shelf s'.shelf same clean None (give r key height (x ∷ below)) (λ a is. absurd (cc)) (gives v task s.shelf r key height (x ∷ below) rest)
-        (λ i slot there own still. given-open v task s.shelf i r key height (x ∷ below) ∙ covers i slot there own still)
+      (λ i slot there own still. given-open v task s.shelf i r key height (x ∷ below) ∙ covers i slot there own still)
 
   go : (todo : List Todo) → s.todo ≡ todo → AllStand s.shelf v task todo → Covers s.shelf v todo → (step : Took W) → Does m v s todo step s' → Goes v task s.shelf (answer_after todo step) s'.shelf s'.todo
   unfolding AllStand is_open_in

@@ -70,8 +70,8 @@ module _ {N B W : Type 0} (m : Seen N B W) (u u' : World) (work : StandsIn u) wh
       let above : u.core.last.worker < v.0 = let e = s.next in omega arith in
       let last : u'.core.last.worker ≡ core.last.worker + 1 = ap (λ l. l.worker) s.pager.last in
       let turned : Turned v.0 u.work.shelves u'.work.shelves u.work.walkings u'.work.walkings =
-        is-started u.work.shelves u'.work.shelves u.work.walkings u'.work.walkings u.core.last.worker work (λ q i. (s.work.same_shelves q).slots i) v.0 (new_walking t task) above refl refl
-          (s.work.same_walkings v.0 ∙ updated-at v.0 (Some (new_walking t task)) u.work.walkings) (λ n other. s.work.same_walkings n ∙ updated-off v.0 (Some (new_walking t task)) u.work.walkings n other)
+      is-started u.work.shelves u'.work.shelves u.work.walkings u'.work.walkings u.core.last.worker work (λ q i. (s.work.same_shelves q).slots i) v.0 (new_walking t task) above refl refl
+      (s.work.same_walkings v.0 ∙ updated-at v.0 (Some (new_walking t task)) u.work.walkings) (λ n other. s.work.same_walkings n ∙ updated-off v.0 (Some (new_walking t task)) u.work.walkings n other)
       in
       work-stands v.0 u.work.shelves u'.work.shelves u.work.walkings u'.work.walkings turned u.core.last.worker u'.core.last.worker (let e = s.next in omega arith) (let e = s.next in omega arith) work
 
@@ -86,7 +86,7 @@ module _ {N B W : Type 0} (m : Seen N B W) (u u' : World) (work : StandsIn u) wh
       same q i true e =
           let f : q ≡ t.0 = grind (arith, nat_tests) in
           subst (λ n. (u'.work.shelves n).slots i ≡ (u.work.shelves n).slots i) (sym f)
-            ((w.same_shelves t.0).slots i ∙ (ap (λ (s : Shelf). s.slots i) (updated-at t.0 no_shelf u.work.shelves) ∙ nothing i ((u.work.shelves t.0).slots i) refl))
+          ((w.same_shelves t.0).slots i ∙ (ap (λ (s : Shelf). s.slots i) (updated-at t.0 no_shelf u.work.shelves) ∙ nothing i ((u.work.shelves t.0).slots i) refl))
       same q i false e = (w.same_shelves q).slots i ∙ ap (λ (s : Shelf). s.slots i) (updated-off t.0 no_shelf u.work.shelves q e)
 
   ends-last : (answer : Option WorkerAnswer) (v : ℕ) (w w' : Core) → Ends answer v w w' → w'.last.worker ≡ w.last.worker
@@ -99,14 +99,14 @@ module _ {N B W : Type 0} (m : Seen N B W) (u u' : World) (work : StandsIn u) wh
       let now : Walking = record w { todo = s.after.todo; steps = reply.steps; answer = reply.answer } in
       let stands = work.workers v.0 w s.at in
       let goes : Goes v.0 w.task (u.work.shelves w.table) (answer_after w.todo reply.took) s.after.shelf s.after.todo =
-        stands-on m v.0 w.task (record { core = u.core; shelf = u.work.shelves w.table; todo = w.todo }) s.after (stands.unfailed s.at_work) stands.all stands.covers reply.took s.does.does
+      stands-on m v.0 w.task (record { core = u.core; shelf = u.work.shelves w.table; todo = w.todo }) s.after (stands.unfailed s.at_work) stands.all stands.covers reply.took s.does.does
       in
       let shelf_is : (i : Identity) → (u'.work.shelves w.table).slots i ≡ s.after.shelf.slots i = λ i. (s.work.same_shelves w.table).slots i ∙ ap (λ (x : Shelf). x.slots i) (updated-at w.table s.after.shelf u.work.shelves) in
       let turned : Turned v.0 u.work.shelves u'.work.shelves u.work.walkings u'.work.walkings =
-        is-stepped v.0 u.work.shelves u'.work.shelves u.work.walkings u'.work.walkings w now s.at (s.work.same_walkings v.0 ∙ updated-at v.0 (Some now) u.work.walkings) refl refl
-          (λ n other. s.work.same_walkings n ∙ updated-off v.0 (Some now) u.work.walkings n other)
-          (λ t other i. (s.work.same_shelves t).slots i ∙ ap (λ (x : Shelf). x.slots i) (updated-off w.table s.after.shelf u.work.shelves t other))
-          (goes-same v.0 w.task (u.work.shelves w.table) s.after.shelf (u'.work.shelves w.table) reply.answer s.after.todo shelf_is (subst (λ a. Goes v.0 w.task (u.work.shelves w.table) a s.after.shelf s.after.todo) (sym s.answers) goes))
+      is-stepped v.0 u.work.shelves u'.work.shelves u.work.walkings u'.work.walkings w now s.at (s.work.same_walkings v.0 ∙ updated-at v.0 (Some now) u.work.walkings) refl refl
+      (λ n other. s.work.same_walkings n ∙ updated-off v.0 (Some now) u.work.walkings n other)
+      (λ t other i. (s.work.same_shelves t).slots i ∙ ap (λ (x : Shelf). x.slots i) (updated-off w.table s.after.shelf u.work.shelves t other))
+      (goes-same v.0 w.task (u.work.shelves w.table) s.after.shelf (u'.work.shelves w.table) reply.answer s.after.todo shelf_is (subst (λ a. Goes v.0 w.task (u.work.shelves w.table) a s.after.shelf s.after.todo) (sym s.answers) goes))
       in
       let last : u'.core.last.worker ≡ u.core.last.worker = ends-last reply.answer v.0 s.after.core u'.core s.ends ∙ numbered.walk m v.0 (record { core = u.core; shelf = u.work.shelves w.table; todo = w.todo }) s.after w.todo reply.took s.does.does in
       work-stands v.0 u.work.shelves u'.work.shelves u.work.walkings u'.work.walkings turned u.core.last.worker u'.core.last.worker (le-of last) (let few = work.numbered v.0 w s.at in omega arith) work

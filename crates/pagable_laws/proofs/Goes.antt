@@ -107,7 +107,6 @@ found-changed test f same q (h ∷ hs) row found = at (λ e. found-changed test 
         let found' : find_row q (changed test f hs) ≡ Some row = rw there at found in
         rest (back found') is
 
-
 abbrev pub NotLoads : Owner → Type 0
 NotLoads o = (l : LoadNumber) → o ≡ owners.Load l → ⊥
 

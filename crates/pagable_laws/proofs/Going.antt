@@ -56,11 +56,11 @@ module _ (u : ℕ) (task : Task) (shelf shelf' : Shelf) (more : ShelfGrows shelf
   pub all-stay : (todo : List Todo) → KeepsOf (λ i. is_open_in i todo) → AllStand shelf u task todo → AllStand shelf' u task todo
   unfolding AllStand is_open_in
   all-stay [] keeps all = tt
-  all-stay (x ∷ below) keeps (stands, apart, rest) =
-      ( one-stays x below (λ i is. keeps i (or-left (is_open_of i x) (is_open_in i below) is)) stands
-      , apart
-      , all-stay below (λ i is. keeps i (or-right (is_open_of i x) (is_open_in i below) is)) rest
-      )
+  all-stay (x ∷ below) keeps (stands, apart, rest) = (
+    one-stays x below (λ i is. keeps i (or-left (is_open_of i x) (is_open_in i below) is)) stands,
+    apart,
+    all-stay below (λ i is. keeps i (or-right (is_open_of i x) (is_open_in i below) is)) rest,
+  )
 
 -- ---- one worker
 
@@ -156,7 +156,7 @@ module _ (v : ℕ) (task : Task) where
     unfolding AllStand
     settles o below ((meets, c), apart, rest) =
         started o.place (drop (length o.keys) o.written.references) (to_finish o ∷ below)
-          (λ r among. meets-below (identity_of o.reference) c.slot o.written r meets c.claimed c.written_so (among-drop (length o.keys) o.written.references r among)) ((meets, c), apart, rest)
+        (λ r among. meets-below (identity_of o.reference) c.slot o.written r meets c.claimed c.written_so (among-drop (length o.keys) o.written.references r among)) ((meets, c), apart, rest)
 
     pub item-settles : (written : Written) (keys : List ℕ) (below : List Todo) → AllStand shelf v task (to_item written keys ∷ below) → AllStand shelf v task (settle (to_item written keys ∷ below))
     unfolding AllStand

@@ -83,7 +83,7 @@ module _ (v : ℕ) (shelves shelves' : ℕ → Shelf) (walkings walkings' : ℕ 
       worker u w there false e =
           let c = turned.changes w.table in
           walking-stays u w (shelves w.table) (shelves' w.table) (grows v (shelves w.table) (shelves' w.table) c) (others-stay v u (shelves w.table) (shelves' w.table) c e) (others-were v u (shelves w.table) (shelves' w.table) c e)
-            (work.workers u w (sym (turned.others u e) ∙ there))
+          (work.workers u w (sym (turned.others u e) ∙ there))
 
       number : (u : ℕ) (w : Walking) → walkings' u ≡ Some w → (b : Bool) → nat_eq u v ≡ b → u ≤ last'
       number u w there true e = let is = same-number u v e in omega arith
@@ -105,7 +105,7 @@ module _ (shelves shelves' : ℕ → Shelf) (walkings walkings' : ℕ → Option
         own = λ w there. record { now = w; there = stay 0 ∙ there; table = refl; task = refl };
         met = λ t i slot none there. some-none (sym (same t i) ∙ there) none;
         stands = λ w there.
-          walking-stays 0 w (shelves w.table) (shelves' w.table) (grows 0 (shelves w.table) (shelves' w.table) (same-slots 0 (shelves w.table) (shelves' w.table) (same w.table)))
+            walking-stays 0 w (shelves w.table) (shelves' w.table) (grows 0 (shelves w.table) (shelves' w.table) (same-slots 0 (shelves w.table) (shelves' w.table) (same w.table)))
             (λ i slot is own. same w.table i ∙ is) (λ i slot is own. sym (same w.table i) ∙ is) (work.workers 0 w (sym (stay 0) ∙ there));
       }
 

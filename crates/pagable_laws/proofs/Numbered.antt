@@ -204,33 +204,33 @@ module _ (w w' : Core) (me : Owner) where
 module _ {N : Type 0} (v : Values N) (w : Core) (me : Owner) (reading : Reading) where
   goes-on : (frames : List Frame) (w' : Core) → loads.GoesOn v w me reading frames w' → Keeps w w'
   goes-on frames w' does = elim does [
+    | inl a ↦ ask w w' me _ _ _ a.asked
+    | inr rest ↦ elim rest [
       | inl a ↦ ask w w' me _ _ _ a.asked
       | inr rest ↦ elim rest [
         | inl a ↦ ask w w' me _ _ _ a.asked
-        | inr rest ↦ elim rest [
-          | inl a ↦ ask w w' me _ _ _ a.asked
-          | inr rest ↦ elim rest [ inl a ↦ lazy w w' me _ _ _ _ a.asked | inr a ↦ adopt w w' me _ _ _ _ _ _ _ a.adopted ]
-        ]
+        | inr rest ↦ elim rest [ inl a ↦ lazy w w' me _ _ _ _ a.asked | inr a ↦ adopt w w' me _ _ _ _ _ _ _ a.adopted ]
       ]
     ]
+  ]
 
   meets : (e : Error) (w' : Core) → loads.Meets v w me reading e w' → Keeps w w'
   meets e w' does = elim does [
-      | inl a ↦ alike a.1
+    | inl a ↦ alike a.1
+    | inr rest ↦ elim rest [
+      | inl a ↦ ask w w' me _ _ _ a.1
       | inr rest ↦ elim rest [
-        | inl a ↦ ask w w' me _ _ _ a.1
+        | inl a ↦ elim a.3 [ inl b ↦ ask w w' me _ _ _ b | inr b ↦ ask w w' me _ _ _ b.3 ]
         | inr rest ↦ elim rest [
-          | inl a ↦ elim a.3 [ inl b ↦ ask w w' me _ _ _ b | inr b ↦ ask w w' me _ _ _ b.3 ]
+          | inl a ↦ lazy w w' me _ _ _ _ a.3
           | inr rest ↦ elim rest [
-            | inl a ↦ lazy w w' me _ _ _ _ a.3
-            | inr rest ↦ elim rest [
-              | inl a ↦ adopt w w' me _ _ _ _ _ _ _ a.adopted
-              | inr a ↦ elim a.refuses [ inl b ↦ end w w' me _ _ _ _ _ b.1 | inr b ↦ hand-over w w' me _ _ _ b.1 ]
-            ]
+            | inl a ↦ adopt w w' me _ _ _ _ _ _ _ a.adopted
+            | inr a ↦ elim a.refuses [ inl b ↦ end w w' me _ _ _ _ _ b.1 | inr b ↦ hand-over w w' me _ _ _ b.1 ]
           ]
         ]
       ]
     ]
+  ]
 
   reads : (answer : Option (LoadAnswer N)) (frames : List Frame) (w' : Core) → loads.Does v w me reading answer frames w' → Keeps w w'
   reads None frames w' does = goes-on frames w' does
@@ -250,9 +250,9 @@ module _ {N B W : Type 0} (m : Seen N B W) (v : ℕ) (s s' : workers.Site) where
 
   pin-refused : (me : Owner) (r : ArcRef) (e : Error) → workers.PinRefused s.core me r e s'.core → Keeps s.core s'.core
   pin-refused me r e does = elim does [
-      | inl a ↦ clone s.core s'.core me _ _ a
-      | inr b ↦ elim b.1.3 [ inl c ↦ pin b.1.0 s'.core me _ _ c ∙ clone s.core b.1.0 me _ _ b.1.2 | inr c ↦ begin b.1.0 s'.core me _ _ c ∙ clone s.core b.1.0 me _ _ b.1.2 ]
-    ]
+    | inl a ↦ clone s.core s'.core me _ _ a
+    | inr b ↦ elim b.1.3 [ inl c ↦ pin b.1.0 s'.core me _ _ c ∙ clone s.core b.1.0 me _ _ b.1.2 | inr c ↦ begin b.1.0 s'.core me _ _ c ∙ clone s.core b.1.0 me _ _ b.1.2 ]
+  ]
 
   gives-back : (back : Option HandleNumber) → workers.GivesBack s.core v back s'.core → Keeps s.core s'.core
   gives-back None does = alike does

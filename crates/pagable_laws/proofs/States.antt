@@ -157,26 +157,27 @@ child-loaded-passes = passes two.child_loaded two.last_values (few-fallen (ended
 
 -- all of them
 pub all_whole : two.TwoLevelsAreWhole
-all_whole =
-    (whole-so _ _ child-passes,
-    whole-so _ _ both-passes,
-    whole-so _ _ begun-passes,
-    whole-so _ _ parent-pinned-passes,
-    whole-so _ _ both-pinned-passes,
-    whole-so _ _ child-stored-passes,
-    whole-so _ _ child-keyed-passes,
-    whole-so _ _ child-released-passes,
-    whole-so _ _ parent-stored-passes,
-    whole-so _ _ parent-keyed-passes,
-    whole-so _ _ parent-released-passes,
-    whole-so _ _ answered-passes,
-    whole-so _ _ evicted-passes,
-    whole-so _ _ parent-loading-passes,
-    whole-so _ _ got-passes,
-    whole-so _ _ parent-loaded-passes,
-    whole-so _ _ child-cloned-passes,
-    whole-so _ _ child-loading-passes,
-    whole-so _ _ child-loaded-passes)
+all_whole = (
+  whole-so _ _ child-passes,
+  whole-so _ _ both-passes,
+  whole-so _ _ begun-passes,
+  whole-so _ _ parent-pinned-passes,
+  whole-so _ _ both-pinned-passes,
+  whole-so _ _ child-stored-passes,
+  whole-so _ _ child-keyed-passes,
+  whole-so _ _ child-released-passes,
+  whole-so _ _ parent-stored-passes,
+  whole-so _ _ parent-keyed-passes,
+  whole-so _ _ parent-released-passes,
+  whole-so _ _ answered-passes,
+  whole-so _ _ evicted-passes,
+  whole-so _ _ parent-loading-passes,
+  whole-so _ _ got-passes,
+  whole-so _ _ parent-loaded-passes,
+  whole-so _ _ child-cloned-passes,
+  whole-so _ _ child-loading-passes,
+  whole-so _ _ child-loaded-passes,
+)
 
 -- ---- the machine over it
 

@@ -20,7 +20,7 @@ module _ (v : ℕ) (task : Task) (shelf shelf' : Shelf) (clean : HasNoFailed she
   below-stays : (i : Identity) (slot : Slot) (below : List Todo) → PutsSlot shelf.slots shelf'.slots i slot → Changes v shelf shelf' → is_open_in i below ≡ false → AllStand shelf v task below → AllStand shelf' v task below
   below-stays i slot below puts changes apart all =
       all-stay v task shelf shelf' (grows v shelf shelf' changes) below
-        (λ j is old there own. puts.elsewhere j (not-true (is_identity i j) (λ e. true-false (subst (λ k. is_open_in k below ≡ true) (is-same i j e) is) apart)) ∙ there) all
+      (λ j is old there own. puts.elsewhere j (not-true (is_identity i j) (λ e. true-false (subst (λ k. is_open_in k below ≡ true) (is-same i j e) is) apart)) ∙ there) all
 
   -- an own slot changes, or comes, that hasn't failed
   clean-still : (i : Identity) (new : Slot) → PutsSlot shelf.slots shelf'.slots i new → is_failed new.outcome ≡ false → HasNoFailed shelf' v
@@ -40,11 +40,11 @@ module _ (v : ℕ) (task : Task) (shelf shelf' : Shelf) (clean : HasNoFailed she
       let free : is_open_in (identity_of r) below ≡ false = not-true (is_open_in (identity_of r) below) (λ is. let a = open-slot v task shelf (identity_of r) below rest is in some-none a.1 none) in
       record {
         changes = changes;
-        all =
-          ( (meets_now, record { slot = new-slot; claimed = puts.at; own = refl; no_result_yet = refl; written_so = refl })
-          , (λ i is. subst (λ k. is_open_in k below ≡ false) (is-same i (identity_of r) is) free)
-          , below-stays (identity_of r) new-slot below puts changes free rest
-          );
+        all = (
+          (meets_now, record { slot = new-slot; claimed = puts.at; own = refl; no_result_yet = refl; written_so = refl }),
+          (λ i is. subst (λ k. is_open_in k below ≡ false) (is-same i (identity_of r) is) free),
+          below-stays (identity_of r) new-slot below puts changes free rest,
+        );
         covers = λ i slot there own still. elim (put-cases shelf.slots shelf'.slots (identity_of r) new-slot puts i slot there) [
           | inl e ↦ open-self (identity_of r) i (is_open_in i below) e.0
           | inr e ↦ or-right (is_identity i (identity_of r)) (is_open_in i below) (covers i slot e.1 own still)
@@ -60,9 +60,9 @@ module _ (v : ℕ) (task : Task) (shelf shelf' : Shelf) (clean : HasNoFailed she
   -- an own slot changes: nothing comes that isn't met
   none-comes : (i : Identity) (old new : Slot) → PutsSlot shelf.slots shelf'.slots i new → shelf.slots i ≡ Some old → (j : Identity) (slot : Slot) → shelf.slots j ≡ None → shelf'.slots j ≡ Some slot → Meets shelf' task j
   none-comes i old new puts was j slot none there = elim (put-cases shelf.slots shelf'.slots i new puts j slot there) [
-      | inl e ↦ some-none was (sym (ap shelf.slots e.0) ∙ none)
-      | inr e ↦ some-none e.1 none
-    ]
+    | inl e ↦ some-none was (sym (ap shelf.slots e.0) ∙ none)
+    | inr e ↦ some-none e.1 none
+  ]
 
   -- a worker's own open slot
   abbrev wrote : Slot → Written → Slot
@@ -84,11 +84,11 @@ module _ (v : ℕ) (task : Task) (shelf shelf' : Shelf) (clean : HasNoFailed she
       let o : Open = record { reference = r; place = place; through = through; written = written; keys = []; height = 0 } in
       record {
         changes = changes;
-        all = settles v task shelf' o below
-          ( (meets-grow shelf shelf' task (identity_of r) more meets, record { slot = new; claimed = puts.at; own = c.own; no_result_yet = c.no_result_yet; written_so = refl })
-          , apart
-          , below-stays (identity_of r) new below puts changes free rest
-          );
+        all = settles v task shelf' o below (
+          (meets-grow shelf shelf' task (identity_of r) more meets, record { slot = new; claimed = puts.at; own = c.own; no_result_yet = c.no_result_yet; written_so = refl }),
+          apart,
+          below-stays (identity_of r) new below puts changes free rest,
+        );
         covers = λ i slot there own still. or-right (is_failing (open_node r place through written below)) (is_open_in i (open_node r place through written below)) (started-open v task shelf' i place (drop 0 written.references) (to_finish o ∷ below) ∙ covered puts covers i slot there own still);
         unfailed = λ nothing. clean-still (identity_of r) new puts (ap is_failed c.no_result_yet);
         done = λ a is. absurd (cc);
@@ -98,9 +98,9 @@ module _ (v : ℕ) (task : Task) (shelf shelf' : Shelf) (clean : HasNoFailed she
       covered : {new : Slot} → PutsSlot shelf.slots shelf'.slots (identity_of r) new → CoversBy v task shelf (to_write r place through ∷ below) → (i : Identity) (slot : Slot) → shelf'.slots i ≡ Some slot → slot.worker ≡ v → slot.outcome ≡ no_result
           → (is_identity i (identity_of r) || is_open_in i below) ≡ true
       covered {new = new} puts covers i slot there own still = elim (put-cases shelf.slots shelf'.slots (identity_of r) new puts i slot there) [
-          | inl e ↦ open-self (identity_of r) i (is_open_in i below) e.0
-          | inr e ↦ covers i slot e.1 own still
-        ]
+        | inl e ↦ open-self (identity_of r) i (is_open_in i below) e.0
+        | inr e ↦ covers i slot e.1 own still
+      ]
 
   -- key and height are published
   pub published-goes : (r : ArcRef) (key height : ℕ) (below : List Todo) → AllStand shelf v task (to_publish r key height ∷ below) → CoversBy v task shelf (to_publish r key height ∷ below)
@@ -115,11 +115,11 @@ module _ (v : ℕ) (task : Task) (shelf shelf' : Shelf) (clean : HasNoFailed she
       let known : new.outcome ≡ published key height = is-known c.slot c.no_result_yet in
       record {
         changes = changes;
-        all =
-          ( (meets-grow shelf shelf' task (identity_of r) more meets, record { slot = new; claimed = puts.at; known = known })
-          , (λ i is. absurd (cc))
-          , below-stays (identity_of r) new below puts changes free rest
-          );
+        all = (
+          (meets-grow shelf shelf' task (identity_of r) more meets, record { slot = new; claimed = puts.at; known = known }),
+          (λ i is. absurd (cc)),
+          below-stays (identity_of r) new below puts changes free rest,
+        );
         covers = λ i slot there own still. elim (put-cases shelf.slots shelf'.slots (identity_of r) new puts i slot there) [
           | inl e ↦ let f : published key height ≡ no_result = sym known ∙ (sym (ap (λ (s : Slot). s.outcome) e.1) ∙ still) in absurd (cc)
           | inr e ↦ not-here i e.0 (covers i slot e.1 own still)

@@ -160,9 +160,9 @@ module _ (w : Core) (vs : List (Option Sample)) (p : Passes w vs) where
       past q lt =
           let few = p.room.0 in
           let a : refers x q ≡ 0 = none-pass (reference_stands w n) (λ (r : ArcRef). r.handle.0 == q) (sample_references x) (refers-to n x is)
-              (λ r ok. let b = (and_parts (nat_le r.handle.0 12) (if_there (row_refers n r) false (row_at w r.handle) && is_type (type_of r.kind.0) (type_at w r.node.0)) ok).0 in grind (arith, nat_tests)) in
+          (λ r ok. let b = (and_parts (nat_le r.handle.0 12) (if_there (row_refers n r) false (row_at w r.handle) && is_type (type_of r.kind.0) (type_at w r.node.0)) ok).0 in grind (arith, nat_tests)) in
           let c : owns w n q ≡ 0 = none-pass (row_there w) (λ h. is_handle q h && is_owned_by (owner_value n) h) w.rows p.rows
-              (λ h ok. let b = and_parts (nat_lt 0 h.number.0) (nat_le h.number.0 w.last.handle && owner_there w h.owner) ok in let d = (and_parts (nat_le h.number.0 w.last.handle) (owner_there w h.owner) b.1).0 in and-false (is_handle q h) (is_owned_by (owner_value n) h) (grind (arith, nat_tests))) in
+          (λ h ok. let b = and_parts (nat_lt 0 h.number.0) (nat_le h.number.0 w.last.handle && owner_there w h.owner) ok in let d = (and_parts (nat_le h.number.0 w.last.handle) (owner_there w h.owner) b.1).0 in and-false (is_handle q h) (is_owned_by (owner_value n) h) (grind (arith, nat_tests))) in
           rw (a, c) refl
 
   refers-well : (n : ℕ) (r : ArcRef) → reference_stands w n r ≡ true → IsReference w (owner_value n) r

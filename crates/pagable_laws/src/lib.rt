@@ -3,9 +3,9 @@
 #![tactic(auto)]
 
 pub mod keys;
+pub mod order;
 pub mod runs;
 pub mod steps;
-pub mod order;
 pub mod values;
 pub mod worked;
 pub mod world;
