@@ -29,6 +29,8 @@ mod Goes
 mod GoodReferences
 mod Calling
 mod Called
+mod ReadingStepsRows
+mod ReadingSteps
 mod LoadSteps
 mod WalkSteps
 mod Feeling
