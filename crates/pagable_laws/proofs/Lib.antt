@@ -31,6 +31,7 @@ mod Calling
 mod Called
 mod ReadingStepsRows
 mod ReadingSteps
+mod ReadingStepsMachine
 mod LoadSteps
 mod WalkSteps
 mod Feeling
