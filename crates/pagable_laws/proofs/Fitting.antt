@@ -19,7 +19,7 @@ asked-by below true k q kind key (inr is) = absurd (cc)
 asked-by below false k q kind key (inl is) = absurd (cc)
 asked-by below false k q kind key (inr is) = let a : k ≡ kind = cc in let b : q ≡ key = cc in rw (a, b) refl
 
-asked : (below : List Frame) (next : Next) (kind : Kind) (key : ℕ) → (need_at below next ≡ needs_nested kind key) ⊎ (need_at below next ≡ needs_lazy kind key) → next ≡ asks kind key
+pub asked : (below : List Frame) (next : Next) (kind : Kind) (key : ℕ) → (need_at below next ≡ needs_nested kind key) ⊎ (need_at below next ≡ needs_lazy kind key) → next ≡ asks kind key
 asked below (asks k q) kind key is = asked-by below (is_eager k.0) k q kind key is
 asked [] (reads own) kind key (inl is) = absurd (cc)
 asked [] (reads own) kind key (inr is) = absurd (cc)

@@ -32,6 +32,9 @@ mod Called
 mod ReadingStepsRows
 mod ReadingSteps
 mod ReadingStepsMachine
+mod ReadingStepsKinds
+mod ReadingStepsBound
+mod ReadingStepsWithin
 mod LoadSteps
 mod WalkSteps
 mod Feeling
