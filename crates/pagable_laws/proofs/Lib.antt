@@ -47,6 +47,9 @@ mod Doing
 mod Decoding
 mod Fitting
 mod Following
+mod Naming
+mod Held
+mod KeysGoing
 mod Shelves
 mod Stepping
 mod Publishing

@@ -21,7 +21,7 @@ pub record Felt (w w' : Core) : Type 0 where
 pub quiet : {w w' : Core} → Quiet w w' → Felt w w'
 quiet q = record { change = nothing_felt; goes = quiet-goes nothing_felt q }
 
-closed : {w m w' : Core} → Felt w m → Quiet m w' → Felt w w'
+pub closed : {w m w' : Core} → Felt w m → Quiet m w' → Felt w w'
 closed f q = record { change = f.change; goes = goes-quiet f.goes q }
 
 module _ {N B W : Type 0} (m : Seen N B W) (w : Core) (me : Owner) (free : NotLoads me) where
