@@ -26,6 +26,7 @@ mod Joining
 mod Telling
 mod Nexts
 mod Goes
+mod Outlasting
 mod GoodReferences
 mod Calling
 mod Called
