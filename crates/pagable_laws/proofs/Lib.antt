@@ -27,6 +27,7 @@ mod Telling
 mod Nexts
 mod Goes
 mod Outlasting
+mod PinSteps
 mod GoodReferences
 mod Calling
 mod Called

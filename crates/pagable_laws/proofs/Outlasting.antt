@@ -139,7 +139,7 @@ pub stands-alike : {w w' : Core} {q : ℕ} {row : HandleRow} → Alike w w' → 
 stands-alike {w} {w'} {q} {row} a s = subst (λ l. Stands l w'.rows q row) (sym (ap (λ (l : Last). l.handle) a.last)) (subst (λ rows. Stands w.last.handle rows q row) (sym a.rows) s)
 
 -- the element of a changed list was one before
-among-changed : {X : Type 0} (f : X → X) (xs : List X) (x : X) → Among (map f xs) x → (y : X) × Among xs y × (x ≡ f y)
+pub among-changed : {X : Type 0} (f : X → X) (xs : List X) (x : X) → Among (map f xs) x → (y : X) × Among xs y × (x ≡ f y)
 among-changed f [] x among = absurd (cc)
 among-changed f (y ∷ ys) x (zero, is) = (y, (zero, refl), cc)
 among-changed f (y ∷ ys) x (suc i, is) = let r = among-changed f ys x (i, is) in (r.0, (suc r.1.0, r.1.1), r.2)
