@@ -31,6 +31,9 @@ mod PinSteps
 mod GoodReferences
 mod Calling
 mod Called
+mod ReadingStepsRows
+mod ReadingSteps
+mod ReadingStepsMachine
 mod LoadSteps
 mod WalkSteps
 mod Feeling
