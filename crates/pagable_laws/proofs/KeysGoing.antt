@@ -43,6 +43,7 @@ others-work w loads workers worker fewer =
       loads = fewer;
       cache = λ kind key n is. is;
       rows = rows-self w.last.handle w.rows w.rows refl;
+      shut = λ is. is;
     }
   where
     le-self : (n : ℕ) → n ≤ n
