@@ -26,6 +26,8 @@ mod Joining
 mod Telling
 mod Nexts
 mod Goes
+mod Outlasting
+mod PinSteps
 mod GoodReferences
 mod Calling
 mod Called
@@ -53,6 +55,9 @@ mod Doing
 mod Decoding
 mod Fitting
 mod Following
+mod Naming
+mod Held
+mod KeysGoing
 mod Shelves
 mod Stepping
 mod Publishing
