@@ -78,6 +78,10 @@ pub Owes : Types → (ℕ → Option Blob) → ℕ → List Frame → ℕ → Ty
 Owes types store many [] owed = owed ≡ 2 * many + 2
 Owes types store many (frame ∷ below) owed = Owing types store frame (kinds_of frame.got) (λ more. Waits types store frame.kind below more) owed
 
+pub owes-first : (types : Types) (store : ℕ → Option Blob) (many : ℕ) (frames : List Frame) → frames ≡ [] → Owes types store many frames (2 * many + 2)
+unfolding Owes
+owes-first types store many frames none = subst (λ fs. Owes types store many fs (2 * many + 2)) (sym none) refl
+
 pub owes-some : (types : Types) (store : ℕ → Option Blob) (many : ℕ) (frames : List Frame) (owed : ℕ) → Owes types store many frames owed → 1 ≤ owed
 unfolding Owes
 owes-some types store many [] owed is = omega arith

@@ -31,7 +31,7 @@ use Rattle.pagable_laws.proofs.Goes.{IsShut, NotLoads, at-updated}
 use Rattle.pagable_laws.proofs.KeysGoing.{event-goes}
 use Rattle.pagable_laws.proofs.ReadingSteps.{reading-feels}
 use Rattle.pagable_laws.proofs.ReadingStepsMachine.{reading-was, reading-stands, caller-was}
-use Rattle.pagable_laws.proofs.ReadingStepsBound.{Owes, owes-some, owes-less}
+use Rattle.pagable_laws.proofs.ReadingStepsBound.{Owes, owes-first, owes-some, owes-less}
 
 -- ---- one load
 
@@ -39,12 +39,11 @@ use Rattle.pagable_laws.proofs.ReadingStepsBound.{Owes, owes-some, owes-less}
 abbrev pub Bounded : Types → (ℕ → Option Blob) → ℕ → Reading → Type 0
 Bounded types store key reading = (more : ℕ → Option Blob) → KeepsStored store more → (many longest : ℕ) → Unfolds types more reading.node_type key many longest → (owed : ℕ) × Owes types more many reading.frames owed × (reading.steps + owed ≤ 2 * many + 2)
 
-bounded-on : {types : Types} {store later : ℕ → Option Blob} {key : ℕ} {reading : Reading} → KeepsStored store later → Bounded types store key reading → Bounded types later key reading
-bounded-on kept b more after many longest under = b more (λ q x is. after q x (kept q x is)) many longest under
+bounded-on : {types : Types} {store later : ℕ → Option Blob} {key : ℕ} (reading : Reading) → KeepsStored store later → Bounded types store key reading → Bounded types later key reading
+bounded-on reading kept b more after many longest under = b more (λ q x is. after q x (kept q x is)) many longest under
 
 bounded-new : (types : Types) (store : ℕ → Option Blob) (key : ℕ) (reading : Reading) → reading.frames ≡ [] → reading.steps ≡ 0 → Bounded types store key reading
-unfolding Owes
-bounded-new types store key reading none no_steps more kept many longest under = (2 * many + 2, subst (λ fs. Owes types more many fs (2 * many + 2)) (sym none) refl, omega (arith, no_steps))
+bounded-new types store key reading none no_steps more kept many longest under = (2 * many + 2, owes-first types more many reading.frames none, omega (arith, no_steps))
 
 few-more : (n : ℕ) → one_more n ≤ n + 1
 few-more n = omega arith
@@ -58,8 +57,8 @@ bounded-step reading load frames open_load b feels more kept many longest under 
     let g = few-more reading.steps in
     (l.now, l.owes, omega (arith, e, f, g))
 
-has-left : {types : Types} {store : ℕ → Option Blob} {key : ℕ} {reading : Reading} → Bounded types store key reading → HasStepLeft types store key reading
-has-left {types} {store} {key} {reading} b many longest under =
+has-left : {types : Types} {store : ℕ → Option Blob} {key : ℕ} (reading : Reading) → Bounded types store key reading → HasStepLeft types store key reading
+has-left {types} {store} {key} reading b many longest under =
     let o = b store (λ q x is. is) many longest under in
     let e = owes-some types store many reading.frames o.0 o.1 in
     let f = o.2 in
@@ -196,12 +195,12 @@ module _ {N E B W : Type 0} (m : Seen N B W) (s s' : MachineState N E) (whole : 
           let goes = (event-goes m u u' event reply keeps h).goes in
           elim (source event reply h q after is) [
             | inl old ↦ elim (goes.loads q load open_load) [
-              | inl same ↦ bounded-on goes.stored (all q after load old same)
+              | inl same ↦ bounded-on after goes.stored (all q after load old same)
               | inr new ↦ absurd (given q (ap is_some (whole.readings q after old).open_load) new.0)
             ]
             | inr (inl (none, no_steps)) ↦ bounded-new m.values.types u'.core.stored load.key after none no_steps
             | inr (inr st) ↦ elim (goes.loads q load open_load) [
-              | inl same ↦ subst (λ r. Bounded m.values.types u'.core.stored load.key r) (sym st.is) (bounded-on goes.stored (now-bounded all st.s load (subst (λ n. u.core.loads n ≡ Some load) st.here same) st.goes))
+              | inl same ↦ subst (λ r. Bounded m.values.types u'.core.stored load.key r) (sym st.is) (bounded-on (gone_on st.s.reading st.s.frames) goes.stored (now-bounded all st.s load (subst (λ n. u.core.loads n ≡ Some load) st.here same) st.goes))
               | inr new ↦ absurd (given q (subst (λ n. is_some (u.core.loads n) ≡ true) (sym st.here) (fault-open u.core st.l st.s.may)) new.0)
             ]
           ])
@@ -228,12 +227,12 @@ module _ {N E B W : Type 0} (m : Seen N B W) where
   idle-stands s idle = inr (λ l reading load is open_load. let e = idle.readings l in absurd (cc))
 
   steps-left : (s : MachineState N E) → LoadsStand m.values.types (world_of s) → LoadsHaveStepsLeft m.values (world_of s)
-  steps-left s (inl shut) l reading load is open_load many longest under = absurd (nothing-unfolds shut.1 under)
-  steps-left s (inr all) l reading load is open_load = has-left (all l reading load is open_load)
+  steps-left s (inl shut) l reading load is open_load = λ many longest under. absurd (nothing-unfolds shut.1 under)
+  steps-left s (inr all) l reading load is open_load = has-left reading (all l reading load is open_load)
 
 pub loads_bounded : {N B W : Type 0} (E : Type 0) (m : Seen N B W) → LoadsAreBounded E m
 loads_bounded E m =
     record {
-      left = λ start moments whole idle chain. steps-left m _ (along m start moments chain whole (idle-stands m start idle)).1;
+      left = λ start moments whole idle chain. steps-left m (state_after start moments) (along m start moments chain whole (idle-stands m start idle)).1;
       within = λ start moments whole idle chain. (along m start moments chain whole (idle-stands m start idle)).0;
     }
