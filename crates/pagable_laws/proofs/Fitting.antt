@@ -30,7 +30,7 @@ asked below (is_faulty e) kind key (inr is) = absurd (cc)
 
 -- ---- one frame
 
-pushed : {X : Type 0} (xs : List X) (y : X) (i : ℕ) (x : X) → slice_get (xs ++ y ∷ []) i ≡ Some x → (slice_get xs i ≡ Some x) ⊎ ((i ≡ length xs) × (y ≡ x))
+pub pushed : {X : Type 0} (xs : List X) (y : X) (i : ℕ) (x : X) → slice_get (xs ++ y ∷ []) i ≡ Some x → (slice_get xs i ≡ Some x) ⊎ ((i ≡ length xs) × (y ≡ x))
 pushed [] y zero x is = inr (refl, cc)
 pushed [] y (suc i) x is = absurd (cc)
 pushed (z ∷ xs) y zero x is = inl is

@@ -37,6 +37,8 @@ mod ReadingStepsMachine
 mod ReadingStepsKinds
 mod ReadingStepsBound
 mod ReadingStepsWithin
+mod ReadingStepsHanding
+mod ReadingStepsHeld
 mod LoadSteps
 mod WalkSteps
 mod Feeling

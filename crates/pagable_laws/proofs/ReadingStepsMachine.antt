@@ -114,3 +114,9 @@ module _ {N B W : Type 0} {m : Seen N B W} {u u' : World} {k : WorkerNumber} {re
   stepped-worker event is r place through reading below todo =
       let P : Event N B W → Type 0 = λ e. IsSteppedReading u e reading in
       subst P (sym is) (s.walking, r, place, through, below, s.at, todo)
+
+-- the reading that makes the step is the machine's, or has just begun
+pub is-reading-of : {N B W : Type 0} (u : World) (event : Event N B W) (reading : Reading) → IsSteppedReading u event reading → IsReadingOf u.work reading ⊎ ((reading.frames ≡ []) × (reading.load.0 ≤ u.core.last.load))
+is-reading-of u (events.LoadStep l) reading stepped = stepped.1
+is-reading-of u (events.WorkerStep k) reading (walking, r, place, through, below, there, todo) = inl (of_worker k.0 place walking r through below there todo)
+is-reading-of u event reading stepped = absurd stepped

@@ -1,5 +1,6 @@
 //! The laws of runs: what holds of every chain of moments, however loads and workers take turns.
 
+ghost use Rattle.pagable_laws.specs.ReadRuns.{ReadsHeldOn, ReadsGive};
 ghost use Rattle.pagable_laws.specs.TreeRuns.{CallsFit, EventsFit, EventsKeepTrees, IsKeptByGains, ReadingsFit, TreesGoOn, TreesStay};
 
 use crate::world::SeenAs;
@@ -38,4 +39,9 @@ pub fn events_keep_trees<N: SeenAs<B, W>, B, W, E>()
 /// Trees stay along each chain whose steps trees feel so, and each pin that succeeds gives its node's tree.
 pub fn trees_stay<N: SeenAs<B, W>, B, W, E>()
     ensures { TreesStay E N.seen }
+{}
+
+/// What loads got goes on naming nodes as it should.
+pub fn reads_held_on<N: SeenAs<B, W>, B, W, E>()
+    ensures { ReadsHeldOn E N.seen }
 {}
