@@ -40,7 +40,7 @@ longer : {X : Type 0} (xs : List X) (y : X) → length (xs ++ y ∷ []) ≡ leng
 longer [] y = omega arith
 longer (x ∷ xs) y = let a = longer xs y in omega (arith, a)
 
-inside : {X : Type 0} (xs : List X) (i : ℕ) (x : X) → slice_get xs i ≡ Some x → i < length xs
+pub inside : {X : Type 0} (xs : List X) (i : ℕ) (x : X) → slice_get xs i ≡ Some x → i < length xs
 inside [] i x is = absurd (cc)
 inside (y ∷ xs) zero x is = omega arith
 inside (y ∷ xs) (suc i) x is = let a = inside xs i x is in omega (arith, a)

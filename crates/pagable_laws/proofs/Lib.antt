@@ -39,6 +39,7 @@ mod ReadingStepsBound
 mod ReadingStepsWithin
 mod ReadingStepsHanding
 mod ReadingStepsHeld
+mod ReadingStepsGive
 mod LoadSteps
 mod WalkSteps
 mod Feeling

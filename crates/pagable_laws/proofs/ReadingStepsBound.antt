@@ -1,12 +1,11 @@
 -- How many steps an open load still needs: at most two for each reference that its blobs still take, with all that it leads to, and one for each of its blobs.
-use Rattle.std.proofs.Common.{◌≡◌, ℕ, ◌+◌, ◌*◌, ◌≤◌, ◌<◌, ◌⊎◌, Bool, true, false, List, [], ◌∷◌, ◌++◌, refl, sym, ap, subst, ◌∙◌, inl, inr, arith, if◌then◌else◌}
-use Rattle.std.specs.Prelude.{Option, Some, None, min}
-use Rattle.pagable_world.specs.Plain.{ArcRef, Kind, Blob, Types, type_of, is_eager}
+use Rattle.std.proofs.Common.{◌≡◌, ℕ, ◌+◌, ◌*◌, ◌≤◌, ◌⊎◌, Bool, true, false, List, [], ◌∷◌, ◌++◌, refl, sym, ap, subst, ◌∙◌, inl, inr, arith, if◌then◌else◌}
+use Rattle.std.specs.Prelude.{Option, Some, None}
+use Rattle.pagable_world.specs.Plain.{Kind, Blob, Types, type_of, is_eager}
 use Rattle.pagable_world.specs.declared.handles.HandleRow.{HandleRow}
-use Rattle.pagable_world.specs.declared.events.LoadAnswer.{LoadAnswer}
 use Rattle.pagable_world.specs.World.{Core, OpenLoad, Frame, Reading, Values}
-use Rattle.pagable_world.specs.Loads.{Next, reads, asks, is_faulty, next_in, need_at, need_of, needs_nested, needs_lazy, to_adopt, root_frame, nested_frame, with_got, gone_on}
-use Rattle.pagable_world.specs.Order.{after_kinds, Unfolds, unfolds, UnfoldsFrom, ends-here, takes-next, leaves-next, HasStepLeft}
+use Rattle.pagable_world.specs.Loads.{Next, reads, asks, is_faulty, next_in, need_at, need_of, needs_nested, needs_lazy, to_adopt, root_frame, nested_frame, with_got}
+use Rattle.pagable_world.specs.Order.{after_kinds, Unfolds, unfolds, UnfoldsFrom, ends-here, takes-next, leaves-next}
 use Rattle.pagable_laws.specs.ReadLaws.{KeepsStored}
 use Rattle.pagable_laws.specs.TreeSteps.{Change, ReadingFeels, reads-root, reads-blob, gets-known, gets-lazy, makes-known, makes-node, reading-ends}
 use Rattle.pagable_laws.proofs.Trees.{same_some}

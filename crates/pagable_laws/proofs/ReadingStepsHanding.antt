@@ -1,6 +1,6 @@
 -- A load of a key that answers a value hands over the value's references: each was the load's, and is the caller's then.
-use Rattle.std.proofs.Common.{◌≡◌, ℕ, zero, suc, ◌≤◌, ◌==◌, ◌&&◌, ◌||◌, Bool, true, false, List, [], ◌∷◌, map, Ok, Err, refl, sym, ap, subst, ◌∙◌, if◌then◌else◌}
-use Rattle.std.specs.Prelude.{Option, Some, None, not, nat_lt, slice_get}
+use Rattle.std.proofs.Common.{◌≡◌, ℕ, zero, suc, ◌==◌, ◌&&◌, ◌||◌, Bool, true, false, List, [], ◌∷◌, map, Ok, refl, ap, subst, ◌∙◌, if◌then◌else◌}
+use Rattle.std.specs.Prelude.{Option, Some, None, not, nat_lt}
 use Rattle.pagable_model.specs.declared.error.Error.TheVariants as errors
 use Rattle.pagable_world.specs.Plain.{Error, ArcRef, HandleNumber, LoadNumber, Among, is_in, if_there}
 use Rattle.pagable_world.specs.declared.handles.HandleRow.{HandleRow}
@@ -13,7 +13,7 @@ use Rattle.pagable_world.specs.declared.events.EventReply.TheVariants as answers
 use Rattle.pagable_world.specs.declared.events.LoadAnswer.{LoadAnswer}
 use Rattle.pagable_world.specs.declared.events.LoadAnswer.TheVariants as ends
 use Rattle.pagable_world.specs.Kinds.{is_owner}
-use Rattle.pagable_world.specs.World.{Core, OpenLoad, World, Reading, row_at, Values, Seen}
+use Rattle.pagable_world.specs.World.{Core, OpenLoad, World, Reading, row_at, Seen}
 use Rattle.pagable_world.specs.Refusals.{rank, earlier, refused_if, load_fault, named_fault}
 use Rattle.pagable_world.specs.Calls.{moved}
 use Rattle.pagable_world.specs.LoadCalls.{numbers_of, HandOverCall, hand_over_fault, cell_fault, is_owned_in}

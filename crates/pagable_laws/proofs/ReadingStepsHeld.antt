@@ -1,16 +1,16 @@
 -- What loads got goes on naming nodes as it should, whatever happens.
-use Rattle.std.proofs.Common.{◌≡◌, ℕ, zero, suc, ◌+◌, ◌<◌, ◌≤◌, ◌⊎◌, true, List, [], ◌∷◌, ◌++◌, Ok, refl, sym, ap, subst, ◌∙◌, inl, inr, arith}
-use Rattle.std.specs.Prelude.{Option, Some, None, slice_get, length}
+use Rattle.std.proofs.Common.{◌≡◌, ℕ, zero, suc, true, List, [], ◌∷◌, ◌++◌, refl, sym, ap, subst, ◌∙◌, inl, inr, arith}
+use Rattle.std.specs.Prelude.{Option, Some, None, slice_get}
 use Rattle.pagable_world.specs.Plain.{ArcRef, Kind, LoadNumber, Among}
 use Rattle.pagable_world.specs.declared.handles.HandleRow.{HandleRow}
 use Rattle.pagable_world.specs.declared.events.Event.{Event}
 use Rattle.pagable_world.specs.declared.events.EventReply.{EventReply}
 use Rattle.pagable_world.specs.declared.events.LoadAnswer.{LoadAnswer}
 use Rattle.pagable_world.specs.Kinds.{fits_mode}
-use Rattle.pagable_world.specs.World.{Core, Frame, Reading, World, row_at, Values, Seen}
-use Rattle.pagable_world.specs.Loads.{with_got, root_frame, nested_frame, gone_on}
-use Rattle.pagable_world.specs.Pager.{MachineState, world_of, IsIdle, IsReadingOf, of_caller, of_worker}
-use Rattle.pagable_laws.specs.TreeSteps.{Change, CoreGoes, GetsRow, KeepsReadings, StepsReading, IsSteppedReading, ReadingFeels, reads-root, reads-blob, gets-known, gets-lazy, makes-known, makes-node, reading-ends, EventFeels, by-call, by-reading, by-key, by-nothing, StepFeels}
+use Rattle.pagable_world.specs.World.{Core, Frame, Reading, World, Values, Seen}
+use Rattle.pagable_world.specs.Loads.{with_got, root_frame, nested_frame}
+use Rattle.pagable_world.specs.Pager.{MachineState, IsIdle, IsReadingOf, of_caller, of_worker}
+use Rattle.pagable_laws.specs.TreeSteps.{Change, CoreGoes, GetsRow, KeepsReadings, ReadingFeels, reads-root, reads-blob, gets-known, gets-lazy, makes-known, makes-node, reading-ends, EventFeels, by-call, by-reading, by-key, by-nothing}
 use Rattle.pagable_laws.specs.ReadRuns.{GotStands, FramesHeld, ReadingsHeld, ReadsHeldOn}
 use Rattle.pagable_laws.proofs.Trees.{same_some}
 use Rattle.pagable_laws.proofs.Fitting.{pushed}

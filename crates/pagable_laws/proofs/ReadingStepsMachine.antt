@@ -13,7 +13,7 @@ use Rattle.pagable_world.specs.declared.events.Took.{Took}
 use Rattle.pagable_world.specs.declared.events.Event.TheVariants as events
 use Rattle.pagable_world.specs.declared.events.Event.{Event}
 use Rattle.pagable_world.specs.Kinds.{owner_worker}
-use Rattle.pagable_world.specs.World.{OpenLoad, Root, of_cell, of_key, Frame, Reading, Todo, to_load, to_write, to_fail, Walking, World, Seen, Values}
+use Rattle.pagable_world.specs.World.{OpenLoad, Root, of_cell, of_key, Frame, Reading, Todo, to_load, to_write, Walking, World, Seen, Values}
 use Rattle.pagable_world.specs.Loads.{ReadingDoes, gone_on}
 use Rattle.pagable_world.specs.Workers as workers
 use Rattle.pagable_world.specs.Workers.{Site, fresh}

@@ -1,7 +1,7 @@
 -- Each step of a load of the caller's is within its bound, and one that is open has a step left, along every chain.
 use Rattle.std.proofs.Common.{◌≡◌, ℕ, ◌+◌, ◌*◌, ◌≤◌, ◌<◌, ◌⊎◌, true, List, [], ◌∷◌, Ok, Err, refl, sym, ap, subst, ◌∙◌, inl, inr, arith}
 use Rattle.std.specs.Prelude.{Option, Some, None, is_some, IsSome}
-use Rattle.pagable_world.specs.Plain.{Blob, Types, LoadNumber, updated}
+use Rattle.pagable_world.specs.Plain.{Blob, Types, LoadNumber}
 use Rattle.pagable_model.specs.declared.error.Error.TheVariants as errors
 use Rattle.pagable_world.specs.declared.answers.Beginning.TheVariants as beginnings
 use Rattle.pagable_world.specs.declared.calls.Call.TheVariants as calls
@@ -11,7 +11,6 @@ use Rattle.pagable_world.specs.declared.events.Event.{Event}
 use Rattle.pagable_world.specs.declared.events.Event.TheVariants as events
 use Rattle.pagable_world.specs.declared.events.EventReply.{EventReply}
 use Rattle.pagable_world.specs.declared.events.EventReply.TheVariants as answers
-use Rattle.pagable_world.specs.declared.events.LoadAnswer.{LoadAnswer}
 use Rattle.pagable_world.specs.declared.events.LoadReply.{LoadReply}
 use Rattle.pagable_world.specs.World.{Core, OpenLoad, Reading, Frame, World, Values, Seen, one_more}
 use Rattle.pagable_world.specs.Loads.{gone_on}
@@ -74,12 +73,14 @@ is-within {types = types} {store} {key} reading frames reply b after counts many
     let o = b store (λ q x is. is) many longest under in
     let e = owes-some types store many reading.frames o.0 o.1 in
     let f = o.2 in
-    let g = few-more reading.steps in
-    (omega (arith, e, f, g, counts), λ last. ended-some reply.ended (λ none.
-        let p = after none store (λ q x is. is) many longest under in
-        let r = owes-some types store many frames p.0 p.1 in
-        let t = p.2 in
-        absurd (omega (arith, r, t, last, counts))))
+    let g = few-more reading.steps in (
+      omega (arith, e, f, g, counts),
+      λ last. ended-some reply.ended (λ none.
+          let p = after none store (λ q x is. is) many longest under in
+          let r = owes-some types store many frames p.0 p.1 in
+          let t = p.2 in
+          absurd (omega (arith, r, t, last, counts))),
+    )
 
 -- ---- the machine's loads
 

@@ -45,3 +45,8 @@ pub fn trees_stay<N: SeenAs<B, W>, B, W, E>()
 pub fn reads_held_on<N: SeenAs<B, W>, B, W, E>()
     ensures { ReadsHeldOn E N.seen }
 {}
+
+/// A value that a load of a key answers stands for the tree that the key reads as, and the caller has its references.
+pub fn reads_give<N: SeenAs<B, W>, B, W, E>()
+    ensures { ReadsGive E N.seen }
+{}

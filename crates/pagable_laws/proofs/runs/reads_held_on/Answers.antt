@@ -1,5 +1,4 @@
 use Rattle.pagable_laws.proofs.ReadingStepsHeld.{reads_held}
-use Rattle.pagable_laws.proofs.ReadingStepsHanding.{reads-hold}
 use Rattle.pagable_laws.proofs.runs.reads_held_on.Goals as goal
 
 pub returns : goal.returns
