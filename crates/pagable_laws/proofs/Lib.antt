@@ -52,6 +52,9 @@ mod Doing
 mod Decoding
 mod Fitting
 mod Following
+mod Naming
+mod Held
+mod KeysGoing
 mod Shelves
 mod Stepping
 mod Publishing
