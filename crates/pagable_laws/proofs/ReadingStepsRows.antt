@@ -107,8 +107,8 @@ module _ {w w' : Core} (whole : HandlesAreWhole w) (kind : Kind) (k : HandleNumb
       let rows = cached-rows born kind key (next_node w) in
       let few = ap (λ (l : Last). l.handle) (a.last ∙ rows.1) in
       gets (moved (is_named_by references) (owner_value (w.last.node + 1)) w.rows) (next_node w) (owners.Load l) (omega (arith, few))
-          (λ r found. let c = found-changed (λ (h : HandleRow). is_named_by references h.number.0) (λ h. record h { owner = owner_value (w.last.node + 1) }) (λ h. refl) k.0 w.rows r found in none-above whole k.0 c.was (next-above k.0 w.last.handle next) c.live)
-          (subst (λ rows. find_row k.0 rows ≡ Some row) (a.rows ∙ rows.0) made)
+      (λ r found. let c = found-changed (λ (h : HandleRow). is_named_by references h.number.0) (λ h. record h { owner = owner_value (w.last.node + 1) }) (λ h. refl) k.0 w.rows r found in none-above whole k.0 c.was (next-above k.0 w.last.handle next) c.live)
+      (subst (λ rows. find_row k.0 rows ≡ Some row) (a.rows ∙ rows.0) made)
 
 -- it is so in a world that is alike
 pub gets-alike : {w m w' : Core} {kind : Kind} {n : ℕ} {row : HandleRow} → GetsRow w m kind n row → Alike m w' → GetsRow w w' kind n row
