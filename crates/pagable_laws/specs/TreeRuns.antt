@@ -3,7 +3,7 @@ use Rattle.std.specs.Prelude.{List, [], ◌∷◌, ◌≤◌, ℕ, ◌≡◌, �
 use Rattle.pagable_world.specs.Plain.{Blob, Types, Tree, ReadsTree}
 use Rattle.pagable_world.specs.World.{World, Values, Seen, IsLawful, OpenLoad, Reading, Frame}
 use Rattle.pagable_world.specs.Pager.{MachineState, world_of, IsMachineWhole, IsIdle, StandsFor, IsReadingOf, PagerState, WellFormed, Moves, Represents, SameTrees, CallBrings, ReadingBrings, ReadingFits, EventBrings, ReadsNodeTree}
-use Rattle.pagable_world.specs.Runs.{HoldsSettled, ReadsItsTypes, AsksWell, TakesWell, IsWellAsked, KeepsOpen, Moment, AreMoments, TreesAlong}
+use Rattle.pagable_world.specs.Runs.{HoldsSettled, ReadsItsTypes, AsksWell, TakesWell, IsWellAsked, Moment, AreMoments, TreesAlong}
 use Rattle.pagable_world.specs.Headline.{PinGives}
 use Rattle.pagable_world.specs.declared.events.Event.{Event}
 use Rattle.pagable_world.specs.declared.events.LoadAnswer.{LoadAnswer}
@@ -70,17 +70,12 @@ EventsKeepTrees {N} {B} {W} E m = IsLawful m.values → ReadsItsTypes m.values.t
     → IsMachineWhole m.values s → IsMachineWhole m.values s' → KeysAreReady m.values s trees → IsWellAsked m.values s trees event reply → Moves (EventBrings m.values (world_of s) event) s.pager s'.pager
     → StepFeels m.values (world_of s) event reply (world_of s') → TreesAfterEvent m.values s s' trees
 
--- along a chain trees feel each step so that doesn't close the storage
-abbrev pub FeltAlong : {N E B W : Type 0} → Seen N B W → MachineState N E → List (Moment N E B W) → Type 0
-FeltAlong m s [] = Unit {0}
-FeltAlong m s (x ∷ xs) = (KeepsOpen x.event → StepFeels m.values (world_of s) x.event x.reply (world_of x.after)) × FeltAlong m x.after xs
-
 -- pins give trees, and keys are right
 pub record PinsAndKeys {N E B W : Type 0} (v : Values N) (s : MachineState N E) (trees : ℕ → Tree) (event : Event N B W) (reply : EventReply N B W) (s' : MachineState N E) (trees' : ℕ → Tree) : Type 0 where
   pub pins_give : PinGives v s trees event reply s' trees'
   pub keys : KeysAreRight v s trees event reply s' trees'
 
--- Trees stay: along such a chain, which begins where nobody works yet, each node keeps its tree, each pin that succeeds gives the tree that its handle's node was made with, and keys are right.
+-- Trees stay: along each chain that begins where nobody works yet, each node keeps its tree, each pin that succeeds gives the tree that its handle's node was made with, and keys are right.
 abbrev pub TreesStay : {N B W : Type 0} → (E : Type 0) → Seen N B W → Type 0
 TreesStay {N} {B} {W} E m = IsLawful m.values → ReadsItsTypes m.values.types → (s : MachineState N E) (trees : ℕ → Tree) (moments : List (Moment N E B W)) → IsMachineWhole m.values s → IsIdle s → HoldsSettled m.values s.pager → StandsFor m.values s trees
-    → AreMoments m s moments → FeltAlong m s moments → TreesAlong m (PinsAndKeys m.values) s trees moments
+    → AreMoments m s moments → TreesAlong m (PinsAndKeys m.values) s trees moments
