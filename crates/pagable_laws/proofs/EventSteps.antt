@@ -2,7 +2,7 @@
 use Rattle.std.proofs.Common.{◌≡◌, ℕ, ◌+◌, ◌<◌, ◌≤◌, Bool, true, false, List, [], ◌∷◌, ◌++◌, refl, sym, ap, subst, ◌∙◌, inl, inr, arith}
 use Rattle.std.specs.Prelude.{Option, Some, None, ◌⊎◌, Ok, Err, Result, is_some, if◌then◌else◌}
 use Rattle.pagable_model.specs.declared.data_key.OptionalDataKey.TheVariants as optional
-use Rattle.pagable_world.specs.Plain.{Error, ArcRef, HandleNumber, LoadNumber, WorkerNumber, OptionalDataKey, Tree, updated, if_there}
+use Rattle.pagable_world.specs.Plain.{Error, ArcRef, HandleNumber, LoadNumber, WorkerNumber, Tree, updated, if_there}
 use Rattle.pagable_world.specs.declared.handles.Owner.TheVariants as owners
 use Rattle.pagable_world.specs.declared.answers.Beginning.{Beginning}
 use Rattle.pagable_world.specs.declared.answers.Beginning.TheVariants as beginnings
@@ -15,13 +15,13 @@ use Rattle.pagable_world.specs.declared.events.TableNumber.{TableNumber}
 use Rattle.pagable_world.specs.declared.events.WorkerAnswer.{WorkerAnswer}
 use Rattle.pagable_world.specs.declared.events.WorkerReply.{WorkerReply}
 use Rattle.pagable_world.specs.Cascade.{only_handle}
-use Rattle.pagable_world.specs.World.{Core, Cell, Last, OpenLoad, Reading, Shelf, Todo, to_start, to_pin, to_load, to_write, to_finish, to_item, to_set, to_publish, to_release, to_fail, Task, of_item, of_entry, Walking, World, Alike, Seen, Values, type_at, key_at}
+use Rattle.pagable_world.specs.World.{Core, Cell, Last, OpenLoad, Reading, Shelf, Todo, to_start, to_load, to_finish, to_item, to_release, Task, of_item, of_entry, Walking, World, Alike, Seen, Values, type_at, key_at}
 use Rattle.pagable_world.specs.Workers.{Site, first_todo, next_start, fresh, without_worker, WorkerEnds, is_workers_load, answer_after}
 use Rattle.pagable_world.specs.LoadCalls.{BeginsKey}
-use Rattle.pagable_world.specs.Events.{ReadingsAre, WorkStays, WorkIs, Stays, OnlyCore, begun_readings, KeyStarted, Starts, new_walking, Ends, WorkerSteps, Happens, with_worker}
+use Rattle.pagable_world.specs.Events.{ReadingsAre, Stays, begun_readings, KeyStarted, Starts, new_walking, Ends, WorkerSteps, Happens, with_worker}
 use Rattle.pagable_world.specs.Pager.{MachineState, world_of, IsWhole, HandlesAreWhole, IsMachineWhole, IsNewNode, EventBrings, TodoBrings, IsReadingOf, of_caller, of_worker}
 use Rattle.pagable_world.specs.Runs.{KeepsOpen, Does}
-use Rattle.pagable_laws.specs.TreeSteps.{Change, nothing_felt, sets_key, CoreGoes, SameNode, NewNode, Sets, StaysAway, KeepsReadings, EventFeels, by-call, by-reading, by-key, by-nothing, StepFeels}
+use Rattle.pagable_laws.specs.TreeSteps.{Change, nothing_felt, CoreGoes, SameNode, NewNode, StaysAway, KeepsReadings, EventFeels, by-call, by-reading, by-key, by-nothing, StepFeels}
 use Rattle.pagable_laws.specs.PageOutLaws.{WorkFits, Waits, Walks, Ground}
 use Rattle.pagable_laws.proofs.Trees.{same_some}
 use Rattle.pagable_laws.proofs.Goes.{Quiet, Goes, Kept, NotLoads, rows-self, quiet-then, quiet-goes, goes-quiet, alike, fell-anyhow, at-updated}
@@ -30,7 +30,7 @@ use Rattle.pagable_laws.proofs.Calling.{some-moved, begins, begins-key}
 use Rattle.pagable_laws.proofs.Called.{calls-go}
 use Rattle.pagable_laws.proofs.ReadingSteps.{reading-feels, feels-alike}
 use Rattle.pagable_laws.proofs.ReadingStepsMachine.{reading-was, steps-load, stepped-load, steps-worker, stepped-worker}
-use Rattle.pagable_laws.proofs.WalkSteps.{NoLoad, WaitsWell, LoadsAnew, WalkFeels, walk-loads, walk-sets, walk-rests, WalkFelt, walk-goes}
+use Rattle.pagable_laws.proofs.WalkSteps.{NoLoad, WaitsWell, LoadsAnew, WalkFeels, walk-loads, walk-sets, walk-rests, walk-goes}
 
 caller-free : NotLoads owners.Caller
 caller-free l is = absurd (cc)

@@ -1,20 +1,15 @@
 -- Workers go on holding what they hold.
-use Rattle.std.proofs.Common.{◌≡◌, ℕ, ◌+◌, ◌≤◌, Bool, true, false, inl, inr, Option, Some, None, Ok, Err, refl, sym, subst, ◌∙◌, if◌then◌else◌, arith}
+use Rattle.std.proofs.Common.{◌≡◌, ℕ, true, inl, inr, Some, Ok, Err, refl, sym, subst, ◌∙◌}
 use Rattle.pagable_world.specs.Plain.{Identity, WorkerNumber, ReadsTree, is_loose_kind, updated}
-use Rattle.pagable_world.specs.declared.handles.Owner.TheVariants as owners
 use Rattle.pagable_world.specs.declared.events.Event.TheVariants as events
 use Rattle.pagable_world.specs.declared.events.Event.{Event}
 use Rattle.pagable_world.specs.declared.events.EventReply.TheVariants as answers
 use Rattle.pagable_world.specs.declared.events.EventReply.{EventReply}
-use Rattle.pagable_world.specs.declared.events.TableNumber.{TableNumber}
-use Rattle.pagable_world.specs.declared.events.WorkerAnswer.{WorkerAnswer}
 use Rattle.pagable_world.specs.declared.events.WorkerReply.{WorkerReply}
-use Rattle.pagable_world.specs.Cascade.{only_handle}
-use Rattle.pagable_world.specs.World.{Core, OpenLoad, Shelf, Task, of_item, of_entry, Walking, World, Seen}
-use Rattle.pagable_world.specs.Workers.{Site, IsPublished, first_todo, without_worker, WorkerEnds, is_workers_load}
-use Rattle.pagable_world.specs.Events.{WorkStays, WorkIs, no_shelf, new_walking, Starts, Ends, WorkerSteps, Happens, with_worker}
+use Rattle.pagable_world.specs.World.{Core, Shelf, Task, of_item, of_entry, Walking, World, Seen}
+use Rattle.pagable_world.specs.Workers.{Site, IsPublished, first_todo}
+use Rattle.pagable_world.specs.Events.{WorkStays, WorkIs, no_shelf, new_walking, WorkerSteps, Happens}
 use Rattle.pagable_world.specs.Pager.{world_of, HandlesAreWhole}
-use Rattle.pagable_world.specs.Runs.{KeepsOpen}
 use Rattle.pagable_laws.specs.TreeSteps.{Change, nothing_felt}
 use Rattle.pagable_laws.specs.KeyRuns.{KeyIsSet, AllHold, KeysHeld, HeldAtFirst, HeldOn, HeldGivesReady}
 use Rattle.pagable_laws.proofs.Trees.{same_some}

@@ -1,5 +1,5 @@
 -- What a worker's step does to the plain world, as trees feel it, and which loads it begins.
-use Rattle.std.proofs.Common.{◌≡◌, ℕ, ◌+◌, ◌≤◌, Bool, true, false, List, [], ◌∷◌, ◌++◌, refl, sym, ap, subst, ◌∙◌, inl, inr, drop, length, arith}
+use Rattle.std.proofs.Common.{◌≡◌, ℕ, ◌+◌, ◌≤◌, Bool, true, false, List, [], ◌∷◌, ◌++◌, refl, sym, ap, subst, ◌∙◌, inl, inr, arith}
 use Rattle.std.specs.Prelude.{Option, Some, None, Ok, Err, Result}
 use Rattle.pagable_world.specs.Plain.{Error, ArcRef, HandleNumber, LoadNumber}
 use Rattle.pagable_world.specs.declared.handles.HandleRow.{HandleRow}
@@ -10,9 +10,8 @@ use Rattle.pagable_world.specs.declared.events.PinStep.TheVariants as pinsteps
 use Rattle.pagable_world.specs.declared.events.Took.TheVariants as took
 use Rattle.pagable_world.specs.declared.events.Took.{Took}
 use Rattle.pagable_world.specs.Kinds.{owner_worker, is_loose}
-use Rattle.pagable_world.specs.World.{Core, Last, OpenLoad, Reading, Written, Todo, to_start, to_pin, to_load, to_write, to_finish, to_item, to_set, to_publish, to_release, to_fail, row_at, Seen}
+use Rattle.pagable_world.specs.World.{Core, Last, OpenLoad, Reading, Todo, to_start, to_pin, to_load, to_write, to_finish, to_item, to_set, to_publish, to_release, to_fail, row_at, Seen}
 use Rattle.pagable_world.specs.Calls.{SetKeyCall}
-use Rattle.pagable_world.specs.LoadCalls.{BeginCall}
 use Rattle.pagable_world.specs.Workers.{Site, Does, PinsAtOnce, PinsByLoad, PinRefused, GivesBack, next_start, give, give_known}
 use Rattle.pagable_world.specs.Pager.{HandlesAreWhole, TodoBrings}
 use Rattle.pagable_laws.specs.TreeSteps.{Change, nothing_felt, sets_key, ReadingFeels}

@@ -1,5 +1,5 @@
 -- The laws of trees along runs.
-use Rattle.std.specs.Prelude.{List, [], ◌∷◌, ◌≤◌, ℕ, ◌≡◌, ◌+◌, Option, Some, None}
+use Rattle.std.specs.Prelude.{List, ◌≤◌, ℕ, ◌≡◌, ◌+◌, Option, Some, None}
 use Rattle.pagable_world.specs.Plain.{Blob, Types, Tree, ReadsTree}
 use Rattle.pagable_world.specs.World.{World, Values, Seen, IsLawful, OpenLoad, Reading, Frame}
 use Rattle.pagable_world.specs.Pager.{MachineState, world_of, IsMachineWhole, IsIdle, StandsFor, IsReadingOf, PagerState, WellFormed, Moves, Represents, SameTrees, CallBrings, ReadingBrings, ReadingFits, EventBrings, ReadsNodeTree}
