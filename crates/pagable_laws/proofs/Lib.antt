@@ -40,8 +40,8 @@ mod ReadingStepsWithin
 mod ReadingStepsHanding
 mod ReadingStepsHeld
 mod ReadingStepsGive
-mod LoadSteps
 mod WalkSteps
+mod EventSteps
 mod Feeling
 mod Once
 mod Standing

@@ -27,7 +27,7 @@ use Rattle.pagable_laws.specs.TreeSteps.{Change, ReadingFeels}
 use Rattle.pagable_laws.specs.BoundLaws.{LoadsAreBounded}
 use Rattle.pagable_laws.proofs.Trees.{same_some}
 use Rattle.pagable_laws.proofs.Goes.{IsShut, NotLoads, at-updated}
-use Rattle.pagable_laws.proofs.KeysGoing.{event-goes}
+use Rattle.pagable_laws.proofs.EventSteps.{event-goes}
 use Rattle.pagable_laws.proofs.ReadingSteps.{reading-feels}
 use Rattle.pagable_laws.proofs.ReadingStepsMachine.{reading-was, reading-stands, caller-was}
 use Rattle.pagable_laws.proofs.ReadingStepsBound.{Owes, owes-first, owes-some, owes-less}
