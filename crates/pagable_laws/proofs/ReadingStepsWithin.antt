@@ -26,9 +26,9 @@ use Rattle.pagable_laws.specs.ReadLaws.{KeepsStored}
 use Rattle.pagable_laws.specs.TreeSteps.{Change, ReadingFeels}
 use Rattle.pagable_laws.specs.BoundLaws.{LoadsAreBounded}
 use Rattle.pagable_laws.proofs.Trees.{same_some}
-use Rattle.pagable_laws.proofs.Goes.{IsShut, NotLoads, at-updated}
+use Rattle.pagable_laws.proofs.Goes.{IsShut, at-updated}
 use Rattle.pagable_laws.proofs.EventSteps.{event-goes}
-use Rattle.pagable_laws.proofs.ReadingSteps.{reading-feels}
+use Rattle.pagable_laws.proofs.ReadingSteps.{caller-free, reading-feels}
 use Rattle.pagable_laws.proofs.ReadingStepsMachine.{reading-was, reading-stands, caller-was}
 use Rattle.pagable_laws.proofs.ReadingStepsBound.{Owes, owes-first, owes-some, owes-less}
 
@@ -106,9 +106,6 @@ fault-open w l none = of (w.loads l.0) refl
     of : (found : Option OpenLoad) → w.loads l.0 ≡ found → is_some (w.loads l.0) ≡ true
     of None e = let f : Some errors.NoSuchHandle ≡ None = rw e at none in absurd (cc)
     of (Some load) e = ap is_some e
-
-caller-free : NotLoads owners.Caller
-caller-free l is = absurd (cc)
 
 closed-shut : {w w' : Core} {r : _} → CloseCall w r w' → IsShut w'
 closed-shut c = (c.falls.falls.leaves.closed, c.falls.falls.leaves.stored)
