@@ -14,7 +14,8 @@ use Rattle.pagable_laws.specs.TreeRuns.{ChangeFits, ReadingsGiven, TreesAfterEve
 use Rattle.pagable_laws.proofs.Trees.{same_some}
 use Rattle.pagable_laws.proofs.TreesGoing.{trees-go-on}
 use Rattle.pagable_laws.proofs.Taking.{AtStep, fit-still, fit-after}
-use Rattle.pagable_laws.proofs.Staying.{reading-is, nothing-yet, none-given, fits-of, given-of, event-fits}
+use Rattle.pagable_laws.proofs.ReadingStepsMachine.{is-reading-of}
+use Rattle.pagable_laws.proofs.Staying.{nothing-yet, none-given, fits-of, given-of, event-fits}
 
 module _ {N E B W : Type 0} (m : Seen N B W) (s s' : MachineState N E) (trees trees' : ℕ → Tree) (whole : IsMachineWhole m.values s) (whole' : IsMachineWhole m.values s') (stands : StandsFor m.values s trees) (given : ReadingsGiven s)
     {comes : ℕ → N → Type 0} {c : Change} (goes : CoreGoes c s.pager.core s'.pager.core) (fits : ChangeFits m.values c comes s.pager s'.pager trees trees') where
@@ -79,7 +80,7 @@ module _ {N E B W : Type 0} (m : Seen N B W) (s s' : MachineState N E) (trees tr
     | inr (none, gone) ↦
         let load = opens none in
         let felt = subst (λ (o : Option (LoadAnswer N)). ReadingFeels m.values s.pager.core was o frames s'.pager.core c) none (subst (λ z. ReadingFeels m.values s.pager.core was answer frames s'.pager.core z) e feels) in
-        subst GoesOn (sym gone) (stepped-goes was frames (reading-is m s trees event was stepped) load.0 load.1 felt)
+        subst GoesOn (sym gone) (stepped-goes was frames (is-reading-of (world_of s) event was stepped) load.0 load.1 felt)
   ]
 
 -- a machine that stands for trees does so after each event, as trees feel it

@@ -6,7 +6,7 @@ use Rattle.pagable_world.specs.declared.events.Event.TheVariants as events
 use Rattle.pagable_world.specs.declared.events.EventReply.{EventReply}
 use Rattle.pagable_world.specs.Plain.{Tree, Among}
 use Rattle.pagable_world.specs.World.{Reading, Frame, to_load, Walking, Values, Seen, IsLawful}
-use Rattle.pagable_world.specs.Pager.{MachineState, PagerState, world_of, IsMachineWhole, StandsFor, FramesFit, ReadingFits, ReadingBrings, TodoBrings, EventBrings, IsReadingOf, of_worker}
+use Rattle.pagable_world.specs.Pager.{MachineState, PagerState, world_of, IsMachineWhole, StandsFor, FramesFit, ReadingFits, ReadingBrings, TodoBrings, EventBrings, IsReadingOf}
 use Rattle.pagable_world.specs.Runs.{HoldsSettled, ReadsItsTypes, TakesWell, TodoTakesWell, AsksWell, IsWellAsked}
 use Rattle.pagable_laws.specs.ReadLaws.{FramesGiven}
 use Rattle.pagable_laws.specs.TreeSteps.{Change, CoreGoes, IsSteppedReading, EventFeels, by-call, by-reading, by-key, by-nothing, KeysAreReady}
@@ -15,6 +15,7 @@ use Rattle.pagable_laws.proofs.Trees.{same_some}
 use Rattle.pagable_laws.proofs.Fitting.{tree-stays}
 use Rattle.pagable_laws.proofs.Felt.{none-comes, fits-nothing, fits-key, call-fits}
 use Rattle.pagable_laws.proofs.Brought.{reading-fits}
+use Rattle.pagable_laws.proofs.ReadingStepsMachine.{is-reading-of}
 
 module _ {N E : Type 0} {v : Values N} {c : Change} {s s' : PagerState N E} {trees trees' : ℕ → Tree} where
   -- what comes is said in other words
@@ -38,12 +39,6 @@ module _ {N E B W : Type 0} (m : Seen N B W) (s : MachineState N E) (trees : ℕ
   reading-takes (events.LoadStep l) reply reading stepped well = well reading stepped.0
   reading-takes (events.WorkerStep k) reply reading (walking, r, place, through, below, there, todo) well = subst (λ z. TodoTakesWell m.values s.pager z) todo (well walking there)
   reading-takes event reply reading stepped well = absurd stepped
-
-  -- it is one of the machine's, or has just begun
-  pub reading-is : (event : Event N B W) (reading : Reading) → IsSteppedReading (world_of s) event reading → IsReadingOf s.work reading ⊎ ((reading.frames ≡ []) × (reading.load.0 ≤ s.pager.core.last.load))
-  reading-is (events.LoadStep l) reading stepped = stepped.1
-  reading-is (events.WorkerStep k) reading (walking, r, place, through, below, there, todo) = inl (of_worker k.0 place walking r through below there todo)
-  reading-is event reading stepped = absurd stepped
 
   pub nothing-yet : (reading : Reading) → reading.frames ≡ [] → ReadingFits m.values s.pager trees reading
   unfolding FramesFit
@@ -70,7 +65,7 @@ module _ {N E B W : Type 0} (m : Seen N B W) (s : MachineState N E) (trees : ℕ
         let f = call-fits lawful settled whole.pager whole'.pager stands.pager c call answer goes asked feels in
         (f.after, subst (λ e. ChangeFits m.values c (EventBrings m.values (world_of s) e) s.pager s'.pager trees f.after) (sym called) f.fits)
     event-fits lawful readable s' settled whole whole' ready event reply goes well (by-reading c reading answer frames stepped opens feels steps) =
-        let is = reading-is event reading stepped in
+        let is = is-reading-of (world_of s) event reading stepped in
         let f = reading-fits lawful readable settled whole.pager whole'.pager stands.pager reading (fits-of reading is) (given-of reading is) goes (reading-takes event reply reading stepped well) opens feels in
         (f.0, comes-from _ _ (λ n x brings. reading-brings event reading n x stepped brings) f.1)
     event-fits lawful readable s' settled whole whole' ready event reply goes well (by-key k key row is sets keeps) =
