@@ -1,8 +1,8 @@
 -- What trees feel of each event that doesn't close the storage.
-use Rattle.std.proofs.Common.{◌≡◌, ℕ, ◌+◌, ◌<◌, ◌≤◌, Bool, true, false, List, [], ◌∷◌, ◌++◌, refl, sym, ap, subst, ◌∙◌, inl, inr, arith}
+use Rattle.std.proofs.Common.{◌≡◌, ℕ, ◌+◌, ◌<◌, ◌≤◌, Bool, true, false, List, [], ◌∷◌, refl, sym, ap, subst, ◌∙◌, inl, inr, arith}
 use Rattle.std.specs.Prelude.{Option, Some, None, ◌⊎◌, Ok, Err, Result, is_some, if◌then◌else◌}
 use Rattle.pagable_model.specs.declared.data_key.OptionalDataKey.TheVariants as optional
-use Rattle.pagable_world.specs.Plain.{Error, ArcRef, HandleNumber, LoadNumber, WorkerNumber, Tree, updated, if_there}
+use Rattle.pagable_world.specs.Plain.{Error, HandleNumber, LoadNumber, WorkerNumber, Tree, updated, if_there}
 use Rattle.pagable_world.specs.declared.handles.Owner.TheVariants as owners
 use Rattle.pagable_world.specs.declared.answers.Beginning.{Beginning}
 use Rattle.pagable_world.specs.declared.answers.Beginning.TheVariants as beginnings
@@ -15,7 +15,7 @@ use Rattle.pagable_world.specs.declared.events.TableNumber.{TableNumber}
 use Rattle.pagable_world.specs.declared.events.WorkerAnswer.{WorkerAnswer}
 use Rattle.pagable_world.specs.declared.events.WorkerReply.{WorkerReply}
 use Rattle.pagable_world.specs.Cascade.{only_handle}
-use Rattle.pagable_world.specs.World.{Core, Cell, Last, OpenLoad, Reading, Shelf, Todo, to_start, to_load, to_finish, to_item, to_release, Task, of_item, of_entry, Walking, World, Alike, Seen, Values, type_at, key_at}
+use Rattle.pagable_world.specs.World.{Core, Cell, Last, OpenLoad, Reading, Shelf, Todo, to_start, to_finish, to_item, to_release, Task, of_item, of_entry, Walking, World, Alike, Seen, Values, type_at, key_at}
 use Rattle.pagable_world.specs.Workers.{Site, first_todo, fresh, without_worker, WorkerEnds, is_workers_load, answer_after}
 use Rattle.pagable_world.specs.LoadCalls.{BeginsKey}
 use Rattle.pagable_world.specs.Events.{ReadingsAre, Stays, begun_readings, KeyStarted, Starts, new_walking, Ends, WorkerSteps, Happens, with_worker}

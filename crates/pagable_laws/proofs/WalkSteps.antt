@@ -1,5 +1,5 @@
 -- What a worker's step does to the plain world, as trees feel it, and which loads it begins.
-use Rattle.std.proofs.Common.{◌≡◌, ℕ, ◌+◌, ◌≤◌, Bool, true, false, List, [], ◌∷◌, ◌++◌, refl, sym, ap, subst, ◌∙◌, inl, inr, arith}
+use Rattle.std.proofs.Common.{◌≡◌, ℕ, ◌+◌, ◌≤◌, true, List, [], ◌∷◌, ◌++◌, refl, sym, ap, subst, ◌∙◌, inl, inr, arith}
 use Rattle.std.specs.Prelude.{Option, Some, None, Ok, Err, Result}
 use Rattle.pagable_world.specs.Plain.{Error, ArcRef, HandleNumber, LoadNumber}
 use Rattle.pagable_world.specs.declared.handles.HandleRow.{HandleRow}
