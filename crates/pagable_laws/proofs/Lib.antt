@@ -41,6 +41,11 @@ mod Claiming
 mod Numbered
 mod Holding
 mod Coming
+mod Bounded
+mod Failing
+mod Histories
+mod ClaimsMade
+mod Arriving
 mod Headlines
 mod Working
 mod Doing
