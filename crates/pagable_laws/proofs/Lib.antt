@@ -26,9 +26,14 @@ mod Joining
 mod Telling
 mod Nexts
 mod Goes
+mod Outlasting
+mod PinSteps
 mod GoodReferences
 mod Calling
 mod Called
+mod ReadingStepsRows
+mod ReadingSteps
+mod ReadingStepsMachine
 mod LoadSteps
 mod WalkSteps
 mod Feeling
@@ -52,6 +57,9 @@ mod Doing
 mod Decoding
 mod Fitting
 mod Following
+mod Naming
+mod Held
+mod KeysGoing
 mod Shelves
 mod Stepping
 mod Publishing

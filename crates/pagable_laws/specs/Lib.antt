@@ -15,4 +15,5 @@ pub mod TreeSteps
 pub mod TreeRuns
 pub mod ReadLaws
 pub mod PageOutLaws
+pub mod KeyRuns
 pub mod TwoLevels
