@@ -36,10 +36,12 @@ module _ {N E B W : Type 0} (m : Seen N B W) where
     work : StandsIn (world_of s')
     whole : IsMachineWhole m.values s'
     keeps : (v : ℕ) (w : Walking) → s.work.walkings v ≡ Some w → KeepsTask s'.work.walkings v w
-    gone : (n : ℕ) (past : List (Took W)) → HasGone m.written_of n s.work.shelves (s.work.walkings n) past → HasGone m.written_of n s'.work.shelves (s'.work.walkings n) (past ++ steps_of n happened replied)
+    gone : (n : ℕ) (past : List (Took W)) → HasGone m.written_of n s.work.shelves (s.work.walkings n) past
+        → HasGone m.written_of n s'.work.shelves (s'.work.walkings n) (past ++ steps_of n happened replied)
     claims : (t : ℕ) (i : Identity) → one (is_some ((s.work.shelves t).slots i)) + claims_made s'.work.walkings t i happened replied ≤ one (is_some ((s'.work.shelves t).slots i))
 
-  arrives : (s : MachineState N E) (moments : List (Moment N E B W)) → AreMoments m s moments → IsMachineWhole m.values s → StandsIn (world_of s) → Arrives s (state_after s moments) (events_of moments) (replies_of moments)
+  arrives : (s : MachineState N E) (moments : List (Moment N E B W)) → AreMoments m s moments → IsMachineWhole m.values s → StandsIn (world_of s)
+      → Arrives s (state_after s moments) (events_of moments) (replies_of moments)
   unfolding state_after steps_of claims_made
   arrives s [] chain whole work =
       record {
@@ -50,9 +52,11 @@ module _ {N E B W : Type 0} (m : Seen N B W) where
         claims = λ t i. omega arith;
       }
   arrives s (x ∷ xs) (does, chain) whole work =
-      let turns : EventTurns m (world_of s) x.event x.reply (world_of x.after) = event-turns m (world_of s) (world_of x.after) work (λ v w there. (whole.walkings v w there).table.1) x.event x.reply does.step.happens in
+      let turns : EventTurns m (world_of s) x.event x.reply (world_of x.after) =
+      event-turns m (world_of s) (world_of x.after) work (λ v w there. (whole.walkings v w there).table.1) x.event x.reply does.step.happens in
       let t = turns.turned in
-      let mid : StandsIn (world_of x.after) = work-stands turns.who s.work.shelves x.after.work.shelves s.work.walkings x.after.work.walkings t s.pager.core.last.worker x.after.pager.core.last.worker turns.last turns.small work in
+      let mid : StandsIn (world_of x.after) =
+      work-stands turns.who s.work.shelves x.after.work.shelves s.work.walkings x.after.work.walkings t s.pager.core.last.worker x.after.pager.core.last.worker turns.last turns.small work in
       let rest = arrives x.after xs chain does.whole mid in
       let last = (state_after x.after xs).work.walkings in
       record {
@@ -60,14 +64,17 @@ module _ {N E B W : Type 0} (m : Seen N B W) where
         whole = rest.whole;
         keeps = λ v w there. after turns.who t rest.keeps v w there;
         gone = λ n past gone.
-            subst (λ k. HasGone m.written_of n (state_after x.after xs).work.shelves ((state_after x.after xs).work.walkings n) k) (append_assoc past (step_of n x.event x.reply) (steps_of n (events_of xs) (replies_of xs)))
+            subst (λ k. HasGone m.written_of n (state_after x.after xs).work.shelves ((state_after x.after xs).work.walkings n) k)
+            (append_assoc past (step_of n x.event x.reply) (steps_of n (events_of xs) (replies_of xs)))
             (rest.gone n (past ++ step_of n x.event x.reply) (goes-on m (world_of s) (world_of x.after) x.event x.reply work turns n past gone));
         claims = λ q i.
             first-then _ _ _ _ _ _ (claims-cons last q i x.event x.reply (events_of xs) (replies_of xs))
-            (event-claims last q i m (world_of s) (world_of x.after) (λ p. grows turns.who (s.work.shelves p) (x.after.work.shelves p) (t.changes p)) (λ v w there. after turns.who t rest.keeps v w there) x.event x.reply does.step.happens) (rest.claims q i);
+            (event-claims last q i m (world_of s) (world_of x.after) (λ p. grows turns.who (s.work.shelves p) (x.after.work.shelves p) (t.changes p))
+            (λ v w there. after turns.who t rest.keeps v w there) x.event x.reply does.step.happens) (rest.claims q i);
       }
     where
-      after : (who : ℕ) → Turned who s.work.shelves x.after.work.shelves s.work.walkings x.after.work.walkings → ((v : ℕ) (w : Walking) → x.after.work.walkings v ≡ Some w → KeepsTask (state_after x.after xs).work.walkings v w) → (v : ℕ) (w : Walking) → s.work.walkings v ≡ Some w
+      after : (who : ℕ) → Turned who s.work.shelves x.after.work.shelves s.work.walkings x.after.work.walkings
+          → ((v : ℕ) (w : Walking) → x.after.work.walkings v ≡ Some w → KeepsTask (state_after x.after xs).work.walkings v w) → (v : ℕ) (w : Walking) → s.work.walkings v ≡ Some w
           → KeepsTask (state_after x.after xs).work.walkings v w
       after who t keeps v w there =
           let k = keeps-task who s.work.shelves x.after.work.shelves s.work.walkings x.after.work.walkings t v w there in
@@ -158,11 +165,13 @@ work_is_right {N} {B} {W} E m s moments whole idle chain = record { claims_right
     worker : (n : ℕ) (walking : Walking) → end.work.walkings n ≡ Some walking → WorkerIsRight m.written_of (world_of end) n walking (steps_of n happened replied)
     worker n walking there =
         let nobody : HasGone m.written_of n s.work.shelves (s.work.walkings n) [] = subst (λ o. HasGone m.written_of n s.work.shelves o []) (sym (idle.walkings n)) refl in
-        let went : Went m.written_of n (end.work.shelves walking.table) walking (steps_of n happened replied) = subst (λ o. HasGone m.written_of n end.work.shelves o (steps_of n happened replied)) there (all.gone n [] nobody) in
+        let went : Went m.written_of n (end.work.shelves walking.table) walking (steps_of n happened replied) =
+        subst (λ o. HasGone m.written_of n end.work.shelves o (steps_of n happened replied)) there (all.gone n [] nobody) in
         let order : InOrder m.written_of walking.task (steps_of n happened replied) = record { left = walking.todo; leads = went.leads } in
         record {
           order = order;
-          once = once_each m.written_of walking.task (steps_of n happened replied) order (λ i. at-most _ _ (own-claims end.work.walkings walking.table i n walking there refl happened replied) (distinct walking.table i));
+          once = once_each m.written_of walking.task (steps_of n happened replied) order
+              (λ i. at-most _ _ (own-claims end.work.walkings walking.table i n walking there refl happened replied) (distinct walking.table i));
           bounded = less-steps _ _ _ went.within;
           met = went.met;
           let_go = λ answer is. has-let-go m end all.work all.whole n walking answer there is;

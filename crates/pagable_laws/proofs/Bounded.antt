@@ -52,14 +52,16 @@ unfolding all-due
 started place [] x below = omega arith
 started place (r ∷ rs) x below = omega arith
 
-settled-node : (o : Open) (k : ℕ) (below : List Todo) → length o.keys ≡ k → all-due (next_start o.place (drop (length o.keys) o.written.references) ++ to_finish o ∷ below) ≤ 4 + (length o.written.references - k) + all-due below
+settled-node : (o : Open) (k : ℕ) (below : List Todo) → length o.keys ≡ k
+    → all-due (next_start o.place (drop (length o.keys) o.written.references) ++ to_finish o ∷ below) ≤ 4 + (length o.written.references - k) + all-due below
 unfolding all-due
 settled-node o k below few =
     let a = started o.place (drop (length o.keys) o.written.references) (to_finish o) below in
     let b = length-drop (length o.keys) o.written.references in
     omega arith
 
-settled-item : (written : Written) (keys : List ℕ) (k : ℕ) (below : List Todo) → length keys ≡ k → all-due (next_start 0 (drop (length keys) written.references) ++ to_item written keys ∷ below) ≤ 2 + (length written.references - k) + all-due below
+settled-item : (written : Written) (keys : List ℕ) (k : ℕ) (below : List Todo) → length keys ≡ k
+    → all-due (next_start 0 (drop (length keys) written.references) ++ to_item written keys ∷ below) ≤ 2 + (length written.references - k) + all-due below
 unfolding all-due
 settled-item written keys k below few =
     let a = started 0 (drop (length keys) written.references) (to_item written keys) below in
@@ -69,7 +71,8 @@ settled-item written keys k below few =
 given : (r : ArcRef) (key height : ℕ) (below : List Todo) → all-due (give r key height below) ≤ all-due below
 unfolding all-due
 given r key height [] = omega arith
-given r key height (to_finish o ∷ below) = settled-node (record o { keys = o.keys ++ key ∷ []; height = max o.height (above r.kind.0 height) }) (length o.keys + 1) below (length-append o.keys (key ∷ []))
+given r key height (to_finish o ∷ below) =
+    settled-node (record o { keys = o.keys ++ key ∷ []; height = max o.height (above r.kind.0 height) }) (length o.keys + 1) below (length-append o.keys (key ∷ []))
 given r key height (to_item written keys ∷ below) = settled-item written (keys ++ key ∷ []) (length keys + 1) below (length-append keys (key ∷ []))
 given r key height (_ ∷ below) = omega arith
 
@@ -106,7 +109,8 @@ module _ {W : Type 0} (f : W → Written) where
   pays (to_load r place through reading ∷ below) (took.Pin j (Ok (pinsteps.Held h))) next (is, e) = rw e (omega arith)
   pays (to_load r place through reading ∷ below) (took.Pin j (Err fault)) next (is, e) = rw e (omega arith)
   pays (to_load r place through reading ∷ below) step next follows = absurd follows
-  pays (to_write r place through ∷ below) (took.Write j (Ok out)) next (is, e) = rw e (wrote _ _ _ (settled-node (record { reference = r; place = place; through = through; written = f out; keys = []; height = 0 }) 0 below refl))
+  pays (to_write r place through ∷ below) (took.Write j (Ok out)) next (is, e) =
+      rw e (wrote _ _ _ (settled-node (record { reference = r; place = place; through = through; written = f out; keys = []; height = 0 }) 0 below refl))
     where
       wrote : (d n b : ℕ) → d ≤ 4 + (n - 0) + b → 1 + d ≤ 8 * 0 + n + (5 + b)
       wrote d n b le = omega arith
@@ -141,10 +145,12 @@ module _ {W : Type 0} (f : W → Written) where
       first d n le = omega arith
   within-first (of_entry h i) = omega arith
 
-  pub within-after : (task : Task) (todo next : List Todo) (n n' : ℕ) (past : List (Took W)) (step : Took W) → n' ≤ n + one (is_counted todo step) → Follows f todo step next → IsWithin task todo n past → IsWithin task next n' (past ++ step ∷ [])
+  pub within-after : (task : Task) (todo next : List Todo) (n n' : ℕ) (past : List (Took W)) (step : Took W) → n' ≤ n + one (is_counted todo step) → Follows f todo step next
+      → IsWithin task todo n past → IsWithin task next n' (past ++ step ∷ [])
   within-after task todo next n n' past step counted follows within =
       sum _ _ _ _ _ _ _ _ _ _ (sum_by-append (λ s. one (is_claim s)) past (step ∷ []) ∙ ap (λ k. times is_claim past + k) (sum_by-cons (λ s. one (is_claim s)) step []))
-      (sum_by-append (references_written f) past (step ∷ []) ∙ ap (λ k. sum_by (references_written f) past + k) (sum_by-cons (references_written f) step [])) counted (pays todo step next follows) within
+      (sum_by-append (references_written f) past (step ∷ []) ∙ ap (λ k. sum_by (references_written f) past + k) (sum_by-cons (references_written f) step []))
+      counted (pays todo step next follows) within
     where
       sum : (b c r own d d' cs cs' rs rs' : ℕ) → cs' ≡ cs + (c + 0) → rs' ≡ rs + (r + 0) → n' ≤ n + b → b + d' ≤ 8 * c + r + d → n + d ≤ 8 * cs + (own + rs) + 4 → n' + d' ≤ 8 * cs' + (own + rs') + 4
       sum b c r own d d' cs cs' rs rs' is_claims is_written few paid so_far = omega arith

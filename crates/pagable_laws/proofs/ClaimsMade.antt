@@ -37,7 +37,8 @@ none-more : (a b : ℕ) → a ≤ b → a + 0 ≤ b
 none-more a b le = omega arith
 
 -- a claim is made only where none was, and is there afterwards
-claim-comes : {N B W : Type 0} (m : Seen N B W) (v : ℕ) (s s' : Site) (i : Identity) (todo : List Todo) (step : Took W) → Does m v s todo step s' → one (is_some (s.shelf.slots i)) ≤ one (is_some (s'.shelf.slots i))
+claim-comes : {N B W : Type 0} (m : Seen N B W) (v : ℕ) (s s' : Site) (i : Identity) (todo : List Todo) (step : Took W) → Does m v s todo step s'
+    → one (is_some (s.shelf.slots i)) ≤ one (is_some (s'.shelf.slots i))
     → one (is_some (s.shelf.slots i)) + one (is_claim_of i step) ≤ one (is_some (s'.shelf.slots i))
 claim-comes m v s s' i (to_start r place ∷ below) (took.Claim j (Ok claims.Claimed)) (is, c) more = by (is_identity i j) refl
   where
@@ -60,18 +61,21 @@ claim_made walkings t i (events.WorkerStep v) (answers.WorkerMoved (Ok reply)) =
 claim_made walkings t i event reply = 0
 
 module _ {N B W : Type 0} (walkings : ℕ → Option Walking) (t : ℕ) (i : Identity) where
-  pub claims-cons : (event : Event N B W) (reply : EventReply N B W) (more : List (Event N B W)) (rest : List (EventReply N B W)) → claims_made walkings t i (event ∷ more) (reply ∷ rest) ≡ claim_made walkings t i event reply + claims_made walkings t i more rest
+  pub claims-cons : (event : Event N B W) (reply : EventReply N B W) (more : List (Event N B W)) (rest : List (EventReply N B W))
+      → claims_made walkings t i (event ∷ more) (reply ∷ rest) ≡ claim_made walkings t i event reply + claims_made walkings t i more rest
   unfolding claims_made
   claims-cons (events.WorkerStep v) (answers.WorkerMoved (Ok reply)) more rest = refl
   claims-cons event reply more rest = sym (plus-none _)
 
   -- what one worker of the table claimed is among them
-  pub own-claims : (n : ℕ) (w : Walking) → walkings n ≡ Some w → w.table ≡ t → (happened : List (Event N B W)) (replied : List (EventReply N B W)) → times (is_claim_of {W = W} i) (steps_of n happened replied) ≤ claims_made walkings t i happened replied
+  pub own-claims : (n : ℕ) (w : Walking) → walkings n ≡ Some w → w.table ≡ t → (happened : List (Event N B W)) (replied : List (EventReply N B W))
+      → times (is_claim_of {W = W} i) (steps_of n happened replied) ≤ claims_made walkings t i happened replied
   unfolding steps_of claims_made
   own-claims n w there on [] replied = omega arith
   own-claims n w there on (event ∷ more) [] = omega arith
   own-claims n w there on (event ∷ more) (reply ∷ rest) =
-      sum _ _ _ _ _ _ (sum_by-append (λ s. one (is_claim_of {W = W} i s)) (step_of n event reply) (steps_of n more rest)) (claims-cons event reply more rest) (own event reply) (own-claims n w there on more rest)
+      sum _ _ _ _ _ _ (sum_by-append (λ s. one (is_claim_of {W = W} i s)) (step_of n event reply) (steps_of n more rest))
+      (claims-cons event reply more rest) (own event reply) (own-claims n w there on more rest)
     where
       sum : (a b c d x y : ℕ) → x ≡ a + b → y ≡ c + d → a ≤ c → b ≤ d → x ≤ y
       sum a b c d x y e f le less = omega arith
@@ -92,11 +96,13 @@ module _ {N B W : Type 0} (walkings : ℕ → Option Walking) (t : ℕ) (i : Ide
       own event reply = omega arith
 
   -- each event claims what wasn't claimed, where workers keep their tables
-  module _ (m : Seen N B W) (u u' : World) (grow : (q : ℕ) → ShelfGrows (u.work.shelves q) (u'.work.shelves q)) (keeps : (v : ℕ) (w : Walking) → u.work.walkings v ≡ Some w → KeepsTask walkings v w) where
+  module _ (m : Seen N B W) (u u' : World) (grow : (q : ℕ) → ShelfGrows (u.work.shelves q) (u'.work.shelves q))
+      (keeps : (v : ℕ) (w : Walking) → u.work.walkings v ≡ Some w → KeepsTask walkings v w) where
     stay : one (is_some ((u.work.shelves t).slots i)) ≤ one (is_some ((u'.work.shelves t).slots i))
     stay = slots-stay (u.work.shelves t) (u'.work.shelves t) (grow t) i
 
-    step-claims : {v : WorkerNumber} (reply : WorkerReply W) → WorkerSteps m u v reply u' → one (is_some ((u.work.shelves t).slots i)) + one (is_on_table t (walkings v.0) && is_claim_of i reply.took) ≤ one (is_some ((u'.work.shelves t).slots i))
+    step-claims : {v : WorkerNumber} (reply : WorkerReply W) → WorkerSteps m u v reply u'
+        → one (is_some ((u.work.shelves t).slots i)) + one (is_on_table t (walkings v.0) && is_claim_of i reply.took) ≤ one (is_some ((u'.work.shelves t).slots i))
     step-claims {v = v} reply s = by (s.walking.table == t) refl
       where
         w : Walking
@@ -114,10 +120,12 @@ module _ {N B W : Type 0} (walkings : ℕ → Option Walking) (t : ℕ) (i : Ide
             let is : w.table ≡ t = grind (arith, nat_tests) in
             let site : Site = record { core = u.core; shelf = u.work.shelves w.table; todo = w.todo } in
             let grown = subst (λ o. one (is_some ((u.work.shelves w.table).slots i)) ≤ one (is_some o)) after (slots-stay (u.work.shelves w.table) (u'.work.shelves w.table) (grow w.table) i) in
-            let come = subst (λ o. one (is_some ((u.work.shelves w.table).slots i)) + one (is_claim_of i reply.took) ≤ one (is_some o)) (sym after) (claim-comes m v.0 site s.after i w.todo reply.took s.does.does grown) in
+            let come = subst (λ o. one (is_some ((u.work.shelves w.table).slots i)) + one (is_claim_of i reply.took) ≤ one (is_some o)) (sym after)
+            (claim-comes m v.0 site s.after i w.todo reply.took s.does.does grown) in
             let f = on true e in
             rw f (subst (λ q. one (is_some ((u.work.shelves q).slots i)) + one (is_claim_of i reply.took) ≤ one (is_some ((u'.work.shelves q).slots i))) is come)
 
-    pub event-claims : (event : Event N B W) (reply : EventReply N B W) → Happens m u event reply u' → one (is_some ((u.work.shelves t).slots i)) + claim_made walkings t i event reply ≤ one (is_some ((u'.work.shelves t).slots i))
+    pub event-claims : (event : Event N B W) (reply : EventReply N B W) → Happens m u event reply u'
+        → one (is_some ((u.work.shelves t).slots i)) + claim_made walkings t i event reply ≤ one (is_some ((u'.work.shelves t).slots i))
     event-claims (events.WorkerStep v) (answers.WorkerMoved (Ok reply)) h = step-claims reply h.moves
     event-claims event reply h = none-more _ _ stay

@@ -3,6 +3,10 @@ use Rattle.std.proofs.Common.{◌≡◌, ℕ, ◌+◌, ◌<◌, ◌≤◌, ◌==
 use Rattle.std.specs.Prelude.{Option, Some, None, nat_eq, if◌then◌else◌}
 use Rattle.std.proofs.lemmas.Bool.Decides.{nat_tests}
 use Rattle.pagable_world.specs.Plain.{Identity, WorkerNumber, updated}
+use Rattle.pagable_world.specs.declared.calls.Call.{Call}
+use Rattle.pagable_world.specs.declared.calls.Reply.{Reply}
+use Rattle.pagable_world.specs.declared.calls.Call.TheVariants as calls
+use Rattle.pagable_world.specs.declared.calls.Reply.TheVariants as replies
 use Rattle.pagable_world.specs.declared.events.Event.{Event}
 use Rattle.pagable_world.specs.declared.events.EventReply.{EventReply}
 use Rattle.pagable_world.specs.declared.events.TableNumber.{TableNumber}
@@ -13,15 +17,20 @@ use Rattle.pagable_world.specs.declared.handles.Owner.TheVariants as owners
 use Rattle.pagable_world.specs.declared.events.Event.TheVariants as events
 use Rattle.pagable_world.specs.declared.events.EventReply.TheVariants as answers
 use Rattle.pagable_world.specs.World.{Core, Alike, Shelf, Slot, Todo, Task, Walking, World, Seen}
-use Rattle.pagable_world.specs.Workers.{answer_after}
-use Rattle.pagable_world.specs.Events.{Happens, Stays, WorkStays, WorkIs, Starts, no_shelf, new_walking, WorkerSteps, Ends}
+use Rattle.pagable_world.specs.Workers.{Site, answer_after}
+use Rattle.pagable_world.specs.Events.{CallStep, Happens, Stays, WorkStays, WorkIs, Starts, no_shelf, new_walking, WorkerSteps, Ends}
 use Rattle.pagable_world.specs.Order.{step_of}
 use Rattle.pagable_laws.proofs.Standing.{WorkStands}
 use Rattle.pagable_laws.proofs.Changing.{SlotChanges, ShelfGrows, grows, same-slots, meets-grow}
 use Rattle.pagable_laws.proofs.Claiming.{stands-on}
 use Rattle.pagable_laws.proofs.Going.{Goes, all-stay}
 use Rattle.pagable_laws.proofs.Holding.{SameSlots, Turned, is-quiet, is-started, is-stepped}
-use Rattle.pagable_laws.proofs.Numbered as numbered
+use Rattle.pagable_laws.proofs.Calling as calling
+use Rattle.pagable_laws.proofs.Feeling.{calls_keep, loads_keep, walks_keep}
+
+-- no number of a worker is taken back
+abbrev NoFewer : Core → Core → Type 0
+NoFewer w w' = w.last.worker ≤ w'.last.worker
 
 abbrev pub StandsIn : World → Type 0
 StandsIn u = WorkStands u.work.shelves u.work.walkings u.core.last.worker
@@ -58,7 +67,8 @@ own-step : {X : Type 0} (x : X) (v n : ℕ) (b : Bool) → (v == n) ≡ b → (i
 own-step x v n b e = ap (λ t. if t then x ∷ [] else []) e
 
 -- the same slots do as well
-goes-same : (v : ℕ) (task : Task) (shelf mid shelf' : Shelf) (answer : Option WorkerAnswer) (todo : List Todo) → ((i : Identity) → shelf'.slots i ≡ mid.slots i) → Goes v task shelf answer mid todo → Goes v task shelf answer shelf' todo
+goes-same : (v : ℕ) (task : Task) (shelf mid shelf' : Shelf) (answer : Option WorkerAnswer) (todo : List Todo) → ((i : Identity) → shelf'.slots i ≡ mid.slots i)
+    → Goes v task shelf answer mid todo → Goes v task shelf answer shelf' todo
 goes-same v task shelf mid shelf' answer todo same g =
     let more : ShelfGrows mid shelf' = grows v mid shelf' (same-slots v mid shelf' same) in
     record {
@@ -72,31 +82,34 @@ goes-same v task shelf mid shelf' answer todo same g =
 
 module _ {N B W : Type 0} (m : Seen N B W) (u u' : World) (work : StandsIn u) where
   module _ (event : Event N B W) (reply : EventReply N B W) where
-    quiet : ((n : ℕ) → step_of n event reply ≡ []) → numbered.Keeps u.core u'.core → SameSlots u.work.shelves u'.work.shelves → ((v : ℕ) → u'.work.walkings v ≡ u.work.walkings v) → EventTurns m u event reply u'
+    quiet : ((n : ℕ) → step_of n event reply ≡ []) → NoFewer u.core u'.core → SameSlots u.work.shelves u'.work.shelves → ((v : ℕ) → u'.work.walkings v ≡ u.work.walkings v)
+        → EventTurns m u event reply u'
     quiet no_step last same stay =
         record {
           who = 0;
           turned = is-quiet u.work.shelves u'.work.shelves u.work.walkings u'.work.walkings u.core.last.worker work same stay;
-          last = le-of last;
+          last = last;
           small = omega arith;
           others = λ n other. no_step n;
           own = rests (no_step 0) (stay 0);
         }
 
-    by-work : ((n : ℕ) → step_of n event reply ≡ []) → numbered.Keeps u.core u'.core → WorkStays u.work u'.work → EventTurns m u event reply u'
+    by-work : ((n : ℕ) → step_of n event reply ≡ []) → NoFewer u.core u'.core → WorkStays u.work u'.work → EventTurns m u event reply u'
     by-work no_step last w = quiet no_step last (λ t i. (w.shelves t).slots i) w.walkings
 
     unchanged : ((n : ℕ) → step_of n event reply ≡ []) → Stays u u' → EventTurns m u event reply u'
-    unchanged no_step s = by-work no_step (ap (λ l. l.worker) s.core.last) s.work
+    unchanged no_step s = by-work no_step (le-of (ap (λ l. l.worker) s.core.last)) s.work
 
-    starts : ((n : ℕ) → step_of n event reply ≡ []) → (t : TableNumber) (task : Task) (core : Core) (v : WorkerNumber) → core.last.worker ≡ u.core.last.worker → Starts u t task core v u' → EventTurns m u event reply u'
+    starts : ((n : ℕ) → step_of n event reply ≡ []) → (t : TableNumber) (task : Task) (core : Core) (v : WorkerNumber) → core.last.worker ≡ u.core.last.worker → Starts u t task core v u'
+        → EventTurns m u event reply u'
     starts no_step t task core v same s =
         let above : u.core.last.worker < v.0 = let e = s.next in omega arith in
         let last : u'.core.last.worker ≡ core.last.worker + 1 = ap (λ l. l.worker) s.pager.last in
         let new : u'.work.walkings v.0 ≡ Some (new_walking t task) = s.work.same_walkings v.0 ∙ updated-at v.0 (Some (new_walking t task)) u.work.walkings in
         record {
           who = v.0;
-          turned = is-started u.work.shelves u'.work.shelves u.work.walkings u'.work.walkings u.core.last.worker work (λ q i. (s.work.same_shelves q).slots i) v.0 (new_walking t task) above refl refl new
+          turned = is-started u.work.shelves u'.work.shelves u.work.walkings u'.work.walkings u.core.last.worker work (λ q i. (s.work.same_shelves q).slots i)
+              v.0 (new_walking t task) above refl refl new
               (λ n other. s.work.same_walkings n ∙ updated-off v.0 (Some (new_walking t task)) u.work.walkings n other);
           last = let e = s.next in omega arith;
           small = let e = s.next in omega arith;
@@ -108,8 +121,9 @@ module _ {N B W : Type 0} (m : Seen N B W) (u u' : World) (work : StandsIn u) wh
         nobody above None is = is
         nobody above (Some w) is = let few = work.numbered v.0 w is in absurd (omega arith)
 
-    tabled : ((n : ℕ) → step_of n event reply ≡ []) → KnowsTables u → (t : TableNumber) → t.0 ≡ u.work.last_table + 1 → Alike u.core u'.core → WorkIs (updated t.0 no_shelf u.work.shelves) t.0 u.work.walkings u'.work → EventTurns m u event reply u'
-    tabled no_step tables t is a w = quiet no_step (ap (λ l. l.worker) a.last) (λ q i. same q i (nat_eq q t.0) refl) w.same_walkings
+    tabled : ((n : ℕ) → step_of n event reply ≡ []) → KnowsTables u → (t : TableNumber) → t.0 ≡ u.work.last_table + 1 → Alike u.core u'.core
+        → WorkIs (updated t.0 no_shelf u.work.shelves) t.0 u.work.walkings u'.work → EventTurns m u event reply u'
+    tabled no_step tables t is a w = quiet no_step (le-of (ap (λ l. l.worker) a.last)) (λ q i. same q i (nat_eq q t.0) refl) w.same_walkings
       where
         nothing : (i : Identity) (o : Option Slot) → (u.work.shelves t.0).slots i ≡ o → None ≡ o
         nothing i None there = refl
@@ -126,6 +140,11 @@ module _ {N B W : Type 0} (m : Seen N B W) (u u' : World) (work : StandsIn u) wh
   ends-last None v w w' e = ap (λ l. l.worker) e.last
   ends-last (Some a) v w w' e = ap (λ l. l.worker) e.falls.leaves.last
 
+  call-last : (call : Call N B) (r : Reply N B) → CallStep m u.core owners.Caller call r u'.core → NoFewer u.core u'.core
+  call-last calls.Close (replies.Done r) c = le-of (ap (λ l. l.worker) c.does.falls.falls.leaves.last)
+  call-last calls.Close r c = absurd c.does
+  call-last call r c = ((calls_keep m).each u.core u'.core owners.Caller call r (λ l is. absurd (cc)) tt c).workers
+
   stepped : (v : WorkerNumber) (reply : WorkerReply W) → WorkerSteps m u v reply u' → EventTurns m u (events.WorkerStep v) (answers.WorkerMoved (Ok reply)) u'
   stepped v reply s =
       let w = s.walking in
@@ -134,25 +153,30 @@ module _ {N B W : Type 0} (m : Seen N B W) (u u' : World) (work : StandsIn u) wh
       let goes : Goes v.0 w.task (u.work.shelves w.table) (answer_after w.todo reply.took) s.after.shelf s.after.todo =
       stands-on m v.0 w.task (record { core = u.core; shelf = u.work.shelves w.table; todo = w.todo }) s.after (stands.unfailed s.at_work) stands.all stands.covers reply.took s.does.does
       in
-      let shelf_is : (i : Identity) → (u'.work.shelves w.table).slots i ≡ s.after.shelf.slots i = λ i. (s.work.same_shelves w.table).slots i ∙ ap (λ (x : Shelf). x.slots i) (updated-at w.table s.after.shelf u.work.shelves) in
-      let last : u'.core.last.worker ≡ u.core.last.worker = ends-last reply.answer v.0 s.after.core u'.core s.ends ∙ numbered.walk m v.0 (record { core = u.core; shelf = u.work.shelves w.table; todo = w.todo }) s.after w.todo reply.took s.does.does in
+      let shelf_is : (i : Identity) → (u'.work.shelves w.table).slots i ≡ s.after.shelf.slots i =
+      λ i. (s.work.same_shelves w.table).slots i ∙ ap (λ (x : Shelf). x.slots i) (updated-at w.table s.after.shelf u.work.shelves) in
+      let site : Site = record { core = u.core; shelf = u.work.shelves w.table; todo = w.todo } in
+      let kept : NoFewer u.core s.after.core = ((walks_keep m).each v.0 site s.after reply.took s.does).workers in
+      let last : u'.core.last.worker ≡ s.after.core.last.worker = ends-last reply.answer v.0 s.after.core u'.core s.ends in
       record {
         who = v.0;
         turned = is-stepped v.0 u.work.shelves u'.work.shelves u.work.walkings u'.work.walkings w now s.at (s.work.same_walkings v.0 ∙ updated-at v.0 (Some now) u.work.walkings) refl refl
             (λ n other. s.work.same_walkings n ∙ updated-off v.0 (Some now) u.work.walkings n other)
             (λ t other i. (s.work.same_shelves t).slots i ∙ ap (λ (x : Shelf). x.slots i) (updated-off w.table s.after.shelf u.work.shelves t other))
-            (goes-same v.0 w.task (u.work.shelves w.table) s.after.shelf (u'.work.shelves w.table) reply.answer s.after.todo shelf_is (subst (λ a. Goes v.0 w.task (u.work.shelves w.table) a s.after.shelf s.after.todo) (sym s.answers) goes));
-        last = le-of last;
+            (goes-same v.0 w.task (u.work.shelves w.table) s.after.shelf (u'.work.shelves w.table) reply.answer s.after.todo shelf_is
+            (subst (λ a. Goes v.0 w.task (u.work.shelves w.table) a s.after.shelf s.after.todo) (sym s.answers) goes));
+        last = omega arith;
         small = let few = work.numbered v.0 w s.at in omega arith;
         others = λ n other. own-step reply.took v.0 n false (grind (arith, nat_tests));
         own = steps v reply refl (own-step reply.took v.0 v.0 true (grind (arith, nat_tests))) s;
       }
 
   pub event-turns : KnowsTables u → (event : Event N B W) (reply : EventReply N B W) → Happens m u event reply u' → EventTurns m u event reply u'
-  event-turns tables (events.Call call) (answers.CallReply r) h = by-work _ _ (λ n. refl) (numbered.call u.core u'.core owners.Caller m call r h.step.does) h.work
-  event-turns tables (events.LoadStart q) (answers.Started r) h = by-work _ _ (λ n. refl) (numbered.begin u.core u'.core owners.Caller q r h.step) h.work
-  event-turns tables (events.LoadKey key t) (answers.Started r) h = by-work _ _ (λ n. refl) (numbered.begin-key u.core u'.core owners.Caller key r h.step) h.work
-  event-turns tables (events.LoadStep l) (answers.LoadMoved (Ok r)) h = by-work _ _ (λ n. refl) (numbered.load h.moves.does) h.moves.work
+  event-turns tables (events.Call call) (answers.CallReply r) h = by-work _ _ (λ n. refl) (call-last call r h.step) h.work
+  event-turns tables (events.LoadStart q) (answers.Started r) h = by-work _ _ (λ n. refl) (calling.begins r h.step).workers_last h.work
+  event-turns tables (events.LoadKey key t) (answers.Started r) h = by-work _ _ (λ n. refl) (calling.begins-key r h.step).workers_last h.work
+  event-turns tables (events.LoadStep l) (answers.LoadMoved (Ok r)) h =
+      by-work _ _ (λ n. refl) ((loads_keep m.values).each u.core u'.core owners.Caller h.moves.reading r.ended h.moves.frames (λ l is. absurd (cc)) h.moves.does).workers h.moves.work
   event-turns tables (events.LoadStep l) (answers.LoadMoved (Err e)) h = unchanged _ _ (λ n. refl) h.refused.1
   event-turns tables events.TableNew (answers.TableMade (Ok t)) h = tabled _ _ (λ n. refl) tables t h.made.0 h.made.1 h.made.3
   event-turns tables events.TableNew (answers.TableMade (Err e)) h = unchanged _ _ (λ n. refl) h.refused.1

@@ -46,7 +46,10 @@ module _ {W : Type 0} (n : ℕ) where
   pub fails-stay : (shelf shelf' : Shelf) (past more : List (Took W)) (todo : List Todo) → ShelfGrows shelf shelf' → FailsMet shelf past todo → FailsMet shelf' (past ++ more) todo
   unfolding FailsMet
   fails-stay shelf shelf' past more [] grown met = tt
-  fails-stay shelf shelf' past more (to_fail fault back ∷ below) grown (met, rest) = (met-stays shelf shelf' past more (answer_of_fault fault) grown met, fails-stay shelf shelf' past more below grown rest)
+  fails-stay shelf shelf' past more (to_fail fault back ∷ below) grown (met, rest) = (
+    met-stays shelf shelf' past more (answer_of_fault fault) grown met,
+    fails-stay shelf shelf' past more below grown rest,
+  )
   fails-stay shelf shelf' past more (x ∷ below) grown met = fails-stay shelf shelf' past more below grown met
 
   module _ (shelf : Shelf) (past : List (Took W)) where
@@ -72,7 +75,8 @@ module _ {W : Type 0} (n : ℕ) where
     refused step e among met = ((step, among, met), tt)
 
     -- what follows a step, where the other's claim has failed if that is what was found
-    pub follows-met : (f : W → Written) (todo : List Todo) (step : Took W) (next : List Todo) → Follows f todo step next → Among past step → ((i : Identity) → step ≡ took.Claim i (Ok claims.AlreadyFailed) → FailedElsewhere shelf n i) → FailsMet shelf past todo → FailsMet shelf past next
+    pub follows-met : (f : W → Written) (todo : List Todo) (step : Took W) (next : List Todo) → Follows f todo step next → Among past step
+        → ((i : Identity) → step ≡ took.Claim i (Ok claims.AlreadyFailed) → FailedElsewhere shelf n i) → FailsMet shelf past todo → FailsMet shelf past next
     unfolding FailsMet
     follows-met f (to_start r place ∷ below) (took.Claim j (Ok claims.Claimed)) next (is, e) among already met = rw e met
     follows-met f (to_start r place ∷ []) (took.Claim j (Ok (claims.Known key height))) next (is, e) among already met = rw e met

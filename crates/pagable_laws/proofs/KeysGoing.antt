@@ -32,12 +32,14 @@ use Rattle.pagable_laws.proofs.Held.{walk-leaves, item-started}
 -- ---- the plain world
 
 -- workers come and go; loads go
-others-work : (w : Core) (loads : ℕ → Option OpenLoad) (workers : ℕ → Bool) (worker : ℕ) → ((l : ℕ) (load : OpenLoad) → loads l ≡ Some load → w.loads l ≡ Some load) → Quiet w (record w { loads = loads; workers = workers; last = record w.last { worker = worker } })
-others-work w loads workers worker fewer =
+others-work : (w : Core) (loads : ℕ → Option OpenLoad) (workers : ℕ → Bool) (worker : ℕ) → w.last.worker ≤ worker → ((l : ℕ) (load : OpenLoad) → loads l ≡ Some load → w.loads l ≡ Some load)
+    → Quiet w (record w { loads = loads; workers = workers; last = record w.last { worker = worker } })
+others-work w loads workers worker more fewer =
     record {
       nodes = le-self _;
       handles = le-self _;
       loads_last = le-self _;
+      workers_last = more;
       cells = λ n cell is. is;
       stored = λ q blob is. is;
       loads = fewer;
@@ -50,7 +52,7 @@ others-work w loads workers worker fewer =
     le-self n = omega arith
 
 worker-ends : {w w' : Core} (v : ℕ) → WorkerEnds w v w' → Quiet w w'
-worker-ends {w} {w'} v f = quiet-then (others-work w (without_worker w v).loads (without_worker w v).workers w.last.worker (λ l load is. left (is_workers_load v (w.loads l)) (w.loads l) load is)) (fell-anyhow f)
+worker-ends {w} {w'} v f = quiet-then (others-work w (without_worker w v).loads (without_worker w v).workers w.last.worker (omega arith) (λ l load is. left (is_workers_load v (w.loads l)) (w.loads l) load is)) (fell-anyhow f)
   where
     left : (b : Bool) (x : Option OpenLoad) (y : OpenLoad) → (if b then None else x) ≡ Some y → x ≡ Some y
     left true x y is = absurd (cc)
@@ -65,7 +67,7 @@ caller-free l is = absurd (cc)
 
 module _ {N B W : Type 0} (m : Seen N B W) (u u' : World) where
   starts-quiet : (t : TableNumber) (task : Task) (core : Core) (v : WorkerNumber) → Quiet u.core core → Starts u t task core v u' → Quiet u.core u'.core
-  starts-quiet t task core v q s = quiet-then q (quiet-then (others-work core core.loads (with_worker core).workers (core.last.worker + 1) (λ l load is. is)) (alike s.pager))
+  starts-quiet t task core v q s = quiet-then q (quiet-then (others-work core core.loads (with_worker core).workers (core.last.worker + 1) (omega arith) (λ l load is. is)) (alike s.pager))
 
   worker-goes : (v : WorkerNumber) (reply : WorkerReply W) → WorkerSteps m u v reply u' → Felt u.core u'.core
   worker-goes v reply s = closed (walk-goes m v.0 (record { core = u.core; shelf = u.work.shelves s.walking.table; todo = s.walking.todo }) s.after s.walking.todo reply.took s.does.does) (ends-quiet reply.answer v.0 s.ends)
@@ -78,7 +80,7 @@ module _ {N B W : Type 0} (m : Seen N B W) (u u' : World) where
   event-goes (events.LoadStep l) (answers.LoadMoved (Err e)) stays h = quiet (alike h.refused.1.core)
   event-goes events.TableNew (answers.TableMade (Ok t)) stays h = quiet (alike h.made.1)
   event-goes events.TableNew (answers.TableMade (Err e)) stays h = quiet (alike h.refused.1.core)
-  event-goes (events.WorkerItem t item) (answers.WorkerMade (Ok v)) stays h = quiet (starts-quiet t _ u.core v (others-work u.core u.core.loads u.core.workers u.core.last.worker (λ l load is. is)) h.starts)
+  event-goes (events.WorkerItem t item) (answers.WorkerMade (Ok v)) stays h = quiet (starts-quiet t _ u.core v (others-work u.core u.core.loads u.core.workers u.core.last.worker (omega arith) (λ l load is. is)) h.starts)
   event-goes (events.WorkerItem t item) (answers.WorkerMade (Err e)) stays h = quiet (alike h.refused.1.core)
   event-goes (events.WorkerListed t i) (answers.WorkerMade (Ok v)) stays h =
       let x = h.starts in quiet (starts-quiet t _ _ v (some-moved u.core (only_handle x.0) (owners.Worker v) _ (λ l is. absurd (cc))) x.5)

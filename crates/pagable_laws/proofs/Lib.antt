@@ -43,7 +43,6 @@ mod Changing
 mod Going
 mod Turning
 mod Claiming
-mod Numbered
 mod Holding
 mod Coming
 mod Bounded

@@ -15,4 +15,5 @@ pub record WorkersAreRight {N E B W : Type 0} (m : Seen N B W) (s : MachineState
 
 abbrev pub WorkGoesRight : {N B W : Type 0} → (E : Type 0) → Seen N B W → Type 0
 WorkGoesRight {N} {B} {W} E m =
-    (start : MachineState N E) (moments : List (Moment N E B W)) → IsMachineWhole m.values start → IsIdle start → AreMoments m start moments → WorkersAreRight m (state_after start moments) (events_of moments) (replies_of moments)
+    (start : MachineState N E) (moments : List (Moment N E B W)) → IsMachineWhole m.values start → IsIdle start → AreMoments m start moments
+    → WorkersAreRight m (state_after start moments) (events_of moments) (replies_of moments)
