@@ -34,8 +34,8 @@ mod Called
 mod ReadingStepsRows
 mod ReadingSteps
 mod ReadingStepsMachine
-mod LoadSteps
 mod WalkSteps
+mod EventSteps
 mod Feeling
 mod Once
 mod Standing

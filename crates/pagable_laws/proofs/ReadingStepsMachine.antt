@@ -13,12 +13,12 @@ use Rattle.pagable_world.specs.declared.events.Took.{Took}
 use Rattle.pagable_world.specs.declared.events.Event.TheVariants as events
 use Rattle.pagable_world.specs.declared.events.Event.{Event}
 use Rattle.pagable_world.specs.Kinds.{owner_worker}
-use Rattle.pagable_world.specs.World.{OpenLoad, Root, of_cell, of_key, Frame, Reading, Todo, to_load, to_write, to_fail, Walking, World, Seen, Values}
+use Rattle.pagable_world.specs.World.{OpenLoad, Root, of_cell, of_key, Frame, Reading, Todo, to_load, to_write, Walking, World, Seen, Values}
 use Rattle.pagable_world.specs.Loads.{ReadingDoes, gone_on}
 use Rattle.pagable_world.specs.Workers as workers
 use Rattle.pagable_world.specs.Workers.{Site, fresh}
 use Rattle.pagable_world.specs.Events.{ReadingsAre, reading_of_root, reading_of_load, reading_at, reading_after, LoadSteps, WorkerSteps}
-use Rattle.pagable_world.specs.Pager.{IsWhole, IsReadingOf, of_caller, of_worker}
+use Rattle.pagable_world.specs.Pager.{IsWhole, of_caller, of_worker}
 use Rattle.pagable_laws.specs.TreeSteps.{IsSteppedReading, StepsReading}
 use Rattle.pagable_laws.proofs.Trees.{same_some}
 use Rattle.pagable_laws.proofs.Goes.{at-updated}

@@ -2,11 +2,10 @@
 use Rattle.std.proofs.Common.{◌≡◌, ℕ, ◌+◌, ◌<◌, ◌≤◌, ◌==◌, ◌%◌, Bool, true, false, List, [], ◌∷◌, ◌++◌, refl, ap, sym, subst, ◌∙◌, inl, inr, arith}
 use Rattle.std.specs.Prelude.{Option, Some, None, ◌⊎◌, ◌&&◌, not, if◌then◌else◌}
 use Rattle.std.proofs.lemmas.Bool.Decides.{nat_tests}
-use Rattle.pagable_world.specs.Plain.{ArcRef, Kind, HandleNumber, LoadNumber, NodeNumber, OptionalDataKey, is_shared_kind, is_loose_kind, is_pinned_kind, type_of, updated, if_there}
+use Rattle.pagable_world.specs.Plain.{ArcRef, Kind, HandleNumber, LoadNumber, NodeNumber, OptionalDataKey, is_shared_kind, is_loose_kind, is_pinned_kind, type_of, if_there}
 use Rattle.pagable_world.specs.declared.handles.HandleRow.{HandleRow}
 use Rattle.pagable_world.specs.declared.handles.Owner.{Owner}
 use Rattle.pagable_world.specs.declared.handles.Owner.TheVariants as owners
-use Rattle.pagable_world.specs.declared.rows.Mode.{Mode}
 use Rattle.pagable_world.specs.declared.rows.Mode.TheVariants as modes
 use Rattle.pagable_world.specs.Kinds.{find_row, is_handle, mode_of, fits_mode, owner_value, pins, is_in_memory}
 use Rattle.pagable_world.specs.World.{Core, Cell, Last, Alike, row_at, usable}
@@ -107,8 +106,8 @@ module _ {w w' : Core} (whole : HandlesAreWhole w) (kind : Kind) (k : HandleNumb
       let rows = cached-rows born kind key (next_node w) in
       let few = ap (λ (l : Last). l.handle) (a.last ∙ rows.1) in
       gets (moved (is_named_by references) (owner_value (w.last.node + 1)) w.rows) (next_node w) (owners.Load l) (omega (arith, few))
-          (λ r found. let c = found-changed (λ (h : HandleRow). is_named_by references h.number.0) (λ h. record h { owner = owner_value (w.last.node + 1) }) (λ h. refl) k.0 w.rows r found in none-above whole k.0 c.was (next-above k.0 w.last.handle next) c.live)
-          (subst (λ rows. find_row k.0 rows ≡ Some row) (a.rows ∙ rows.0) made)
+      (λ r found. let c = found-changed (λ (h : HandleRow). is_named_by references h.number.0) (λ h. record h { owner = owner_value (w.last.node + 1) }) (λ h. refl) k.0 w.rows r found in none-above whole k.0 c.was (next-above k.0 w.last.handle next) c.live)
+      (subst (λ rows. find_row k.0 rows ≡ Some row) (a.rows ∙ rows.0) made)
 
 -- it is so in a world that is alike
 pub gets-alike : {w m w' : Core} {kind : Kind} {n : ℕ} {row : HandleRow} → GetsRow w m kind n row → Alike m w' → GetsRow w w' kind n row

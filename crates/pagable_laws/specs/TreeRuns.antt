@@ -1,8 +1,8 @@
 -- The laws of trees along runs.
-use Rattle.std.specs.Prelude.{List, [], ◌∷◌, ◌≤◌, ℕ, ◌≡◌, ◌+◌, Option, Some, None}
+use Rattle.std.specs.Prelude.{List, ◌≤◌, ℕ, ◌≡◌, ◌+◌, Option, Some, None}
 use Rattle.pagable_world.specs.Plain.{Blob, Types, Tree, ReadsTree}
 use Rattle.pagable_world.specs.World.{World, Values, Seen, IsLawful, OpenLoad, Reading, Frame}
-use Rattle.pagable_world.specs.Pager.{MachineState, world_of, IsMachineWhole, StandsFor, IsReadingOf, PagerState, WellFormed, Moves, Represents, SameTrees, CallBrings, ReadingBrings, ReadingFits, EventBrings, ReadsNodeTree}
+use Rattle.pagable_world.specs.Pager.{MachineState, world_of, IsMachineWhole, IsIdle, StandsFor, IsReadingOf, PagerState, WellFormed, Moves, Represents, SameTrees, CallBrings, ReadingBrings, ReadingFits, EventBrings, ReadsNodeTree}
 use Rattle.pagable_world.specs.Runs.{HoldsSettled, ReadsItsTypes, AsksWell, TakesWell, IsWellAsked, Moment, AreMoments, TreesAlong}
 use Rattle.pagable_world.specs.Headline.{PinGives}
 use Rattle.pagable_world.specs.declared.events.Event.{Event}
@@ -14,7 +14,8 @@ use Rattle.pagable_world.specs.declared.handles.Owner.TheVariants as owners
 use Rattle.pagable_model.specs.declared.data_key.OptionalDataKey.TheVariants as optional
 use Rattle.pagable_world.specs.Plain.{OptionalDataKey, type_of}
 use Rattle.pagable_laws.specs.ReadLaws.{ValueLeads, FramesGiven}
-use Rattle.pagable_laws.specs.TreeSteps.{Change, Sets, Knows, Bears, CoreGoes, CallFeels, ReadingFeels, KeysAreReady, StepFeels, PinHolds}
+use Rattle.pagable_laws.specs.TreeSteps.{Change, Sets, Knows, Bears, CoreGoes, CallFeels, ReadingFeels, KeysAreReady, StepFeels}
+use Rattle.pagable_laws.specs.KeyRuns.{KeysAreRight}
 
 -- A key reads as the same tree when the storage has gained blobs.
 abbrev pub IsKeptByGains : Type 0
@@ -69,16 +70,12 @@ EventsKeepTrees {N} {B} {W} E m = IsLawful m.values → ReadsItsTypes m.values.t
     → IsMachineWhole m.values s → IsMachineWhole m.values s' → KeysAreReady m.values s trees → IsWellAsked m.values s trees event reply → Moves (EventBrings m.values (world_of s) event) s.pager s'.pager
     → StepFeels m.values (world_of s) event reply (world_of s') → TreesAfterEvent m.values s s' trees
 
--- Along a chain trees feel each step so, a key that a worker sets is ready, and what is answered as pinned is.
-abbrev pub FeltAlong : {N E B W : Type 0} → Seen N B W → MachineState N E → (ℕ → Tree) → List (Moment N E B W) → Type 0
-FeltAlong m s trees [] = Unit {0}
-FeltAlong m s trees (x ∷ xs) =
-    StepFeels m.values (world_of s) x.event x.reply (world_of x.after)
-    × KeysAreReady m.values s trees
-    × PinHolds x.event x.reply x.after.pager.core
-    × ((trees' : ℕ → Tree) → SameTrees s.pager.core.last.node trees trees' → StandsFor m.values x.after trees' → FeltAlong m x.after trees' xs)
+-- pins give trees, and keys are right
+pub record PinsAndKeys {N E B W : Type 0} (v : Values N) (s : MachineState N E) (trees : ℕ → Tree) (event : Event N B W) (reply : EventReply N B W) (s' : MachineState N E) (trees' : ℕ → Tree) : Type 0 where
+  pub pins_give : PinGives v s trees event reply s' trees'
+  pub keys : KeysAreRight v s trees event reply s' trees'
 
--- Trees stay: along such a chain each node keeps its tree, and each pin that succeeds gives the tree that its handle's node was made with.
+-- Trees stay: along each chain that begins where nobody works yet, each node keeps its tree, each pin that succeeds gives the tree that its handle's node was made with, and keys are right.
 abbrev pub TreesStay : {N B W : Type 0} → (E : Type 0) → Seen N B W → Type 0
-TreesStay {N} {B} {W} E m = IsLawful m.values → ReadsItsTypes m.values.types → (s : MachineState N E) (trees : ℕ → Tree) (moments : List (Moment N E B W)) → IsMachineWhole m.values s → HoldsSettled m.values s.pager → StandsFor m.values s trees
-    → ReadingsGiven s → AreMoments m s moments → FeltAlong m s trees moments → TreesAlong m (PinGives m.values) s trees moments
+TreesStay {N} {B} {W} E m = IsLawful m.values → ReadsItsTypes m.values.types → (s : MachineState N E) (trees : ℕ → Tree) (moments : List (Moment N E B W)) → IsMachineWhole m.values s → IsIdle s → HoldsSettled m.values s.pager → StandsFor m.values s trees
+    → AreMoments m s moments → TreesAlong m (PinsAndKeys m.values) s trees moments

@@ -1,8 +1,8 @@
 //! The laws of page-outs by trees: each is the contract of a function that does nothing.
 
 ghost use Rattle.pagable_world.specs.World.{Seen};
-ghost use Rattle.pagable_laws.specs.KeyRuns.{HeldAtFirst, HeldOn, HeldGivesReady};
-ghost use Rattle.pagable_laws.specs.PageOutLaws.{FitsAtFirst, FitsOn, FitsGiveKeys, SetsReadKeys};
+ghost use Rattle.pagable_laws.specs.KeyRuns.{FitsGiveKeys, HeldAtFirst, HeldOn, HeldGivesReady};
+ghost use Rattle.pagable_laws.specs.PageOutLaws.{FitsAtFirst, FitsOn, SetsReadKeys};
 
 use crate::world::SeenAs;
 
@@ -18,7 +18,7 @@ pub fn fits_on<N: SeenAs<B, W>, B, W, E>()
     ensures { FitsOn E N.seen }
 {}
 
-/// What is published is its tree's key, what is answered is its task's, and all that was met then is left paged out.
+/// What is published is its tree's key, what is answered is its task's, and all that was met then is left paged out, with keys of its live cells.
 pub fn fits_give_keys<N: SeenAs<B, W>, B, W, E>()
     ensures { FitsGiveKeys E N.seen }
 {}

@@ -35,7 +35,7 @@ pub fn events_keep_trees<N: SeenAs<B, W>, B, W, E>()
     ensures { EventsKeepTrees E N.seen }
 {}
 
-/// Trees stay along each chain whose steps trees feel so, and each pin that succeeds gives its node's tree.
+/// Trees stay along each chain that begins where nobody works, each pin that succeeds gives its node's tree, and keys are right.
 pub fn trees_stay<N: SeenAs<B, W>, B, W, E>()
     ensures { TreesStay E N.seen }
 {}
