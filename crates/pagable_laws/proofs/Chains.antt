@@ -17,7 +17,7 @@ use Rattle.pagable_laws.specs.TreeRuns.{ReadingsGiven, PinsAndKeys, TreesStay}
 use Rattle.pagable_laws.specs.PageOutLaws.{WorkFits}
 use Rattle.pagable_laws.specs.KeyRuns.{KeysHeld}
 use Rattle.pagable_laws.proofs.Taking.{pin_stands}
-use Rattle.pagable_laws.proofs.Lasting.{events_keep_trees}
+use Rattle.pagable_laws.proofs.Lasting.{keeps-trees}
 use Rattle.pagable_laws.proofs.Publishing.{fits_at_first, fits_on}
 use Rattle.pagable_laws.proofs.Answering.{fits_give_keys}
 use Rattle.pagable_laws.proofs.KeysGoing.{held_at_first, held_on, held_gives_ready}
@@ -57,7 +57,7 @@ module _ {N E B W : Type 0} (m : Seen N B W) (lawful : IsLawful m.values) (reada
   stay s trees (x ∷ xs) on (does, more) = λ premised.
       let feels = does-feels m s x.after trees x.event x.reply on.whole on.fits premised.stays_open does in
       let ready = held_gives_ready E m s trees readable on.fits on.held in
-      let a = events_keep_trees m lawful readable s x.after trees x.event x.reply on.stands on.given on.settled on.whole does.whole ready premised.well does.moves feels in
+      let a = keeps-trees m lawful readable s x.after trees x.event x.reply on.stands on.given on.settled on.whole does.whole ready premised.well does.moves feels in
       let fits = fits_on E m s x.after x.event x.reply trees a.after on.whole on.settled readable on.stands a.keeps (record { kept = feels.core.stored; last = feels.core.nodes }) does on.fits in
       let held = held_on E m s x.after x.event x.reply on.whole premised.stays_open does on.held in
       let pins = pins-hold m (world_of s) (world_of x.after) x.event x.reply on.whole.pager.whole.handles does.step.happens in

@@ -34,6 +34,12 @@ mod Called
 mod ReadingStepsRows
 mod ReadingSteps
 mod ReadingStepsMachine
+mod ReadingStepsKinds
+mod ReadingStepsBound
+mod ReadingStepsWithin
+mod ReadingStepsHanding
+mod ReadingStepsHeld
+mod ReadingStepsGive
 mod WalkSteps
 mod EventSteps
 mod Feeling
