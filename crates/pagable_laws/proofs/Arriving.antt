@@ -25,6 +25,7 @@ use Rattle.pagable_laws.proofs.Once.{once_each}
 use Rattle.pagable_laws.proofs.Coming.{StandsIn, EventTurns, event-turns}
 use Rattle.pagable_laws.proofs.Histories.{Went, HasGone, goes-on}
 use Rattle.pagable_laws.proofs.Sums.{sum-zero}
+use Rattle.pagable_laws.proofs.ReadingStepsWithin.{loads-bounded}
 use Rattle.pagable_laws.proofs.ClaimsMade.{claims-cons, own-claims, event-claims}
 
 first-then : (a b c d x y : ℕ) → x ≡ b + c → a + b ≤ d → d + c ≤ y → a + x ≤ y
@@ -135,7 +136,9 @@ module _ {N E B W : Type 0} (m : Seen N B W) (s : MachineState N E) (work : Stan
           of false f = f
 
 pub work_is_right : {N B W : Type 0} (E : Type 0) (m : Seen N B W) → WorkGoesRight E m
-work_is_right {N} {B} {W} E m s moments whole idle chain = record { claims_right = record { distinct = distinct; met = is-met m end all.work all.whole }; workers = worker }
+work_is_right {N} {B} {W} E m s moments whole idle chain =
+    let loads = loads-bounded m s moments whole idle chain in
+    record { work = record { claims_right = record { distinct = distinct; met = is-met m end all.work all.whole }; workers = worker; loads = loads.1 }; loads = loads.0 }
   where
     end : MachineState N E
     end = state_after s moments
