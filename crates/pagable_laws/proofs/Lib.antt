@@ -49,9 +49,13 @@ mod Changing
 mod Going
 mod Turning
 mod Claiming
-mod Numbered
 mod Holding
 mod Coming
+mod Bounded
+mod Failing
+mod Histories
+mod ClaimsMade
+mod Arriving
 mod Headlines
 mod Working
 mod Doing
