@@ -218,14 +218,11 @@ module _ {N E B W : Type 0} (m : Seen N B W) where
       none reading (of_caller l is) = let e = idle.readings l in cc
       none reading (of_worker n place walking r through below there todo) = let e = idle.walkings n in cc
 
-  steps-left : (s : MachineState N E) → Ends s → LoadsHaveStepsLeft m.values (world_of s)
-  steps-left s ends l reading load is is_open = of ends.stands.1
-    where
-      of : IsShut s.pager.core ⊎ AllBounded m.values.types (world_of s) → HasStepLeft m.values.types s.pager.core.stored load.key reading
-      of (inl shut) = λ many longest under. absurd (nothing-unfolds shut.1 under)
-      of (inr all) = has-left reading ((all reading (of_caller l is)).1 load (ap s.pager.core.loads (ends.whole.readings l reading is).number ∙ is_open))
+  steps-left : (s : MachineState N E) → LoadsStand m.values.types (world_of s) → LoadsHaveStepsLeft m.values (world_of s)
+  steps-left s (waits, inl shut) reading load is is_open = λ many longest under. absurd (nothing-unfolds shut.1 under)
+  steps-left s (waits, inr all) reading load is is_open = has-left reading ((all reading is).1 load is_open)
 
 -- of a chain from where nobody works: each step of a load is within its bound, and an open load has a step left
 pub loads-bounded : {N E B W : Type 0} (m : Seen N B W) (start : MachineState N E) (moments : List (Moment N E B W)) → IsMachineWhole m.values start → IsIdle start → AreMoments m start moments
     → StepsAreWithin m.values start moments × LoadsHaveStepsLeft m.values (world_of (state_after start moments))
-loads-bounded m start moments whole idle chain = let a = along m start moments chain (record { whole = whole; stands = idle-stands m start idle }) in (a.0, steps-left m (state_after start moments) a.1)
+loads-bounded m start moments whole idle chain = let a = along m start moments chain (record { whole = whole; stands = idle-stands m start idle }) in (a.0, steps-left m (state_after start moments) a.1.stands)
