@@ -62,3 +62,14 @@ mod Chains
 mod Tested
 mod Whole
 mod States
+mod Walked
+mod PagedOut
+mod Walks
+mod Births
+mod ReadBack
+mod Evicting
+mod Loading
+mod Loaded
+mod Premised
+mod Asked
+mod Level

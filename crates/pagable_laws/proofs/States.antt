@@ -1,4 +1,4 @@
--- Each state of the chain of two levels is whole.
+-- Each pager and each machine of the chain of two levels is whole.
 use Rattle.std.proofs.Common.{◌≡◌, ℕ, zero, suc, ◌<◌, ◌≤◌, ◌==◌, Bool, true, false, List, [], ◌∷◌, refl, ap, sym, subst, ◌∙◌, arith}
 use Rattle.std.specs.Prelude.{Option, Some, None, is_some, is_none}
 use Rattle.std.proofs.lemmas.Bool.Decides.{nat_tests}
@@ -155,30 +155,6 @@ pub child-loaded-passes : Passes two.child_loaded two.last_values
 unfolding value_at is_named_by find_row
 child-loaded-passes = passes two.child_loaded two.last_values (few-fallen (ended two.child_loading 2 3 10 []) (gives_up two.child_loading 2 []) refl (updated-past 2 2 None None two.child_loading.loads (omega arith) few-child-loading.loads) few-child-loading.workers) (knows-third two.child_loaded (λ kind key. refl) (omega arith)) (omega arith) refl refl refl
 
--- all of them
-pub all_whole : two.TwoLevelsAreWhole
-all_whole = (
-  whole-so _ _ child-passes,
-  whole-so _ _ both-passes,
-  whole-so _ _ begun-passes,
-  whole-so _ _ parent-pinned-passes,
-  whole-so _ _ both-pinned-passes,
-  whole-so _ _ child-stored-passes,
-  whole-so _ _ child-keyed-passes,
-  whole-so _ _ child-released-passes,
-  whole-so _ _ parent-stored-passes,
-  whole-so _ _ parent-keyed-passes,
-  whole-so _ _ parent-released-passes,
-  whole-so _ _ answered-passes,
-  whole-so _ _ evicted-passes,
-  whole-so _ _ parent-loading-passes,
-  whole-so _ _ got-passes,
-  whole-so _ _ parent-loaded-passes,
-  whole-so _ _ child-cloned-passes,
-  whole-so _ _ child-loading-passes,
-  whole-so _ _ child-loaded-passes,
-)
-
 -- ---- the machine over it
 
 pub only-at : {X : Type 0} (m : ℕ) (x : X) (P : ℕ → X → Type 0) → P m x → (n : ℕ) (y : X) → two.only m x n ≡ Some y → P n y
@@ -194,8 +170,8 @@ only-at m x P holds n y is = part (n == m) refl
     part false e = let a : two.only m x n ≡ None = rw e refl in absurd (cc)
 
 -- nobody works
-pub idle-whole : (w : Core) (vs : List (Option two.Sample)) (shelf : Shelf) (last : ℕ) → Passes w vs → w.workers ≡ (λ v. false) → (shelves : ℕ → Shelf) → IsMachineWhole two.sample (two.machine w vs (record no_work { shelves = shelves; last_table = last }))
-idle-whole w vs shelf last p none shelves =
+pub idle-whole : (w : Core) (vs : List (Option two.Sample)) (shelves : ℕ → Shelf) (last : ℕ) → Passes w vs → w.workers ≡ (λ v. false) → IsMachineWhole two.sample (two.machine w vs (record no_work { shelves = shelves; last_table = last }))
+idle-whole w vs shelves last p none =
     record {
       pager = whole-so w vs p;
       readings = λ l r is. absurd (cc);

@@ -16,3 +16,4 @@ pub mod TreeRuns
 pub mod ReadLaws
 pub mod PageOutLaws
 pub mod TwoLevels
+pub mod LevelLaws

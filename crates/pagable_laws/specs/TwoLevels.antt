@@ -31,7 +31,7 @@ use Rattle.pagable_world.specs.LoadCalls.{with_load, without_load, with_pin, is_
 use Rattle.pagable_world.specs.Loads.{root_frame, gone_on}
 use Rattle.pagable_world.specs.Workers.{with_slot, with_wait, with_changed_slot, with_outcome, without_worker, is_workers, is_workers_at, fresh}
 use Rattle.pagable_world.specs.Events.{no_shelf, with_worker}
-use Rattle.pagable_world.specs.Pager.{MachineState, WellFormed}
+use Rattle.pagable_world.specs.Pager.{MachineState}
 use Rattle.pagable_world.specs.Runs.{Moment}
 use Rattle.pagable_laws.specs.SmallWorlds.{empty, no_work}
 
@@ -355,45 +355,23 @@ page_out =
     ∷ took_step (took.Store None (Ok 25)) answered both_shown [] 15 (Some (finals.Key 25))
     ∷ []
 
-abbrev pub loads : List Happening
-loads =
+-- the eviction, and the load of the parent; a handle of its child, and the load of this
+abbrev pub parent_loads : List Happening
+parent_loads =
     moment (events.Call (calls.Unpin (handle 2))) (answers.CallReply (replies.Done (Ok tt))) (machine evicted [] done_work)
     ∷ load_begun 2 1 24 (machine parent_loading [] done_work)
     ∷ read_step 1 None 1 (machine parent_loading [] (read_work 1 parent_fetched))
     ∷ read_step 1 None 2 (machine child_got [] (read_work 1 parent_read))
     ∷ read_step 1 (Some (ends.Pinned (handle 9))) 3 (machine parent_loaded parent_value done_work)
-    ∷ moment (events.Call (calls.Clone (handle 8))) (answers.CallReply (replies.Handle (Ok (handle 10)))) (machine child_cloned parent_value done_work)
+    ∷ []
+
+abbrev pub child_loads : List Happening
+child_loads =
+    moment (events.Call (calls.Clone (handle 8))) (answers.CallReply (replies.Handle (Ok (handle 10)))) (machine child_cloned parent_value done_work)
     ∷ load_begun 10 2 8 (machine child_loading parent_value done_work)
     ∷ read_step 2 None 1 (machine child_loading parent_value (read_work 2 child_fetched))
     ∷ read_step 2 (Some (ends.Pinned (handle 12))) 2 (machine child_loaded last_values done_work)
     ∷ []
 
 abbrev pub moments : List Happening
-moments = births ++ page_out ++ loads
-
--- the pager over this with these values is whole
-abbrev pub IsWholeWith : Core → List (Option Sample) → Type 0
-IsWholeWith core values = WellFormed sample (machine core values no_work).pager
-
--- Each pager that the chain goes through is whole: with a value that refers, a worker's handles, an open load, a cell of which nothing was read and an entry of the cache.
-abbrev pub TwoLevelsAreWhole : Type 0
-TwoLevelsAreWhole =
-    IsWholeWith child_born one_value
-    × IsWholeWith both_born two_values
-    × IsWholeWith begun two_values
-    × IsWholeWith parent_pinned two_values
-    × IsWholeWith both_pinned two_values
-    × IsWholeWith child_stored two_values
-    × IsWholeWith child_keyed two_values
-    × IsWholeWith child_released two_values
-    × IsWholeWith parent_stored two_values
-    × IsWholeWith parent_keyed two_values
-    × IsWholeWith parent_released two_values
-    × IsWholeWith answered two_values
-    × IsWholeWith evicted []
-    × IsWholeWith parent_loading []
-    × IsWholeWith child_got []
-    × IsWholeWith parent_loaded parent_value
-    × IsWholeWith child_cloned parent_value
-    × IsWholeWith child_loading parent_value
-    × IsWholeWith child_loaded last_values
+moments = births ++ page_out ++ parent_loads ++ child_loads

@@ -4,7 +4,7 @@ ghost use Rattle.pagable_world.specs.World.{Seen};
 ghost use Rattle.pagable_laws.specs.FallLaws.{IsThere, IsOne, IsGivenAlone, PinsAreAFilter, TwoLevelsFall, LoneIsListed};
 ghost use Rattle.pagable_laws.specs.MetLaws.{HeadlineIsMet, WorkMeetsHeadline};
 ghost use Rattle.pagable_laws.specs.ReadLaws.{AllGoOn, AsksNext, DecodesWell, PinStands, ReadStands};
-ghost use Rattle.pagable_laws.specs.TwoLevels.{TwoLevelsAreWhole};
+ghost use Rattle.pagable_laws.specs.LevelLaws.{TwoLevelsMeetPremises};
 ghost use Rattle.pagable_laws.specs.RunLaws.{ChainsJoin, NewIsWhole, NextIsOneOf, StepsFollow, IsOnceEach, KeysTellTheirTrees};
 
 use crate::values::is_key_of_one_tree;
@@ -123,8 +123,8 @@ pub fn what_is_pinned_stands<N: SeenAs<B, W>, B, W, E>()
     ensures { PinStands E N.seen.values }
 {}
 
-/// Each pager is whole that a chain of two levels goes through: births, a page-out, an eviction, and loads of parent and child.
-#[tactic(auto, using(crate::proofs::States::all_whole))]
-pub fn two_levels_are_whole()
-    ensures { TwoLevelsAreWhole }
+/// A chain of two levels meets all that the headline asks: births, a page-out, an eviction, and loads of parent and child.
+#[tactic(auto, using(crate::proofs::Level::premises_met))]
+pub fn two_levels_meet_premises()
+    ensures { TwoLevelsMeetPremises }
 {}
