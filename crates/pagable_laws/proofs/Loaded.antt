@@ -22,9 +22,9 @@ use Rattle.pagable_laws.specs.TwoLevels as two
 use Rattle.pagable_laws.proofs.Tested.{alike-self}
 use Rattle.pagable_laws.proofs.Births.{work-stays, only-pager}
 use Rattle.pagable_laws.proofs.Evicting.{evicts}
-use Rattle.pagable_laws.proofs.ReadBack.{reads-on, only-before, reads-over, begins-it, fetches-it, ends-it}
-use Rattle.pagable_laws.proofs.Loading.{done-whole, read-whole, gets-child, reads-parent, reads-child, parent-back, child-back, of-parent, of-child}
-use Rattle.pagable_laws.proofs.States.{evicted-passes, parent-loading-passes, got-passes, parent-loaded-passes, child-cloned-passes, child-loading-passes, child-loaded-passes}
+use Rattle.pagable_laws.proofs.ReadBack.{reads-on, only-before, reads-over, cell_load, begins-it, fetches-it, ends-it}
+use Rattle.pagable_laws.proofs.Loading.{done-whole, read-whole, gets-child, key_load, gets-known, reads-out, reads-parent, reads-child, parent-back, child-back, of-parent, of-child}
+use Rattle.pagable_laws.proofs.States.{evicted-passes, parent-loading-passes, got-passes, parent-loaded-passes, child-cloned-passes, child-loading-passes, child-loaded-passes, key-loading-passes, child-known-passes, read-back-passes}
 
 -- the values that the loads bring
 parent-brings : (n : ℕ) (x : two.Sample) → two.value_at two.parent_value n ≡ Some x → ReadingBrings two.sample two.child_got two.parent_read n x
@@ -83,12 +83,12 @@ loads-parent = (
     },
     (
       step-does two.parent_loading two.parent_loading [] [] (λ l. None) (two.only 1 two.parent_fetched) 1 1 (fresh (two.load_number 1) 0) two.parent_fetched.frames None refl refl
-          (fetches-it two.parent_loading 1 2 0 2 24 two.parent_blob refl refl) refl (reads-on two.parent_loading 1 two.parent_fetched (λ l. None) refl (λ l e. refl)) (λ n x is. inl is)
-          (read-whole two.parent_loading [] 1 2 0 2 24 two.parent_fetched parent-loading-passes refl refl refl refl refl),
+          (fetches-it two.parent_loading 1 0 (cell_load 2 0 2 24) two.parent_blob refl refl refl) refl (reads-on two.parent_loading 1 two.parent_fetched (λ l. None) refl (λ l e. refl)) (λ n x is. inl is)
+          (read-whole two.parent_loading [] 1 (cell_load 2 0 2 24) two.parent_fetched parent-loading-passes refl refl refl refl refl refl),
       (
         step-does two.parent_loading two.child_got [] [] (two.only 1 two.parent_fetched) (two.only 1 two.parent_read) 1 2 two.parent_fetched two.parent_read.frames None refl refl
             gets-child refl (reads-on two.child_got 1 two.parent_read (two.only 1 two.parent_fetched) refl (only-before 1 two.parent_fetched)) (λ n x is. inl is)
-            (read-whole two.child_got [] 1 2 0 2 24 two.parent_read got-passes refl refl refl refl refl),
+            (read-whole two.child_got [] 1 (cell_load 2 0 2 24) two.parent_read got-passes refl refl refl refl refl refl),
         (
           step-does two.child_got two.parent_loaded [] two.parent_value (two.only 1 two.parent_read) (λ l. None) 1 3 two.parent_read [] (Some (ends.Pinned (two.handle 9))) refl refl
               (ends-it two.child_got 1 2 2 24 2 (two.parent (two.to_leaf 3 8)) (record (root_frame 24 0 two.parent_blob) { got = two.to_leaf 3 8 ∷ [] }) refl refl refl refl refl refl refl refl refl refl refl refl)
@@ -122,12 +122,46 @@ loads-child = (
     },
     (
       step-does two.child_loading two.child_loading two.parent_value two.parent_value (λ l. None) (two.only 2 two.child_fetched) 2 1 (fresh (two.load_number 2) 1) two.child_fetched.frames None refl refl
-          (fetches-it two.child_loading 2 3 1 10 8 two.leaf_blob refl refl) refl (reads-on two.child_loading 2 two.child_fetched (λ l. None) refl (λ l e. refl)) (λ n x is. inl is)
-          (read-whole two.child_loading two.parent_value 2 3 1 10 8 two.child_fetched child-loading-passes refl refl refl refl refl),
+          (fetches-it two.child_loading 2 1 (cell_load 3 1 10 8) two.leaf_blob refl refl refl) refl (reads-on two.child_loading 2 two.child_fetched (λ l. None) refl (λ l e. refl)) (λ n x is. inl is)
+          (read-whole two.child_loading two.parent_value 2 (cell_load 3 1 10 8) two.child_fetched child-loading-passes refl refl refl refl refl refl),
       (
         step-does two.child_loading two.child_loaded two.parent_value two.last_values (two.only 2 two.child_fetched) (λ l. None) 2 2 two.child_fetched [] (Some (ends.Pinned (two.handle 12))) refl refl
             (ends-it two.child_loading 2 3 10 8 1 two.leaf (root_frame 8 1 two.leaf_blob) refl refl refl refl refl refl refl refl refl refl refl refl) refl (reads-over two.child_loaded 2 two.child_fetched) child-brings
             (done-whole two.child_loaded two.last_values child-loaded-passes refl refl),
+        tt,
+      ),
+    ),
+  ),
+)
+
+-- the caller's load of the parent's key
+pub loads-key : AreMoments two.sample_seen (two.machine two.child_loaded two.last_values two.done_work) two.key_loads
+unfolding find_row is_named_by two.value_at
+loads-key = (
+  record {
+    step = record {
+      happens = record {
+        step = record { begins = (refl, record { above = refl; is_left = omega arith }, alike-self two.key_loading); refused = tt };
+        begun = reads-on two.key_loading 3 two.key_begun (λ l. None) refl (λ l e. refl);
+        refused = tt;
+        work = work-stays two.done_work (two.only 3 two.key_begun);
+      };
+    };
+    moves = record { each = λ n x is. inl is; environment = refl };
+    writes = tt;
+    whole = read-whole two.key_loading two.last_values 3 key_load two.key_begun key-loading-passes refl refl refl refl refl tt;
+  },
+  (
+    step-does two.key_loading two.key_loading two.last_values two.last_values (two.only 3 two.key_begun) (two.only 3 two.key_fetched) 3 1 two.key_begun two.key_fetched.frames None refl refl
+        (fetches-it two.key_loading 3 0 key_load two.parent_blob refl refl refl) refl (reads-on two.key_loading 3 two.key_fetched (two.only 3 two.key_begun) refl (only-before 3 two.key_begun)) (λ n x is. inl is)
+        (read-whole two.key_loading two.last_values 3 key_load two.key_fetched key-loading-passes refl refl refl refl refl tt),
+    (
+      step-does two.key_loading two.child_known two.last_values two.last_values (two.only 3 two.key_fetched) (two.only 3 two.key_read) 3 2 two.key_fetched two.key_read.frames None refl refl
+          gets-known refl (reads-on two.child_known 3 two.key_read (two.only 3 two.key_fetched) refl (only-before 3 two.key_fetched)) (λ n x is. inl is)
+          (read-whole two.child_known two.last_values 3 key_load two.key_read child-known-passes refl refl refl refl refl tt),
+      (
+        step-does two.child_known two.read_back two.last_values two.last_values (two.only 3 two.key_read) (λ l. None) 3 3 two.key_read [] (Some (ends.Read (two.parent (two.to_leaf 3 13)))) refl refl
+            reads-out refl (reads-over two.read_back 3 two.key_read) (λ n x is. inl is) (done-whole two.read_back two.last_values read-back-passes refl refl),
         tt,
       ),
     ),

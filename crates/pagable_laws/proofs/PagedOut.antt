@@ -83,7 +83,7 @@ stores-it core shelf o key below all is open_still free =
 -- the key is set through a loose handle of the worker's, and nothing falls
 pub keys-it : (core : Core) (shelf : Shelf) (n : ℕ) (r : ArcRef) (through : HandleNumber) (key height : ℕ) (below : List Todo) → let w = with_key core (two.node n) key in
     row_at core through ≡ Some (row_of through.0 (two.node n) modes.LoosePinned two.worker)
-    → is_low core ≡ true → is_low w ≡ true → nat_le w.last.handle 12 ≡ true → agree_below (lists_none core w nobody) never 4 ≡ true → agree_below (takes_more w nobody) never 4 ≡ true
+    → is_low core ≡ true → is_low w ≡ true → nat_le w.last.handle 13 ≡ true → agree_below (lists_none core w nobody) never 4 ≡ true → agree_below (takes_more w nobody) never 4 ≡ true
     → Walks core shelf (to_set r through key height ∷ below) (took.SetKey (identity_of r) (Ok tt)) (two.keyed_at core n key) shelf (to_publish r key height ∷ below)
 keys-it core shelf n r through key height below live low low_then few none ok =
     record {
@@ -101,7 +101,7 @@ pub publishes-it : (core : Core) (shelf : Shelf) (r : ArcRef) (key : ℕ) (below
 publishes-it core shelf r key below = record { does = (refl, refl, refl, record { pager_stays = alike-self core; table_is = same-shelf (two.shown shelf r key); list_is = refl }) }
 
 pub releases-it : (core : Core) (shelf : Shelf) (r : ArcRef) (key : ℕ) (below : List Todo) → let given = is_workers_at core 1 r.node.0 in
-    is_low core ≡ true → nat_le core.last.handle 12 ≡ true → agree_below (lists_none core core given) never 4 ≡ true → agree_below (takes_more core given) never 4 ≡ true
+    is_low core ≡ true → nat_le core.last.handle 13 ≡ true → agree_below (lists_none core core given) never 4 ≡ true → agree_below (takes_more core given) never 4 ≡ true
     → Walks core shelf (to_release r key 0 ∷ below) (took.Release (identity_of r)) (two.released_at core r.node.0) shelf (give r key 0 below)
 releases-it core shelf r key below low few none ok =
     record { does = (refl, record { told = Ok tt; falls = falls-alone core core (is_workers_at core 1 r.node.0) low low few none ok }, record { table_stays = same-shelf shelf; list_is = refl }) }

@@ -1,22 +1,22 @@
 -- What the headline asks of values and moments is so along the chain of two levels.
 use Rattle.std.proofs.Common.{◌≡◌, ℕ, zero, suc, List, [], ◌∷◌, ◌++◌, refl, sym, subst, ◌∙◌}
-use Rattle.std.specs.Prelude.{Option, Some, None, Ok}
+use Rattle.std.specs.Prelude.{Option, Some, Ok}
 use Rattle.pagable_model.specs.Meaning.{none}
 use Rattle.pagable_model.specs.Reading as grammar
 use Rattle.pagable_model.specs.References.{references_in, SameReferences}
 use Rattle.pagable_model.specs.Canonical.{IsReadable, LiesIn, Throughout, throughout-in}
 use Rattle.pagable_model.specs.Trees.{none-followed, rest_of}
 use Rattle.pagable_model.specs.Shape as shapes
-use Rattle.pagable_world.specs.Plain.{Blob, Kind, Tree, tree, type_of}
+use Rattle.pagable_world.specs.Plain.{Kind, Tree, tree, type_of}
 use Rattle.pagable_world.specs.declared.events.Event.TheVariants as events
 use Rattle.pagable_world.specs.declared.events.EventReply.TheVariants as answers
 use Rattle.pagable_world.specs.declared.events.WorkerReply.{WorkerReply}
 use Rattle.pagable_world.specs.declared.events.LoadReply.{LoadReply}
 use Rattle.pagable_world.specs.World.{Core, Shelf, Written, Reading, Walking, IsLawful, IsSettled}
-use Rattle.pagable_world.specs.Loads.{needs_lazy, answers_from}
+use Rattle.pagable_world.specs.Loads.{needs_lazy, need_of}
 use Rattle.pagable_world.specs.Events.{reading_at}
-use Rattle.pagable_world.specs.Pager.{MachineState, world_of}
-use Rattle.pagable_world.specs.Runs.{ReadsItsTypes, KeepsOpen, ReadsAsType, TakesWell, TodoTakesWell, IsWellAsked, IsPremised, read_out, state_after}
+use Rattle.pagable_world.specs.Pager.{PagerState, MachineState, world_of}
+use Rattle.pagable_world.specs.Runs.{ReadsItsTypes, KeepsOpen, ReadsAsType, TakesWell, TodoTakesWell, IsWellAsked, IsPremised, state_after}
 use Rattle.pagable_laws.specs.TwoLevels as two
 use Rattle.pagable_laws.specs.LevelLaws.{ArePremised}
 use Rattle.pagable_laws.proofs.States.{only-at}
@@ -65,33 +65,32 @@ State = MachineState two.Sample (Unit {0})
 abbrev pub IsAsked : State → two.Happening → Type 0
 IsAsked s x = (trees : ℕ → Tree) → IsPremised two.sample s trees x.event x.reply x.after
 
-pub asked : (s : State) (x : two.Happening) → KeepsOpen x.event → read_out x.reply ≡ None → ((trees : ℕ → Tree) → IsWellAsked two.sample s trees x.event x.reply) → IsAsked s x
-asked s x open_still none_read well trees = record { settled = λ n x is. settled x; reads_settled = λ x is. absurd (cc); stays_open = open_still; well = well trees }
+pub asked : (s : State) (x : two.Happening) → KeepsOpen x.event → ((trees : ℕ → Tree) → IsWellAsked two.sample s trees x.event x.reply) → IsAsked s x
+asked s x open_still well trees = record { settled = λ n x is. settled x; reads_settled = λ x is. settled x; stays_open = open_still; well = well trees }
 
 -- a worker's step asks something only at a load
 pub step-asked : (core : Core) (vs : List (Option two.Sample)) (shelf : Shelf) (w : Walking) (reply : WorkerReply Written) (after : State)
     → TodoTakesWell two.sample (two.machine core vs (two.walk_work shelf w)).pager w.todo
     → IsAsked (two.machine core vs (two.walk_work shelf w)) (two.moment (events.WorkerStep (record { 0 = 1 })) (answers.WorkerMoved (Ok reply)) after)
-step-asked core vs shelf w reply after well = asked _ _ tt refl (λ trees walking is. only-at 1 w (λ n x. TodoTakesWell two.sample (two.machine core vs (two.walk_work shelf w)).pager x.todo) well 1 walking is)
+step-asked core vs shelf w reply after well = asked _ _ tt (λ trees walking is. only-at 1 w (λ n x. TodoTakesWell two.sample (two.machine core vs (two.walk_work shelf w)).pager x.todo) well 1 walking is)
 
 -- a load's step asks something where a reference is taken of which nothing is read
-pub load-asked : (s : State) (l : ℕ) (r : Reading) (reply : LoadReply two.Sample) (after : State) → reading_at (world_of s) (two.load_number l) ≡ Some r → read_out {B = Blob} {W = Written} (answers.LoadMoved (Ok reply)) ≡ None → TakesWell two.sample s.pager r
+pub load-asked : (s : State) (l : ℕ) (r : Reading) (reply : LoadReply two.Sample) (after : State) → reading_at (world_of s) (two.load_number l) ≡ Some r → TakesWell two.sample s.pager r
     → IsAsked s (two.moment (events.LoadStep (two.load_number l)) (answers.LoadMoved (Ok reply)) after)
-load-asked s l r reply after at none_read well = asked _ _ tt none_read (λ trees reading is. let e : r ≡ reading = some-same (sym at ∙ is) in subst (λ x. TakesWell two.sample s.pager x) e well)
+load-asked s l r reply after at well = asked _ _ tt (λ trees reading is. let e : r ≡ reading = some-same (sym at ∙ is) in subst (λ x. TakesWell two.sample s.pager x) e well)
   where
     some-same : {X : Type 0} {x y : X} → Some x ≡ Some y → x ≡ y
     some-same is = cc
 
 -- the child's key reads as a leaf
-child-reads : ReadsAsType two.sample (two.machine two.parent_loading [] two.done_work).pager 1 8
+child-reads : (s : PagerState two.Sample (Unit {0})) → s.core.stored 8 ≡ Some two.leaf_blob → ReadsAsType two.sample s 1 8
 unfolding grammar.read grammar.read_with
-child-reads = record { read = tree 1 none; typed = refl; reads = record { own = none; reads = record { blob = two.leaf_blob; stored = refl; rest = rest_of two.leaf_blob; reads = refl }; follows = none-followed } }
+child-reads s stored = record { read = tree 1 none; typed = refl; reads = record { own = none; reads = record { blob = two.leaf_blob; stored = stored; rest = rest_of two.leaf_blob; reads = refl }; follows = none-followed } }
 
-pub takes-child : TakesWell two.sample (two.machine two.parent_loading [] two.done_work).pager two.parent_fetched
-unfolding grammar.read grammar.read_with answers_from
-takes-child kind key is =
-    let same : (record { 0 = 4 } ≡ kind) × (8 ≡ key) = parts (record { 0 = 4 }) kind 8 key is in
-    subst (λ k. ReadsAsType two.sample (two.machine two.parent_loading [] two.done_work).pager (type_of k.0) key) same.0 (subst (λ k. ReadsAsType two.sample (two.machine two.parent_loading [] two.done_work).pager 1 k) same.1 child-reads)
+pub takes-child : (s : PagerState two.Sample (Unit {0})) (r : Reading) → s.core.stored 8 ≡ Some two.leaf_blob → need_of two.sample_types r.frames ≡ needs_lazy (record { 0 = 4 }) 8 → TakesWell two.sample s r
+takes-child s r stored lazily kind key is =
+    let same : (record { 0 = 4 } ≡ kind) × (8 ≡ key) = parts (record { 0 = 4 }) kind 8 key (sym lazily ∙ is) in
+    subst (λ (k : Kind). ReadsAsType two.sample s (type_of k.0) key) same.0 (subst (λ k. ReadsAsType two.sample s 1 k) same.1 (child-reads s stored))
   where
     parts : (a b : Kind) (x y : ℕ) → needs_lazy a x ≡ needs_lazy b y → (a ≡ b) × (x ≡ y)
     parts a b x y same = (cc, cc)

@@ -46,6 +46,10 @@ reads-over core n r l = part (l == n) refl
 
 -- ---- calls
 
+-- a load of the caller's by the handle of a cell
+abbrev pub cell_load : ℕ → ℕ → ℕ → ℕ → OpenLoad
+cell_load n t h key = record { owner = owners.Caller; key = key; root = of_cell (two.node n) t (two.handle h) }
+
 -- a load of a cell without a value begins by the caller's handle
 pub begins-it : (core : Core) (n t h key : ℕ) → let l = core.last.load + 1 in
     row_at core (two.handle h) ≡ Some (row_of h (two.node n) modes.LooseUnpinned owners.Caller) → is_here core n ≡ false → key_at core n ≡ optional.Some key → type_at core n ≡ Some t → nat_le core.last.load 2 ≡ true → nat_le core.last.handle 12 ≡ true
@@ -59,32 +63,30 @@ begins-it core n t h key live away keyed typed few_loads few =
     }
 
 -- it fetches the blob of its own key
-pub fetches-it : (core : Core) (l n t h key : ℕ) (blob : Blob) → core.loads l ≡ Some (record { owner = owners.Caller; key = key; root = of_cell (two.node n) t (two.handle h) }) → core.stored key ≡ Some blob
-    → ReadingDoes two.sample core owners.Caller (fresh (two.load_number l) t) None (root_frame key t blob ∷ []) core
-fetches-it core l n t h key blob stands_open stored =
-    let load : OpenLoad = record { owner = owners.Caller; key = key; root = of_cell (two.node n) t (two.handle h) } in
+pub fetches-it : (core : Core) (l t : ℕ) (load : OpenLoad) (blob : Blob) → core.loads l ≡ Some load → load.owner ≡ owners.Caller → core.stored load.key ≡ Some blob → ReadingDoes two.sample core owners.Caller (fresh (two.load_number l) t) None (root_frame load.key t blob ∷ []) core
+fetches-it core l t load blob stands_open own stored =
     record {
       does = inl (record {
         load = load;
         blob = blob;
         first = refl;
         open_load = stands_open;
-        asked = record { gives = (load, record { stands_open = stands_open; own = refl }, record { asked = record { fails = omega arith; leaves = alike-self core }; found = stored; refused = tt }); refused = tt };
+        asked = record { gives = (load, record { stands_open = stands_open; own = own }, record { asked = record { fails = omega arith; leaves = alike-self core }; found = stored; refused = tt }); refused = tt };
         goes = refl;
       });
     }
 
 -- it ends with a pin, by the value that was read of its one blob
 pub ends-it : (core : Core) (l n h key steps : ℕ) (x : two.Sample) (root : Frame) → let references = two.sample_references x in let w = two.ended core l n h references in let given = two.gives_up core l references in
-    core.loads l ≡ Some (record { owner = owners.Caller; key = key; root = of_cell (two.node n) (two.sample_type x) (two.handle h) })
+    core.loads l ≡ Some (cell_load n (two.sample_type x) h key)
     → two.sample_type x ≡ root.node_type → next_in two.sample_types root ≡ reads (two.sample_meaning x) → references_fault core (owners.Load (two.load_number l)) [] references ≡ None
     → row_at core (two.handle h) ≡ Some (row_of h (two.node n) modes.LooseUnpinned owners.Caller) → is_here core n ≡ false → nat_le core.last.handle 11 ≡ true
-    → is_low core ≡ true → is_low w ≡ true → nat_le w.last.handle 12 ≡ true → agree_below (lists_none core w given) never 4 ≡ true → agree_below (takes_more w given) never 4 ≡ true
+    → is_low core ≡ true → is_low w ≡ true → nat_le w.last.handle 13 ≡ true → agree_below (lists_none core w given) never 4 ≡ true → agree_below (takes_more w given) never 4 ≡ true
     → ReadingDoes two.sample core owners.Caller (record { load = two.load_number l; node_type = two.sample_type x; frames = root ∷ []; steps = steps }) (Some (ends.Pinned (two.handle (core.last.handle + 1)))) [] (two.end_of core l n h references)
 ends-it core l n h key steps x root stands_open typed read good live away left low low_then few none ok =
     let a : core.last.handle ≤ 11 = grind (arith, nat_tests) in
     let references = two.sample_references x in
-    let load : OpenLoad = record { owner = owners.Caller; key = key; root = of_cell (two.node n) (two.sample_type x) (two.handle h) } in
+    let load : OpenLoad = cell_load n (two.sample_type x) h key in
     record {
       does = (
         record {

@@ -1,8 +1,9 @@
 -- A chain of moments of two levels. A value is a leaf, of the type 1, which has no byte; or a parent, of the type 0, which is a reference to a leaf
--- through a loose handle. Both are born, an item that refers to the parent is paged out, the parent is evicted with its child, and both are read again.
+-- through a loose handle. Both are born, an item that refers to the parent is paged out, the parent is evicted with its child, both are read again, and the
+-- parent's key is read.
 use Rattle.std.specs.Prelude.{ℕ, zero, suc, ◌≡◌, ◌+◌, ◌==◌, ◌&&◌, not, if◌then◌else◌, Bool, [], ◌∷◌, List, ◌++◌, length, Option, Some, None, Ok}
 use Rattle.pagable_model.specs.Meaning.{none, reference}
-use Rattle.pagable_world.specs.Plain.{ArcRef, HandleNumber, LoadNumber, NodeNumber, Identity, Blob, Meaning, Types, updated}
+use Rattle.pagable_world.specs.Plain.{ArcRef, HandleNumber, LoadNumber, NodeNumber, Identity, Blob, Meaning, Types, is_in, updated}
 use Rattle.pagable_world.specs.declared.handles.Owner.{Owner}
 use Rattle.pagable_world.specs.declared.events.Took.{Took}
 use Rattle.pagable_world.specs.declared.events.WorkerAnswer.{WorkerAnswer}
@@ -24,7 +25,7 @@ use Rattle.pagable_world.specs.declared.events.LoadAnswer.TheVariants as ends
 use Rattle.pagable_world.specs.declared.events.Event.TheVariants as events
 use Rattle.pagable_world.specs.declared.events.EventReply.TheVariants as answers
 use Rattle.pagable_world.specs.Kinds.{pins, identity_of}
-use Rattle.pagable_world.specs.World.{Core, Written, Values, Seen, Shelf, no_result, published, Todo, to_start, to_pin, to_write, to_finish, to_item, to_set, to_publish, to_release, of_item, of_cell, Walking, Work, Reading}
+use Rattle.pagable_world.specs.World.{Core, Written, Values, Seen, Shelf, no_result, published, Todo, to_start, to_pin, to_write, to_finish, to_item, to_set, to_publish, to_release, of_item, of_cell, of_key, Walking, Work, Reading}
 use Rattle.pagable_world.specs.Cascade.{fallen, nobody}
 use Rattle.pagable_world.specs.Calls.{with_handle, with_mode, with_key, with_node, next_node, moved, is_named_by}
 use Rattle.pagable_world.specs.LoadCalls.{with_load, without_load, with_pin, is_owned_in, adopted}
@@ -208,6 +209,22 @@ child_loading = load_of child_cloned 3 1 10 8
 abbrev pub child_loaded : Core
 child_loaded = end_of child_loading 2 3 10 []
 
+-- the caller reads the parent's key: its child is known, and the caller gets a handle of it
+abbrev pub key_loading : Core
+key_loading = with_load child_loaded 24 of_key owners.Caller
+
+abbrev pub child_known : Core
+child_known = with_handle key_loading (node 3) modes.LooseUnpinned (owners.Load (load_number 3))
+
+abbrev pub handed : Core
+handed = record (without_load child_known (load_number 3)) { rows = moved (is_in (13 ∷ [])) owners.Caller child_known.rows }
+
+abbrev pub not_handed : ℕ → Bool
+not_handed q = is_owned_in child_known (owners.Load (load_number 3)) q && not (is_in (13 ∷ []) q)
+
+abbrev pub read_back : Core
+read_back = fallen handed not_handed []
+
 -- ---- the table and the worker
 
 abbrev pub claimed : Shelf → ArcRef → Shelf
@@ -277,6 +294,15 @@ parent_read = gone_on parent_fetched (record (root_frame 24 0 parent_blob) { got
 
 abbrev pub child_fetched : Reading
 child_fetched = gone_on (fresh (load_number 2) 1) (root_frame 8 1 leaf_blob ∷ [])
+
+abbrev pub key_begun : Reading
+key_begun = fresh (load_number 3) 0
+
+abbrev pub key_fetched : Reading
+key_fetched = gone_on key_begun (root_frame 24 0 parent_blob ∷ [])
+
+abbrev pub key_read : Reading
+key_read = gone_on key_fetched (record (root_frame 24 0 parent_blob) { got = to_leaf 3 13 ∷ [] } ∷ [])
 
 -- ---- the machine
 
@@ -373,5 +399,17 @@ child_loads =
     ∷ read_step 2 (Some (ends.Pinned (handle 12))) 2 (machine child_loaded last_values done_work)
     ∷ []
 
-abbrev pub moments : List Happening
-moments = births ++ page_out ++ parent_loads ++ child_loads
+-- the caller's load of a key; and how many pin the child
+abbrev pub key_loads : List Happening
+key_loads =
+    moment (events.LoadKey 24 0) (answers.Started (Ok (beginnings.Load (load_number 3) 24))) (machine key_loading last_values (read_work 3 key_begun))
+    ∷ read_step 3 None 1 (machine key_loading last_values (read_work 3 key_fetched))
+    ∷ read_step 3 None 2 (machine child_known last_values (read_work 3 key_read))
+    ∷ read_step 3 (Some (ends.Read (parent (to_leaf 3 13)))) 3 (machine read_back last_values done_work)
+    ∷ []
+
+abbrev pub counts : ℕ → List Happening
+counts n = moment (events.Call (calls.Count (handle 10))) (answers.CallReply (replies.Count (Ok n))) (machine read_back last_values done_work) ∷ []
+
+abbrev pub moments : ℕ → List Happening
+moments n = births ++ page_out ++ parent_loads ++ child_loads ++ key_loads ++ counts n
