@@ -1,10 +1,12 @@
 -- What follows for keys: each that is published is its tree's, each that is answered is its task's, and what a worker met that answers one is left paged out.
-use Rattle.std.proofs.Common.{◌≡◌, ℕ, ◌==◌, true, List, [], ◌∷◌, Some, None, Ok, Err, if◌then◌else◌, sym, ap, subst, ◌∙◌, arith}
+use Rattle.std.proofs.Common.{◌≡◌, ℕ, ◌==◌, true, List, [], ◌∷◌, Option, Some, None, Ok, Err, if◌then◌else◌, refl, sym, ap, subst, ◌∙◌, arith}
+use Rattle.std.specs.Prelude.{is_some}
 use Rattle.std.proofs.lemmas.Bool.Decides.{nat_tests}
+use Rattle.pagable_model.specs.declared.data_key.OptionalDataKey.TheVariants as optional
 use Rattle.pagable_model.specs.Meaning.{number, integer, text, pattern, none, pair, variant, reference, followed}
 use Rattle.pagable_model.specs.Canonical.{EachType}
 use Rattle.pagable_model.specs.Merkle.{blob_of, KeyOf, KeyOfItem}
-use Rattle.pagable_world.specs.Plain.{Identity, Meaning, Tree, WorkerNumber, type_of, updated}
+use Rattle.pagable_world.specs.Plain.{OptionalDataKey, Identity, Meaning, Tree, WorkerNumber, type_of, updated, if_there}
 use Rattle.pagable_world.specs.declared.events.Event.TheVariants as events
 use Rattle.pagable_world.specs.declared.events.Event.{Event}
 use Rattle.pagable_world.specs.declared.events.EventReply.TheVariants as answers
@@ -13,16 +15,17 @@ use Rattle.pagable_world.specs.declared.events.Took.TheVariants as took
 use Rattle.pagable_world.specs.declared.events.Took.{Took}
 use Rattle.pagable_world.specs.declared.events.WorkerAnswer.TheVariants as finals
 use Rattle.pagable_world.specs.declared.events.WorkerReply.{WorkerReply}
-use Rattle.pagable_world.specs.Kinds.{identity_of}
-use Rattle.pagable_world.specs.World.{Shelf, Slot, Written, Fault, was_refused, was_failed, Todo, to_item, to_publish, to_release, to_fail, Task, of_item, of_entry, Walking, Values, Seen}
+use Rattle.pagable_world.specs.Kinds.{identity_of, has_key}
+use Rattle.pagable_world.specs.World.{Cell, key_at, Shelf, Slot, Written, Fault, was_refused, was_failed, Todo, to_item, to_publish, to_release, to_fail, Task, of_item, of_entry, Walking, Values, Seen}
 use Rattle.pagable_world.specs.Workers.{Site, Does, IsPublished, answer_after}
 use Rattle.pagable_world.specs.Events.{WorkerSteps, Happens}
-use Rattle.pagable_world.specs.Pager.{MachineState, world_of, kids_of}
-use Rattle.pagable_world.specs.Headline.{Meets, meets-of-item, meets-entry, meets-below, AreKeysOf, IsLeftPagedOut, IsKeyOfTask}
-use Rattle.pagable_laws.specs.PageOutLaws.{Ground, ground_of, IsOfEntry, Waits, Walks, WorkFits, KeysAreRight, FitsGiveKeys, IsDone, SetsReadKeys}
+use Rattle.pagable_world.specs.Pager.{PagerState, MachineState, world_of, kids_of, HandlesAreWhole, IsMachineWhole, KeyFits, NodeStands, here, away, Represents, StandsFor}
+use Rattle.pagable_world.specs.Headline.{Meets, meets-of-item, meets-entry, meets-below, AreKeysOf, IsLeftPagedOut, HasKeyOf, LeavesAll, IsKeyOfTask}
+use Rattle.pagable_laws.specs.PageOutLaws.{Ground, ground_of, IsOfEntry, Waits, Walks, WorkFits, IsDone, SetsReadKeys}
+use Rattle.pagable_laws.specs.KeyRuns.{KeyIsSet, KeysHeld, KeysAreRight, FitsGiveKeys}
 use Rattle.pagable_laws.proofs.Merkle.{one_key, one_item_key, tree_readable}
 use Rattle.pagable_laws.proofs.Trees.{same_some}
-use Rattle.pagable_laws.proofs.Following.{IdentityStands, known-of, keys-of, tree-form}
+use Rattle.pagable_laws.proofs.Following.{IdentityStands, known-of, keys-of, tree-form, held-of}
 use Rattle.pagable_laws.proofs.Shelves.{KeepsKeys, keys-on, keys-same}
 use Rattle.pagable_laws.proofs.Stepping.{all-known, stands-for}
 
@@ -121,7 +124,26 @@ done-on : {N : Type 0} (v : Values N) {shelf shelf' : Shelf} → KeepsKeys shelf
 done-on v keeps (of_item written) key (keys, known, is) = (keys, keys-on keeps written.references keys known, is)
 done-on v keeps (of_entry h i) key (height, p) = (height, keeps i key height p)
 
-module _ {N B W E : Type 0} (m : Seen N B W) (s s' : MachineState N E) (trees trees' : ℕ → Tree) (before : WorkFits m.values s trees) (after : WorkFits m.values s' trees') where
+-- a live cell's key reads as its tree
+node-keyed : {N E : Type 0} {v : Values N} {s : PagerState N E} {n : ℕ} {t : Tree} → NodeStands v s n t → KeyFits v s n t
+node-keyed (here n x own t held typed means stands fits) = fits
+node-keyed (away n key t none_there keyed fits) = fits
+
+has-key-of : {N E : Type 0} (v : Values N) (s : PagerState N E) (trees : ℕ → Tree) (n : ℕ) → HandlesAreWhole s.core → Represents v s trees → KeyIsSet s.core n → is_some (s.core.cells n) ≡ true → HasKeyOf v s trees n
+has-key-of v s trees n whole stands set live = by (s.core.cells n) refl live
+  where
+    of-key : (cell : Cell) (own : OptionalDataKey) → s.core.cells n ≡ Some cell → cell.key ≡ own → has_key own ≡ true → HasKeyOf v s trees n
+    of-key cell optional.None there e is = absurd (cc)
+    of-key cell (optional.Some key) there e is =
+        let known : key_at s.core n ≡ optional.Some key = ap (λ (c : Option Cell). if_there (λ (x : Cell). x.key) optional.None c) there ∙ e in
+        record { key = key; set = known; reads = node-keyed (stands.stands n (held-of whole n (ap is_some there))) key known }
+
+    by : (c : Option Cell) → s.core.cells n ≡ c → is_some c ≡ true → HasKeyOf v s trees n
+    by None there is = absurd (cc)
+    by (Some cell) there is = of-key cell cell.key there refl (set.keyed cell there)
+
+module _ {N B W E : Type 0} (m : Seen N B W) (s s' : MachineState N E) (trees trees' : ℕ → Tree) (before : WorkFits m.values s trees) (after : WorkFits m.values s' trees') (whole : IsMachineWhole m.values s') (stands : StandsFor m.values s' trees')
+    (held : KeysHeld (world_of s')) where
   module _ (n : WorkerNumber) (reply : WorkerReply W) (w : WorkerSteps m (world_of s) n reply (world_of s')) where
     abbrev site : Site
     site = record { core = s.pager.core; shelf = s.work.shelves w.walking.table; todo = w.walking.todo }
@@ -138,14 +160,21 @@ module _ {N B W E : Type 0} (m : Seen N B W) (s s' : MachineState N E) (trees tr
         let same : record w.walking { todo = w.after.todo; steps = reply.steps; answer = reply.answer } ≡ walking = same_some _ _ (sym (at-self n.0 (Some (record w.walking { todo = w.after.todo; steps = reply.steps; answer = reply.answer })) s.work.walkings) ∙ sym (w.work.same_walkings n.0) ∙ there) in
         subst P same p
 
+  left-all : (t : ℕ) (task : Task) (key : ℕ) → IsDone m.values (s'.work.shelves t) task key → LeavesAll m.values s'.pager (s'.work.shelves t) trees' task
+  left-all t task key done =
+      record {
+        blobs = λ i meets. let p = met m.values s' trees' after t task key done i meets in left-paged-out m.values s' trees' after t i p.0 p.1.0 p.1.1;
+        cells = λ i meets kind live. let p = met m.values s' trees' after t task key done i meets in has-key-of m.values s'.pager trees' i.node.0 whole.pager.whole.handles stands.pager (held.slots t i p.0 p.1.0 p.1.1 kind) live;
+      }
+
   keys-right : (event : Event N B W) (reply : EventReply N B W) → Happens m (world_of s) event reply (world_of s') → KeysAreRight m.values s trees event reply s' trees'
   keys-right (events.WorkerStep n) (answers.WorkerMoved (Ok reply)) is =
       let w = is.moves in
       record {
         publishes = λ i key height e. of-publish m n.0 (ground_of s trees) w.walking.task (site n reply w) w.after w.walking.todo i key height (subst (λ (k : Took W). Does m n.0 (site n reply w) w.walking.todo k w.after) e w.does.does) (before.walks n.0 w.walking w.at);
         key = λ walking key there e. is-after n reply w (λ x. IsKeyOfTask m.values trees' x.task key) (is-key m.values s' trees' after w.walking.table w.walking.task key (done n reply w key e)) walking there;
-        leaves = λ walking key there e. is-after n reply w (λ x. (i : Identity) → Meets (s'.work.shelves x.table) x.task i → IsLeftPagedOut m.values s'.pager (s'.work.shelves x.table) trees' i)
-            (λ i meets. let p = met m.values s' trees' after w.walking.table w.walking.task key (done n reply w key e) i meets in left-paged-out m.values s' trees' after w.walking.table i p.0 p.1.0 p.1.1) walking there;
+        leaves = λ walking key there e. is-after n reply w (λ x. LeavesAll m.values s'.pager (s'.work.shelves x.table) trees' x.task)
+            (left-all w.walking.table w.walking.task key (done n reply w key e)) walking there;
       }
   keys-right (events.WorkerStep n) (answers.WorkerMoved (Err e)) is = record { publishes = tt; key = tt; leaves = tt }
   keys-right (events.WorkerStep n) reply is = absurd is
@@ -158,7 +187,7 @@ module _ {N B W E : Type 0} (m : Seen N B W) (s s' : MachineState N E) (trees tr
   keys-right (events.WorkerListed t i) reply is = record { publishes = tt; key = tt; leaves = tt }
 
 pub fits_give_keys : {N B W : Type 0} (E : Type 0) (m : Seen N B W) → FitsGiveKeys E m
-fits_give_keys E m s s' event reply trees trees' does before after = keys-right m s s' trees trees' before after event reply does.step.happens
+fits_give_keys E m s s' event reply trees trees' does stands before after held = keys-right m s s' trees trees' before after does.whole stands held event reply does.step.happens
 
 -- ---- what a worker is about to set
 

@@ -1,7 +1,7 @@
 -- What trees feel of each call that doesn't close the storage, by the call and its reply.
 use Rattle.std.proofs.Common.{◌≡◌, ℕ, ◌≤◌, Bool, true, false, List, [], refl, ap, sym, ◌∙◌, inl, inr, arith}
 use Rattle.std.specs.Prelude.{Option, Some, None, ◌⊎◌, Result, Ok, Err}
-use Rattle.pagable_world.specs.Plain.{Error, Kind, HandleNumber, LoadNumber, NodeNumber}
+use Rattle.pagable_world.specs.Plain.{Error, Kind, ArcRef, HandleNumber, LoadNumber, NodeNumber}
 use Rattle.pagable_world.specs.declared.handles.Owner.{Owner}
 use Rattle.pagable_world.specs.declared.handles.HandleRow.{HandleRow}
 use Rattle.pagable_world.specs.declared.rows.Mode.{Mode}
@@ -18,7 +18,7 @@ use Rattle.pagable_world.specs.World.{Core, Seen, Values}
 use Rattle.pagable_world.specs.Refusals.{Owns}
 use Rattle.pagable_world.specs.Cascade.{only_handle}
 use Rattle.pagable_world.specs.Calls.{with_mode, next_node, moved, is_named_by, BirthCall, UnpinCall, ReleaseCall, SetKeyCall, ScheduleCall, TakeCall, RecallCall, OfferCall, IsRefused, ClearCall}
-use Rattle.pagable_world.specs.LoadCalls.{AdoptCall, LazyCall, EndCall, HandOverCall, DropCall, with_pin, without_load, first_key}
+use Rattle.pagable_world.specs.LoadCalls.{AdoptCall, LazyCall, EndCall, Installs, HandOverCall, DropCall, with_pin, without_load, first_key}
 use Rattle.pagable_world.specs.Events.{Does}
 use Rattle.pagable_world.specs.Pager.{CallBrings, IsNewNode}
 use Rattle.pagable_world.specs.Runs.{KeepsOpen}
@@ -90,6 +90,7 @@ cleared {w} r c = quiet-then none-known (alike c.leaves)
           loads = λ l load is. is;
           cache = λ kind key n is. absurd (cc);
           rows = rows-self w.last.handle w.rows w.rows refl;
+          shut = λ is. is;
         }
 
 -- a change, with what it does and how it is felt
@@ -181,24 +182,32 @@ module _ {N B W : Type 0} (m : Seen N B W) (w : Core) (me : Owner) (free : NotLo
           let g : row ≡ c.was = some-is (sym owns.live ∙ c.live) in
           free l (sym owns.own ∙ (ap (λ (x : HandleRow). x.owner) g ∙ (sym (ap (λ (x : HandleRow). x.owner) f) ∙ is)))
 
-  pub ends-load : (l : LoadNumber) (x : N) (r : Result HandleNumber (Error × Option N)) → EndCall w me l x (m.values.node_type x) (m.values.references x) r w' → CG (calls.LoadEnd l x) (replies.LoadEnded r)
-  ends-load l x (Ok k) c =
-      let node = c.installs.0 in
-      let h = c.installs.1 in
-      let may = c.installs.2 in
-      let i = c.installs.3 in
-      let references = m.values.references x in
-      record {
-        change = nothing_felt;
-        goes = quiet-goes nothing_felt (elim i.falls [
-          | inl (away, f) ↦ quiet-then (quiet-then (quiet-then (closed-load w l) (some-moved (without_load w l) (is_named_by references) (owner_value node.0) w.list (λ l is. absurd (cc)))) (pin-of (record (without_load w l) { rows = moved (is_named_by references) (owner_value node.0) w.rows }) h node (pinned-free h (is_named_by references) node.0 i.row i.owned))) (fell-anyhow f)
-          | inr (there, f) ↦ quiet-then (quiet-then (closed-load w l) (quiet-then (own-mode (without_load w l) me h is_loose i.row modes.LoosePinned refl free (record { live = i.owned.live; own = i.owned.own; as_asked = i.owned.as_asked })) (a-handle _ node modes.Pinned me))) (fell-anyhow f)
-        ]);
-        feels = feels-end l x k refl refl (good w (owners.Load l) [] references may.good);
-      }
+  pub ends-quiet : (l : LoadNumber) (x : N) (r : Result HandleNumber (Error × Option N)) → EndCall w me l x (m.values.node_type x) (m.values.references x) r w' → Quiet w w'
+  ends-quiet l x (Ok k) c = elim i.falls [
+    | inl (away, f) ↦ quiet-then (quiet-then (quiet-then (closed-load w l) (some-moved (without_load w l) (is_named_by references) (owner_value node.0) w.list (λ l is. absurd (cc)))) (pin-of (record (without_load w l) { rows = moved (is_named_by references) (owner_value node.0) w.rows }) h node (pinned-free h (is_named_by references) node.0 i.row i.owned))) (fell-anyhow f)
+    | inr (there, f) ↦ quiet-then (quiet-then (closed-load w l) (quiet-then (own-mode (without_load w l) me h is_loose i.row modes.LoosePinned refl free (record { live = i.owned.live; own = i.owned.own; as_asked = i.owned.as_asked })) (a-handle _ node modes.Pinned me))) (fell-anyhow f)
+  ]
     where
+      node : NodeNumber
+      node = c.installs.0
+
+      h : HandleNumber
+      h = c.installs.1
+
+      references : List ArcRef
+      references = m.values.references x
+
+      i : Installs w me l node h k references w'
+      i = c.installs.3
+
       pin-of : (u : Core) (h : HandleNumber) (node : NodeNumber) → ((r : HandleRow) → find_row h.0 u.rows ≡ Some r → NotLoads r.owner) → Quiet u (with_pin u h node me)
       pin-of u h node safe = quiet-then (only-rows (rows-mode u.last.handle u.rows h modes.LoosePinned refl safe) (le-self _)) (a-handle (with_mode u h modes.LoosePinned) node modes.Pinned me)
+  ends-quiet l x (Err (e, Some y)) c = alike c.refused.1.stays
+  ends-quiet l x (Err (e, None)) c = closes l c.refused.closes
+
+  ends-load : (l : LoadNumber) (x : N) (r : Result HandleNumber (Error × Option N)) → EndCall w me l x (m.values.node_type x) (m.values.references x) r w' → CG (calls.LoadEnd l x) (replies.LoadEnded r)
+  ends-load l x (Ok k) c =
+      record { change = nothing_felt; goes = quiet-goes nothing_felt (ends-quiet l x (Ok k) c); feels = feels-end l x k refl refl (good w (owners.Load l) [] (m.values.references x) c.installs.2.good) }
   ends-load l x (Err (e, Some y)) c = quiet (λ n z b. inr (alike-away c.refused.1.stays n)) (alike c.refused.1.stays)
   ends-load l x (Err (e, None)) c = quiet (λ n z b. inr (fell-away c.refused.closes n)) (closes l c.refused.closes)
 

@@ -60,7 +60,7 @@ record Found (types : Types) (stored : ℕ → Option Blob) (trees : ℕ → Tre
 abbrev AnswersFor : (types : Types) (stored : ℕ → Option Blob) (trees : ℕ → Tree) (got : List ArcRef) → Answer → ℕ → Type 0
 AnswersFor types stored trees got answer key = (kind : ℕ) → OutLook any_cause (Found types stored trees got) (answer kind) (Ok (key_ref kind key))
 
-among-either : {X : Type 0} (xs ys : List X) (i : ℕ) (r : X) → slice_get (xs ++ ys) i ≡ Some r → Among xs r ⊎ Among ys r
+pub among-either : {X : Type 0} (xs ys : List X) (i : ℕ) (r : X) → slice_get (xs ++ ys) i ≡ Some r → Among xs r ⊎ Among ys r
 among-either [] ys i r is = inr (i, is)
 among-either (x ∷ xs) ys zero r is = inl (zero, is)
 among-either {X} (x ∷ xs) ys (suc i) r is = later (among-either xs ys i r is)

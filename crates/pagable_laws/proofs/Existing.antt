@@ -98,7 +98,7 @@ module _ (rows : List HandleRow) (keyed : ℕ → Bool) (entries : List HandleRo
       part h among false e = let c = shrinks s h in grind (arith, nat_tests)
 
   -- what is in the one set is in the other
-  inside : (s t : ℕ → Bool) (h : HandleRow) → IsWithin rows s t → Among rows h → s h.number.0 ≡ true → t h.number.0 ≡ true
+  pub inside : (s t : ℕ → Bool) (h : HandleRow) → IsWithin rows s t → Among rows h → s h.number.0 ≡ true → t h.number.0 ≡ true
   inside s t h within among is = let a = at-most-sum (only_in s t) rows h among in grind (arith, nat_tests)
 
   -- a value that goes with fewer handles goes with more

@@ -4,7 +4,7 @@ use Rattle.pagable_world.specs.Plain.{Blob}
 use Rattle.std.specs.Prelude.{[]}
 use Rattle.pagable_laws.specs.StepLaws.{CallsKeep, LoadsKeep, WalksKeep}
 use Rattle.pagable_laws.proofs.Called.{calls-go}
-use Rattle.pagable_laws.proofs.LoadSteps.{reading-goes}
+use Rattle.pagable_laws.proofs.ReadingSteps.{reading-feels}
 use Rattle.pagable_laws.proofs.WalkSteps.{walk-goes}
 
 pub calls_keep : {N B W : Type 0} (m : Seen N B W) → CallsKeep m
@@ -25,7 +25,7 @@ pub loads_keep : {N : Type 0} (v : Values N) → LoadsKeep v
 loads_keep {N} v =
     record {
       each = λ w w' me reading answer frames free does.
-          let g = reading-goes {N = N} {B = Unit {0}} {W = Unit {0}} (record { values = v; blob_of = λ b. no_blob; written_of = λ b. no_written }) w me free w' reading answer frames does.does in
+          let g = reading-feels {N = N} {B = Unit {0}} {W = Unit {0}} (record { values = v; blob_of = λ b. no_blob; written_of = λ b. no_written }) w me free w' reading answer frames does in
           record { stored = g.goes.stored; nodes = g.goes.nodes; handles = g.goes.handles; loads = g.goes.loads_last };
     }
 

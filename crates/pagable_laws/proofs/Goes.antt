@@ -27,6 +27,10 @@ pub record Was (rows : List HandleRow) (q : ℕ) (row : HandleRow) : Type 0 wher
 abbrev pub RowsGo : ℕ → List HandleRow → List HandleRow → Type 0
 RowsGo last rows rows' = (q : ℕ) (row : HandleRow) → find_row q rows' ≡ Some row → q ≤ last → Was rows q row
 
+-- the storage is closed, and nothing is stored in it
+abbrev pub IsShut : Core → Type 0
+IsShut w = (w.closed ≡ true) × ((q : ℕ) → w.stored q ≡ None)
+
 -- a step that sets no key, bears no node, begins no load and lets the cache know nothing
 pub record Quiet (w w' : Core) : Type 0 where
   pub nodes : w.last.node ≤ w'.last.node
@@ -37,6 +41,7 @@ pub record Quiet (w w' : Core) : Type 0 where
   pub loads : (l : ℕ) (load : OpenLoad) → w'.loads l ≡ Some load → w.loads l ≡ Some load
   pub cache : (kind key n : ℕ) → w'.cache kind key ≡ Some n → w.cache kind key ≡ Some n
   pub rows : RowsGo w.last.handle w.rows w'.rows
+  pub shut : IsShut w → IsShut w'
 
 -- a cell that was there, but for a key that it may get
 pub record Kept (c : Change) (w : Core) (n : ℕ) (cell : Cell) : Type 0 where
@@ -54,6 +59,7 @@ pub record Goes (c : Change) (w w' : Core) : Type 0 where
   pub loads : (l : ℕ) (load : OpenLoad) → w'.loads l ≡ Some load → (w.loads l ≡ Some load) ⊎ ((w.last.load < l) × BeginsWell w load)
   pub cache : (kind key n : ℕ) → w'.cache kind key ≡ Some n → (w.cache kind key ≡ Some n) ⊎ Knows c w kind key n
   pub rows : RowsGo w.last.handle w.rows w'.rows
+  pub shut : IsShut w → IsShut w'
 
 -- ---- rows
 
@@ -184,6 +190,7 @@ quiet-then {w} {m} {w'} a b =
       loads = λ l load is. a.loads l load (b.loads l load is);
       cache = λ kind key n is. a.cache kind key n (b.cache kind key n is);
       rows = rows-then w.last.handle m.last.handle w.rows m.rows w'.rows a.handles a.rows b.rows;
+      shut = λ is. b.shut (a.shut is);
     }
 
 le-of : (a b : ℕ) → b ≡ a → a ≤ b
@@ -200,12 +207,13 @@ alike {w} {w'} a =
       loads = λ l load is. sym (a.loads l) ∙ is;
       cache = a.cache.only;
       rows = rows-self w.last.handle w.rows w'.rows a.rows;
+      shut = λ is. (a.closed ∙ is.0, λ q. a.stored q ∙ is.1 q);
     }
 
 -- rows and list alone change
 pub only-rows : {w : Core} {rows : List HandleRow} {list : List HandleNumber} {last : ℕ} → RowsGo w.last.handle w.rows rows → w.last.handle ≤ last → Quiet w (record w { rows = rows; list = list; last = record w.last { handle = last } })
 only-rows {w} go le =
-    record { nodes = le-self w.last.node; handles = le; loads_last = le-self w.last.load; cells = λ n cell is. is; stored = λ q blob is. is; loads = λ l load is. is; cache = λ kind key n is. is; rows = go }
+    record { nodes = le-self w.last.node; handles = le; loads_last = le-self w.last.load; cells = λ n cell is. is; stored = λ q blob is. is; loads = λ l load is. is; cache = λ kind key n is. is; rows = go; shut = λ is. is }
   where
     le-self : (n : ℕ) → n ≤ n
     le-self n = omega arith
@@ -231,6 +239,7 @@ fell {before} {w} {w'} f = quiet-then {m = fallen w f.gone f.entries} falls (ali
           loads = λ l load is. is;
           cache = λ kind key n is. is;
           rows = rows-then w.last.handle w.last.handle w.rows (left_rows f.gone w.rows) _ (le-of _ _ refl) (rows-left w.last.handle w.rows f.gone) (rows-more w.last.handle (left_rows f.gone w.rows) f.entries (λ q few. none-in-new w.last.handle q f.entries f.new few));
+          shut = λ is. is;
         }
 
 pub fell-anyhow : {before w w' : Core} {given : ℕ → Bool} → FallsAnyhow before w given w' → Quiet w w'
@@ -255,6 +264,7 @@ quiet-goes c q =
       loads = λ l load is. inl (q.loads l load is);
       cache = λ kind key n is. inl (q.cache kind key n is);
       rows = q.rows;
+      shut = q.shut;
     }
 
 pub goes-quiet : {c : Change} {w m w' : Core} → Goes c w m → Quiet m w' → Goes c w w'
@@ -268,6 +278,7 @@ goes-quiet {c} {w} {m} {w'} a b =
       loads = λ l load is. a.loads l load (b.loads l load is);
       cache = λ kind key n is. a.cache kind key n (b.cache kind key n is);
       rows = rows-then w.last.handle m.last.handle w.rows m.rows w'.rows a.handles a.rows b.rows;
+      shut = λ is. b.shut (a.shut is);
     }
 
 -- at a number, or elsewhere
@@ -292,6 +303,7 @@ born c w t key references bears =
       loads = λ l load is. inl is;
       cache = λ kind q n is. inl is;
       rows = rows-moved w.last.handle w.rows _ _ (λ l is. absurd (cc));
+      shut = λ is. is;
     }
 
 keyed-cell : (w : Core) (m : ℕ) (key : ℕ) (cell : Cell) (found : Option Cell) → w.cells m ≡ found → if_there (λ (x : Cell). Some (record x { key = optional.Some key })) None found ≡ Some cell → Kept (sets_key m key) w m cell
@@ -312,6 +324,7 @@ keyed w node key =
       loads = λ l load is. inl is;
       cache = λ kind q n is. inl is;
       rows = rows-self w.last.handle w.rows w.rows refl;
+      shut = λ is. is;
     }
 
 pub begun : (c : Change) (w : Core) (key : ℕ) (root : Root) (me : Owner) → BeginsWell w (record { owner = me; key = key; root = root }) → Goes c w (with_load w key root me)
@@ -328,6 +341,7 @@ begun c w key root me well =
       ];
       cache = λ kind q n is. inl is;
       rows = rows-self w.last.handle w.rows w.rows refl;
+      shut = λ is. is;
     }
   where
     next-above : (l last : ℕ) → l ≡ last + 1 → last < l
@@ -354,6 +368,7 @@ quiet-begins {w} {m} {w'} a b =
         | inr known ↦ absurd known
       ];
       rows = rows-then w.last.handle m.last.handle w.rows m.rows w'.rows a.handles a.rows b.rows;
+      shut = λ is. b.shut (a.shut is);
     }
   where
     kept-key : {n : ℕ} {cell : Cell} → (k : Kept nothing_felt m n cell) → (cell.key ≡ k.was.key) ⊎ ((key : ℕ) × Sets nothing_felt n key × (cell.key ≡ optional.Some key))
@@ -387,6 +402,7 @@ goes-known {c} {w} {m} a kind key n knows =
         | inr old ↦ a.cache k q there old
       ];
       rows = a.rows;
+      shut = a.shut;
     }
   where
     moved-to : (k q there : ℕ) → k ≡ kind.0 → q ≡ key → there ≡ n.0 → Knows c w k q there

@@ -52,7 +52,7 @@ different : (a b : ℕ) → (a == b) ≡ false → a ≡ b → ⊥
 different a b e same = let f : (a == b) ≡ true = grind (arith, nat_tests) in absurd (cc)
 
 -- one of two: at the number, or elsewhere
-at-number : {X : Type 0} (P : X → Type 0) (k : ℕ) (x : X) (f : ℕ → X) (q : ℕ) → (q ≡ k → P x) → ((q ≡ k → ⊥) → P (f q)) → P (updated k x f q)
+pub at-number : {X : Type 0} (P : X → Type 0) (k : ℕ) (x : X) (f : ℕ → X) (q : ℕ) → (q ≡ k → P x) → ((q ≡ k → ⊥) → P (f q)) → P (updated k x f q)
 at-number P k x f q here there = of (q == k) refl
   where
     of : (b : Bool) → (q == k) ≡ b → P (if b then x else f q)

@@ -7,13 +7,16 @@ pub mod SmallWorlds
 pub mod FallLaws
 pub mod RunLaws
 pub mod OrderLaws
+pub mod BoundLaws
 pub mod SmallMoments
 pub mod SmallWork
 pub mod MetLaws
 pub mod StepLaws
 pub mod TreeSteps
 pub mod TreeRuns
+pub mod ReadRuns
 pub mod ReadLaws
 pub mod PageOutLaws
+pub mod KeyRuns
 pub mod TwoLevels
 pub mod LevelLaws

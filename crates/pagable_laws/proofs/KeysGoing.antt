@@ -1,0 +1,115 @@
+-- Workers go on holding what they hold.
+use Rattle.std.proofs.Common.{◌≡◌, ℕ, true, inl, inr, Some, Ok, Err, refl, sym, subst, ◌∙◌}
+use Rattle.pagable_world.specs.Plain.{Identity, WorkerNumber, ReadsTree, is_loose_kind, updated}
+use Rattle.pagable_world.specs.declared.events.Event.TheVariants as events
+use Rattle.pagable_world.specs.declared.events.Event.{Event}
+use Rattle.pagable_world.specs.declared.events.EventReply.TheVariants as answers
+use Rattle.pagable_world.specs.declared.events.EventReply.{EventReply}
+use Rattle.pagable_world.specs.declared.events.WorkerReply.{WorkerReply}
+use Rattle.pagable_world.specs.World.{Core, Shelf, Task, of_item, of_entry, Walking, World, Seen}
+use Rattle.pagable_world.specs.Workers.{Site, IsPublished, first_todo}
+use Rattle.pagable_world.specs.Events.{WorkStays, WorkIs, no_shelf, new_walking, WorkerSteps, Happens}
+use Rattle.pagable_world.specs.Pager.{world_of, HandlesAreWhole}
+use Rattle.pagable_laws.specs.TreeSteps.{Change, nothing_felt}
+use Rattle.pagable_laws.specs.KeyRuns.{KeyIsSet, AllHold, KeysHeld, HeldAtFirst, HeldOn, HeldGivesReady}
+use Rattle.pagable_laws.proofs.Trees.{same_some}
+use Rattle.pagable_laws.proofs.Goes.{Goes, quiet-goes}
+use Rattle.pagable_laws.proofs.EventSteps.{ends-quiet, event-goes}
+use Rattle.pagable_laws.proofs.Shelves.{keys-same}
+use Rattle.pagable_laws.proofs.Publishing.{at-number}
+use Rattle.pagable_laws.proofs.Answering.{sets_key}
+use Rattle.pagable_laws.proofs.Naming.{key-on, all-on}
+use Rattle.pagable_laws.proofs.Held.{walk-leaves, item-started}
+
+-- ---- what workers hold
+
+pub held_at_first : (N E : Type 0) → HeldAtFirst N E
+held_at_first N E s idle = record { walks = λ n walking is. let f = idle.walkings n in absurd (cc); slots = λ t i key height p kind. let f = p.claimed in let g = idle.shelves t i in absurd (cc) }
+
+module _ {N B W : Type 0} (m : Seen N B W) (u u' : World) {c : Change} (goes : Goes c u.core u'.core) (held : KeysHeld u) where
+  abbrev SlotsHeld : Shelf → Type 0
+  SlotsHeld shelf = (i : Identity) (key height : ℕ) → IsPublished shelf i key height → is_loose_kind i.kind.0 ≡ true → KeyIsSet u'.core i.node.0
+
+  -- a table that stays
+  slots-stay : (t : ℕ) (shelf : Shelf) → ((i : Identity) → shelf.slots i ≡ (u.work.shelves t).slots i) → SlotsHeld shelf
+  slots-stay t shelf same i key height p kind = key-on goes (held.slots t i key height (keys-same (λ j. sym (same j)) i key height p) kind)
+
+  work-stays : WorkStays u.work u'.work → KeysHeld u'
+  work-stays stays =
+      record {
+        walks = λ n walking is. all-on goes walking.todo (held.walks n walking (sym (stays.walkings n) ∙ is));
+        slots = λ t. slots-stay t (u'.work.shelves t) (stays.shelves t).slots;
+      }
+
+  -- a new table
+  new-table : (t : ℕ) (last : ℕ) → WorkIs (updated t no_shelf u.work.shelves) last u.work.walkings u'.work → KeysHeld u'
+  new-table t last is =
+      record {
+        walks = λ n walking there. all-on goes walking.todo (held.walks n walking (sym (is.same_walkings n) ∙ there));
+        slots = λ q. at-number (λ shelf. ((j : Identity) → (u'.work.shelves q).slots j ≡ shelf.slots j) → SlotsHeld (u'.work.shelves q)) t no_shelf u.work.shelves q
+            (λ same none i key height p kind. let f = sym (none i) ∙ p.claimed in absurd (cc)) (λ other same. slots-stay q (u'.work.shelves q) same) (is.same_shelves q).slots;
+      }
+
+  first-hold : (w : Core) (task : Task) → AllHold w (first_todo task)
+  unfolding AllHold
+  first-hold w (of_item written) = item-started w written
+  first-hold w (of_entry h i) = (tt, tt)
+
+  -- a new worker
+  new-worker : (v : ℕ) (w : Walking) (last : ℕ) → w.todo ≡ first_todo w.task → WorkIs u.work.shelves last (updated v (Some w) u.work.walkings) u'.work → KeysHeld u'
+  new-worker v w last first is =
+      record {
+        walks = λ n walking there. at-number (λ found. found ≡ Some walking → AllHold u'.core walking.todo) v (Some w) u.work.walkings n
+            (λ same e. subst (λ (z : Walking). AllHold u'.core z.todo) (same_some _ _ e) (subst (λ t. AllHold u'.core t) (sym first) (first-hold u'.core w.task)))
+            (λ other e. all-on goes walking.todo (held.walks n walking e)) (sym (is.same_walkings n) ∙ there);
+        slots = λ t. slots-stay t (u'.work.shelves t) (is.same_shelves t).slots;
+      }
+
+  -- a worker's step
+  worker-steps : HandlesAreWhole u.core → (v : WorkerNumber) (reply : WorkerReply W) → WorkerSteps m u v reply u' → KeysHeld u'
+  worker-steps whole v reply s =
+      let w : Walking = s.walking in
+      let site : Site = record { core = u.core; shelf = u.work.shelves w.table; todo = w.todo } in
+      let l = walk-leaves m v.0 site s.after whole reply.took s.does.does (held.walks v.0 w s.at) in
+      let ends = quiet-goes nothing_felt (ends-quiet reply.answer v.0 s.ends) in
+      let now : Walking = record w { todo = s.after.todo; steps = reply.steps; answer = reply.answer } in
+      record {
+        walks = λ n walking there. at-number (λ found. found ≡ Some walking → AllHold u'.core walking.todo) v.0 (Some now) u.work.walkings n
+            (λ same e. subst (λ (z : Walking). AllHold u'.core z.todo) (same_some _ _ e) (all-on ends s.after.todo l.all))
+            (λ other e. all-on goes walking.todo (held.walks n walking e)) (sym (s.work.same_walkings n) ∙ there);
+        slots = λ t. at-number (λ shelf. ((j : Identity) → (u'.work.shelves t).slots j ≡ shelf.slots j) → SlotsHeld (u'.work.shelves t)) w.table s.after.shelf u.work.shelves t
+            (λ at same i key height p kind. elim (l.reveals i key height (keys-same (λ j. sym (same j)) i key height p)) [
+              | inl was ↦ key-on goes (held.slots w.table i key height was kind)
+              | inr set ↦ key-on ends (set kind)
+            ])
+            (λ other same. slots-stay t (u'.work.shelves t) same) (s.work.same_shelves t).slots;
+      }
+
+  event-holds : HandlesAreWhole u.core → (event : Event N B W) (reply : EventReply N B W) → Happens m u event reply u' → KeysHeld u'
+  event-holds whole (events.Call call) (answers.CallReply r) h = work-stays h.work
+  event-holds whole (events.LoadStart k) (answers.Started r) h = work-stays h.work
+  event-holds whole (events.LoadKey key t) (answers.Started r) h = work-stays h.work
+  event-holds whole (events.LoadStep l) (answers.LoadMoved (Ok reply)) h = let x = h.moves in work-stays x.work
+  event-holds whole (events.LoadStep l) (answers.LoadMoved (Err e)) h = work-stays h.refused.1.work
+  event-holds whole events.TableNew (answers.TableMade (Ok t)) h = let x = h.made in new-table t.0 t.0 x.3
+  event-holds whole events.TableNew (answers.TableMade (Err e)) h = work-stays h.refused.1.work
+  event-holds whole (events.WorkerItem t item) (answers.WorkerMade (Ok v)) h = let x = h.starts in new-worker v.0 (new_walking t _) u.work.last_table refl x.work
+  event-holds whole (events.WorkerItem t item) (answers.WorkerMade (Err e)) h = work-stays h.refused.1.work
+  event-holds whole (events.WorkerListed t i) (answers.WorkerMade (Ok v)) h = let x = h.starts.5 in new-worker v.0 (new_walking t _) u.work.last_table refl x.work
+  event-holds whole (events.WorkerListed t i) (answers.WorkerMade (Err e)) h = work-stays h.refused.1.work
+  event-holds whole (events.WorkerStep v) (answers.WorkerMoved (Ok reply)) h = worker-steps whole v reply h.moves
+  event-holds whole (events.WorkerStep v) (answers.WorkerMoved (Err e)) h = work-stays h.refused.2.work
+  event-holds whole event reply h = absurd h
+
+pub held_on : {N B W : Type 0} (E : Type 0) (m : Seen N B W) → HeldOn E m
+held_on E m s s' event reply whole stays does held =
+    event-holds m (world_of s) (world_of s') (event-goes m (world_of s) (world_of s') event reply stays does.step.happens).goes held whole.pager.whole.handles event reply does.step.happens
+
+-- ---- what is set
+
+pub held_gives_ready : {N B W : Type 0} (E : Type 0) (m : Seen N B W) → HeldGivesReady E m
+unfolding AllHold
+held_gives_ready E m s trees reads fit held k key row sets =
+    let all = subst (λ t. AllHold s.pager.core t) sets.sets (held.walks k.0 sets.walking sets.there) in
+    let at = (all.0.is row sets.live).0 in
+    subst (λ n. ReadsTree s.pager.core.stored m.values.types key (trees n.0)) (sym at) (sets_key E m s trees reads fit k.0 sets.walking sets.r sets.through key sets.height sets.below sets.there sets.sets)

@@ -1,0 +1,80 @@
+-- What workers hold of the references that they have claimed, and which cells have a key: an invariant of runs in which the storage isn't closed.
+use Rattle.std.specs.Prelude.{ℕ, ◌≡◌, ◌≤◌, true, List, [], ◌∷◌, Some, Ok}
+use Rattle.pagable_model.specs.Merkle.{KeyOf}
+use Rattle.pagable_world.specs.Plain.{ArcRef, HandleNumber, Identity, Tree, is_loose_kind}
+use Rattle.pagable_world.specs.declared.handles.HandleRow.{HandleRow}
+use Rattle.pagable_world.specs.declared.events.Event.TheVariants as events
+use Rattle.pagable_world.specs.declared.events.EventReply.TheVariants as answers
+use Rattle.pagable_world.specs.declared.events.Took.TheVariants as took
+use Rattle.pagable_world.specs.declared.events.Event.{Event}
+use Rattle.pagable_world.specs.declared.events.EventReply.{EventReply}
+use Rattle.pagable_world.specs.Kinds.{is_loose, has_key}
+use Rattle.pagable_world.specs.World.{Core, Cell, Todo, to_start, to_pin, to_load, to_write, to_finish, to_item, to_set, to_publish, to_release, to_fail, Walking, World, row_at, Values, Seen}
+use Rattle.pagable_world.specs.Workers.{IsPublished}
+use Rattle.pagable_world.specs.Pager.{MachineState, world_of, IsMachineWhole, IsIdle, StandsFor}
+use Rattle.pagable_world.specs.Runs.{Fact, ReadsItsTypes, KeepsOpen, Does}
+use Rattle.pagable_world.specs.Headline.{AnswerIsKey, AnswerLeavesAll}
+use Rattle.pagable_laws.specs.TreeSteps.{KeysAreReady}
+use Rattle.pagable_laws.specs.PageOutLaws.{WorkFits}
+
+-- The handle stands for the reference, both of which were given: while it is live it is of the reference's node, and loose where the reference's kind is.
+pub record StandsAt (w : Core) (r : ArcRef) (h : HandleNumber) : Type 0 where
+  pub node_given : r.node.0 ≤ w.last.node
+  pub given : h.0 ≤ w.last.handle
+  pub is : (row : HandleRow) → row_at w h ≡ Some row → (row.node ≡ r.node) × (is_loose_kind r.kind.0 ≡ true → is_loose row.mode ≡ true)
+
+-- the node was given, and has a key while it lives
+pub record KeyIsSet (w : Core) (n : ℕ) : Type 0 where
+  pub given : n ≤ w.last.node
+  pub keyed : (cell : Cell) → w.cells n ≡ Some cell → has_key cell.key ≡ true
+
+-- what a worker holds of a reference that it has claimed, and what it has come to when its key is published
+abbrev pub Holds : Core → Todo → Type 0
+Holds w (to_start r place) = Unit {0}
+Holds w (to_pin r place) = StandsAt w r r.handle
+Holds w (to_load r place through reading) = StandsAt w r through
+Holds w (to_write r place through) = StandsAt w r through
+Holds w (to_finish o) = StandsAt w o.reference o.through
+Holds w (to_item written keys) = Unit {0}
+Holds w (to_set r through key height) = StandsAt w r through
+Holds w (to_publish r key height) = is_loose_kind r.kind.0 ≡ true → KeyIsSet w r.node.0
+Holds w (to_release r key height) = Unit {0}
+Holds w (to_fail fault back) = Unit {0}
+
+unfoldable pub AllHold : Core → List Todo → Type 0
+AllHold w [] = Unit {0}
+AllHold w (x ∷ below) = Holds w x × AllHold w below
+
+-- so do all workers, and each cell whose key was published by a loose reference has a key
+pub record KeysHeld (u : World) : Type 0 where
+  pub walks : (n : ℕ) (walking : Walking) → u.work.walkings n ≡ Some walking → AllHold u.core walking.todo
+  pub slots : (t : ℕ) (i : Identity) (key height : ℕ) → IsPublished (u.work.shelves t) i key height → is_loose_kind i.kind.0 ≡ true → KeyIsSet u.core i.node.0
+
+-- it is so where nobody works yet
+abbrev pub HeldAtFirst : (N E : Type 0) → Type 0
+HeldAtFirst N E = (s : MachineState N E) → IsIdle s → KeysHeld (world_of s)
+
+-- and after each event of a whole machine that doesn't close the storage
+abbrev pub HeldOn : {N B W : Type 0} → (E : Type 0) → Seen N B W → Type 0
+HeldOn {N} {B} {W} E m = (s s' : MachineState N E) (event : Event N B W) (reply : EventReply N B W) → IsMachineWhole m.values s → KeepsOpen event → Does m s event reply s' → KeysHeld (world_of s) → KeysHeld (world_of s')
+
+-- The key that a worker is about to set reads as the tree of its handle's node.
+abbrev pub HeldGivesReady : {N B W : Type 0} → (E : Type 0) → Seen N B W → Type 0
+HeldGivesReady {N} E m = (s : MachineState N E) (trees : ℕ → Tree) → ReadsItsTypes m.values.types → WorkFits m.values s trees → KeysHeld (world_of s) → KeysAreReady m.values s trees
+
+-- a key that is published is the tree's
+abbrev pub PublishesKey : {N E B W : Type 0} → Values N → Fact N E B W
+PublishesKey v s trees (events.WorkerStep n) (answers.WorkerMoved (Ok reply)) s' trees' = (i : Identity) (key height : ℕ) → reply.took ≡ took.Publish i key height → KeyOf v.hash v.types (trees i.node.0) key
+PublishesKey v s trees event reply s' trees' = Unit {0}
+
+-- What keys are of one event: each that is published is its tree's, each that is answered is its task's, and what was met then is left paged out, with keys of its cells.
+pub record KeysAreRight {N E B W : Type 0} (v : Values N) (s : MachineState N E) (trees : ℕ → Tree) (event : Event N B W) (reply : EventReply N B W) (s' : MachineState N E) (trees' : ℕ → Tree) : Type 0 where
+  pub publishes : PublishesKey v s trees event reply s' trees'
+  pub key : AnswerIsKey v s trees event reply s' trees'
+  pub leaves : AnswerLeavesAll v s trees event reply s' trees'
+
+-- They are so where tables, workers and cells fit before and after.
+abbrev pub FitsGiveKeys : {N B W : Type 0} → (E : Type 0) → Seen N B W → Type 0
+FitsGiveKeys {N} {B} {W} E m =
+    (s s' : MachineState N E) (event : Event N B W) (reply : EventReply N B W) (trees trees' : ℕ → Tree) → Does m s event reply s' → StandsFor m.values s' trees' → WorkFits m.values s trees → WorkFits m.values s' trees'
+    → KeysHeld (world_of s') → KeysAreRight m.values s trees event reply s' trees'
