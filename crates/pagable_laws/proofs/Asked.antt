@@ -14,7 +14,52 @@ pub births-asked : ArePremised two.new_one two.births
 births-asked = (asked _ _ tt (λ trees. tt), (asked _ _ tt (λ trees. tt), (asked _ _ tt (λ trees. tt), (asked _ _ tt (λ trees. tt), tt))))
 
 pub steps-asked : ArePremised at_work two.page_out
-steps-asked = (step-asked _ _ _ _ _ _ tt, (step-asked _ _ _ _ _ _ tt, (step-asked _ _ _ _ _ _ tt, (step-asked _ _ _ _ _ _ tt, (step-asked _ _ _ _ _ _ tt, (step-asked _ _ _ _ _ _ tt, (step-asked _ _ _ _ _ _ tt, (step-asked _ _ _ _ _ _ tt, (step-asked _ _ _ _ _ _ tt, (step-asked _ _ _ _ _ _ tt, (step-asked _ _ _ _ _ _ tt, (step-asked _ _ _ _ _ _ tt, (step-asked _ _ _ _ _ _ tt, (step-asked _ _ _ _ _ _ tt, (step-asked _ _ _ _ _ _ tt, tt)))))))))))))))
+steps-asked = (
+  step-asked _ _ _ tt,
+  (
+    step-asked _ _ _ tt,
+    (
+      step-asked _ _ _ tt,
+      (
+        step-asked _ _ _ tt,
+        (
+          step-asked _ _ _ tt,
+          (
+            step-asked _ _ _ tt,
+            (
+              step-asked _ _ _ tt,
+              (
+                step-asked _ _ _ tt,
+                (
+                  step-asked _ _ _ tt,
+                  (
+                    step-asked _ _ _ tt,
+                    (
+                      step-asked _ _ _ tt,
+                      (
+                        step-asked _ _ _ tt,
+                        (
+                          step-asked _ _ _ tt,
+                          (
+                            step-asked _ _ _ tt,
+                            (
+                              step-asked _ _ _ tt,
+                              tt,
+                            ),
+                          ),
+                        ),
+                      ),
+                    ),
+                  ),
+                ),
+              ),
+            ),
+          ),
+        ),
+      ),
+    ),
+  ),
+)
 
 pub parent-asked : ArePremised (two.machine two.answered two.two_values two.done_work) two.parent_loads
 unfolding find_row is_named_by grammar.read grammar.read_with answers_from

@@ -25,7 +25,8 @@ leaf-comes zero x is = absurd (cc)
 leaf-comes (suc zero) x is = inr (refl, (cc, omega arith))
 leaf-comes (suc (suc n)) x is = absurd (cc)
 
-parent-comes : (n : ℕ) (x : two.Sample) → two.value_at two.two_values n ≡ Some x → (two.value_at two.one_value n ≡ Some x) ⊎ ((two.value_at two.one_value n ≡ None) × ((x ≡ two.parent two.to_child) × (1 < n)))
+parent-comes : (n : ℕ) (x : two.Sample) → two.value_at two.two_values n ≡ Some x
+    → (two.value_at two.one_value n ≡ Some x) ⊎ ((two.value_at two.one_value n ≡ None) × ((x ≡ two.parent two.to_child) × (1 < n)))
 unfolding two.value_at
 parent-comes zero x is = absurd (cc)
 parent-comes (suc zero) x is = inl is
@@ -33,7 +34,8 @@ parent-comes (suc (suc zero)) x is = inr (refl, (cc, omega arith))
 parent-comes (suc (suc (suc n))) x is = absurd (cc)
 
 -- what is done to the pager alone, while nothing is read
-pub only-pager : (core core' : Core) (work : Work) (does : Core → Type 0) → let quiet = record work { readings = λ l. None } in does core' → OnlyCore (record { core = core; work = quiet }) does (record { core = core'; work = quiet })
+pub only-pager : (core core' : Core) (work : Work) (does : Core → Type 0) → let quiet = record work { readings = λ l. None } in does core'
+    → OnlyCore (record { core = core; work = quiet }) does (record { core = core'; work = quiet })
 only-pager core core' work does step = record { step = step; readings = λ l. none-there (core'.loads l) None refl; work = work-stays (record work { readings = λ l. None }) (λ l. None) }
 
 pub bears : AreMoments two.sample_seen two.new_one two.births

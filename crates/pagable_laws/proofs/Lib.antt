@@ -52,9 +52,6 @@ mod Claiming
 mod Numbered
 mod Holding
 mod Coming
-mod Headlines
-mod Working
-mod Doing
 mod Decoding
 mod Fitting
 mod Following

@@ -32,7 +32,8 @@ parent-brings n x is =
     let b = parent-back n x is in
     inr (subst (λ y. ReadsRoot two.sample two.parent_read y) (sym b.1) reads-parent, subst (λ k. IsCellOf two.child_got (two.load_number 1) k) (sym b.0) of-parent)
 
-child-brings : (n : ℕ) (x : two.Sample) → two.value_at two.last_values n ≡ Some x → (two.value_at two.parent_value n ≡ Some x) ⊎ ((two.value_at two.parent_value n ≡ None) × ReadingBrings two.sample two.child_loading two.child_fetched n x)
+child-brings : (n : ℕ) (x : two.Sample) → two.value_at two.last_values n ≡ Some x
+    → (two.value_at two.parent_value n ≡ Some x) ⊎ ((two.value_at two.parent_value n ≡ None) × ReadingBrings two.sample two.child_loading two.child_fetched n x)
 child-brings n x is = elim (child-back n x is) [
   | inl same ↦ inl same
   | inr (none_before, third, read) ↦ inr (none_before, inr (subst (λ y. ReadsRoot two.sample two.child_fetched y) (sym read) reads-child, subst (λ k. IsCellOf two.child_loading (two.load_number 2) k) (sym third) of-child))

@@ -102,7 +102,8 @@ parent-back (suc zero) x is = absurd (cc)
 parent-back (suc (suc zero)) x is = (refl, cc)
 parent-back (suc (suc (suc n))) x is = absurd (cc)
 
-pub child-back : (n : ℕ) (x : two.Sample) → two.value_at two.last_values n ≡ Some x → (two.value_at two.parent_value n ≡ Some x) ⊎ ((two.value_at two.parent_value n ≡ None) × (n ≡ 3) × (x ≡ two.leaf))
+pub child-back : (n : ℕ) (x : two.Sample) → two.value_at two.last_values n ≡ Some x
+    → (two.value_at two.parent_value n ≡ Some x) ⊎ ((two.value_at two.parent_value n ≡ None) × (n ≡ 3) × (x ≡ two.leaf))
 unfolding two.value_at
 child-back zero x is = absurd (cc)
 child-back (suc zero) x is = absurd (cc)

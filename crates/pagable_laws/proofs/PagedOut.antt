@@ -67,7 +67,8 @@ pub writes-it : (core : Core) (shelf : Shelf) (r : ArcRef) (through : HandleNumb
 writes-it core shelf r through written below =
     record { does = (refl, record { writes = record { pager_stays = alike-self core; table_is = same-shelf (two.wrote shelf r written); list_is = refl }; refused = tt }) }
 
-pub stored-so : (core : Core) (key : ℕ) (blob : Blob) → key ≡ digest two.sample blob → core.closed ≡ false → core.stored key ≡ None → StoreCall (digest two.sample) core blob (Ok key) (two.with_blob core key blob)
+pub stored-so : (core : Core) (key : ℕ) (blob : Blob) → key ≡ digest two.sample blob → core.closed ≡ false → core.stored key ≡ None
+    → StoreCall (digest two.sample) core blob (Ok key) (two.with_blob core key blob)
 stored-so core key blob is open_still free =
     record {
       stores = (is, record { stands_open = open_still; adds = record { each = λ q. refl; free = inl free }; fails = omega arith; leaves = alike-self (two.with_blob core key blob) });
@@ -97,7 +98,8 @@ keys-it core shelf n r through key height below live low low_then few none ok =
       );
     }
 
-pub publishes-it : (core : Core) (shelf : Shelf) (r : ArcRef) (key : ℕ) (below : List Todo) → Walks core shelf (to_publish r key 0 ∷ below) (took.Publish (identity_of r) key 0) core (two.shown shelf r key) (to_release r key 0 ∷ below)
+pub publishes-it : (core : Core) (shelf : Shelf) (r : ArcRef) (key : ℕ) (below : List Todo)
+    → Walks core shelf (to_publish r key 0 ∷ below) (took.Publish (identity_of r) key 0) core (two.shown shelf r key) (to_release r key 0 ∷ below)
 publishes-it core shelf r key below = record { does = (refl, refl, refl, record { pager_stays = alike-self core; table_is = same-shelf (two.shown shelf r key); list_is = refl }) }
 
 pub releases-it : (core : Core) (shelf : Shelf) (r : ArcRef) (key : ℕ) (below : List Todo) → let given = is_workers_at core 1 r.node.0 in

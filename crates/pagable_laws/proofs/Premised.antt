@@ -69,10 +69,11 @@ pub asked : (s : State) (x : two.Happening) → KeepsOpen x.event → ((trees : 
 asked s x open_still well trees = record { settled = λ n x is. settled x; reads_settled = λ x is. settled x; stays_open = open_still; well = well trees }
 
 -- a worker's step asks something only at a load
-pub step-asked : (core : Core) (vs : List (Option two.Sample)) (shelf : Shelf) (w : Walking) (reply : WorkerReply Written) (after : State)
+pub step-asked : {core : Core} {reply : WorkerReply Written} {after : State} (vs : List (Option two.Sample)) (shelf : Shelf) (w : Walking)
     → TodoTakesWell two.sample (two.machine core vs (two.walk_work shelf w)).pager w.todo
     → IsAsked (two.machine core vs (two.walk_work shelf w)) (two.moment (events.WorkerStep (record { 0 = 1 })) (answers.WorkerMoved (Ok reply)) after)
-step-asked core vs shelf w reply after well = asked _ _ tt (λ trees walking is. only-at 1 w (λ n x. TodoTakesWell two.sample (two.machine core vs (two.walk_work shelf w)).pager x.todo) well 1 walking is)
+step-asked {core} {reply} {after} vs shelf w well =
+    asked _ _ tt (λ trees walking is. only-at 1 w (λ n x. TodoTakesWell two.sample (two.machine core vs (two.walk_work shelf w)).pager x.todo) well 1 walking is)
 
 -- a load's step asks something where a reference is taken of which nothing is read
 pub load-asked : (s : State) (l : ℕ) (r : Reading) (reply : LoadReply two.Sample) (after : State) → reading_at (world_of s) (two.load_number l) ≡ Some r → TakesWell two.sample s.pager r
@@ -87,7 +88,8 @@ child-reads : (s : PagerState two.Sample (Unit {0})) → s.core.stored 8 ≡ Som
 unfolding grammar.read grammar.read_with
 child-reads s stored = record { read = tree 1 none; typed = refl; reads = record { own = none; reads = record { blob = two.leaf_blob; stored = stored; rest = rest_of two.leaf_blob; reads = refl }; follows = none-followed } }
 
-pub takes-child : (s : PagerState two.Sample (Unit {0})) (r : Reading) → s.core.stored 8 ≡ Some two.leaf_blob → need_of two.sample_types r.frames ≡ needs_lazy (record { 0 = 4 }) 8 → TakesWell two.sample s r
+pub takes-child : (s : PagerState two.Sample (Unit {0})) (r : Reading) → s.core.stored 8 ≡ Some two.leaf_blob → need_of two.sample_types r.frames ≡ needs_lazy (record { 0 = 4 }) 8
+    → TakesWell two.sample s r
 takes-child s r stored lazily kind key is =
     let same : (record { 0 = 4 } ≡ kind) × (8 ≡ key) = parts (record { 0 = 4 }) kind 8 key (sym lazily ∙ is) in
     subst (λ (k : Kind). ReadsAsType two.sample s (type_of k.0) key) same.0 (subst (λ k. ReadsAsType two.sample s 1 k) same.1 (child-reads s stored))

@@ -26,7 +26,8 @@ some-there (Some y) x is = refl
 some-there None x is = absurd (cc)
 
 -- the one reading goes on
-pub reads-on : (core : Core) (n : ℕ) (r : Reading) (f : ℕ → Option Reading) → is_some (core.loads n) ≡ true → ((l : ℕ) → (l == n) ≡ false → f l ≡ None) → (l : ℕ) → two.only n r l ≡ if_there (λ (load : OpenLoad). updated n (Some r) f l) None (core.loads l)
+pub reads-on : (core : Core) (n : ℕ) (r : Reading) (f : ℕ → Option Reading) → is_some (core.loads n) ≡ true → ((l : ℕ) → (l == n) ≡ false → f l ≡ None) → (l : ℕ)
+    → two.only n r l ≡ if_there (λ (load : OpenLoad). updated n (Some r) f l) None (core.loads l)
 reads-on core n r f there other l = part (l == n) refl
   where
     part : (b : Bool) → (l == n) ≡ b → two.only n r l ≡ if_there (λ (load : OpenLoad). updated n (Some r) f l) None (core.loads l)
@@ -63,7 +64,8 @@ begins-it core n t h key live away keyed typed few_loads few =
     }
 
 -- it fetches the blob of its own key
-pub fetches-it : (core : Core) (l t : ℕ) (load : OpenLoad) (blob : Blob) → core.loads l ≡ Some load → load.owner ≡ owners.Caller → core.stored load.key ≡ Some blob → ReadingDoes two.sample core owners.Caller (fresh (two.load_number l) t) None (root_frame load.key t blob ∷ []) core
+pub fetches-it : (core : Core) (l t : ℕ) (load : OpenLoad) (blob : Blob) → core.loads l ≡ Some load → load.owner ≡ owners.Caller → core.stored load.key ≡ Some blob
+    → ReadingDoes two.sample core owners.Caller (fresh (two.load_number l) t) None (root_frame load.key t blob ∷ []) core
 fetches-it core l t load blob stands_open own stored =
     record {
       does = inl (record {
@@ -77,7 +79,8 @@ fetches-it core l t load blob stands_open own stored =
     }
 
 -- it ends with a pin, by the value that was read of its one blob
-pub ends-it : (core : Core) (l n h key steps : ℕ) (x : two.Sample) (root : Frame) → let references = two.sample_references x in let w = two.ended core l n h references in let given = two.gives_up core l references in
+pub ends-it : (core : Core) (l n h key steps : ℕ) (x : two.Sample) (root : Frame)
+    → let references = two.sample_references x in let w = two.ended core l n h references in let given = two.gives_up core l references in
     core.loads l ≡ Some (cell_load n (two.sample_type x) h key)
     → two.sample_type x ≡ root.node_type → next_in two.sample_types root ≡ reads (two.sample_meaning x) → references_fault core (owners.Load (two.load_number l)) [] references ≡ None
     → row_at core (two.handle h) ≡ Some (row_of h (two.node n) modes.LooseUnpinned owners.Caller) → is_here core n ≡ false → nat_le core.last.handle 11 ≡ true

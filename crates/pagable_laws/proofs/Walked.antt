@@ -38,7 +38,7 @@ none-there (Some y) x is = refl
 none-there None x is = is
 
 -- A step of the worker, after which the pager is whole. With its answer the worker ends.
-pub worker-does : (core mid core' : Core) (shelf shelf' : Shelf) (todo todo' : List Todo) (step : Took Written) (steps steps' : ℕ) (answer : Option WorkerAnswer)
+pub worker-does : {core mid core' : Core} {shelf shelf' : Shelf} {todo todo' : List Todo} {step : Took Written} {steps' : ℕ} {answer : Option WorkerAnswer} (steps : ℕ)
     → WalkDoes sample_seen 1 (record { core = core; shelf = shelf; todo = todo }) step (record { core = mid; shelf = shelf'; todo = todo' })
     → answer ≡ answer_after todo step → steps' ≡ steps_after steps (is_counted todo step) → Ends answer 1 mid core'
     → TookWrites sample (λ w. w) (machine core two_values (table_work shelf)).pager step
@@ -46,7 +46,7 @@ pub worker-does : (core mid core' : Core) (shelf shelf' : Shelf) (todo todo' : L
     → Does sample_seen (machine core two_values (walk_work shelf (walking todo steps None)))
     (events.WorkerStep (record { 0 = 1 })) (answers.WorkerMoved (Ok (record { took = step; answer = answer; steps = steps' })))
     (machine core' two_values (walk_work shelf' (walking todo' steps' answer)))
-worker-does core mid core' shelf shelf' todo todo' step steps steps' answer does answers counts ends writes passes none at_work =
+worker-does {core} {mid} {core'} {shelf} {shelf'} {todo} {todo'} {step} {steps'} {answer} steps does answers counts ends writes passes none at_work =
     record {
       step = record {
         happens = record {

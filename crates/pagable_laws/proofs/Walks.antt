@@ -1,11 +1,12 @@
 -- The page-out of the chain of two levels is one of the machine.
-use Rattle.std.proofs.Common.{[], ◌∷◌, refl}
+use Rattle.std.proofs.Common.{ℕ, List, [], ◌∷◌, refl}
 use Rattle.std.specs.Prelude.{None, Ok}
 use Rattle.pagable_model.specs.Form.{nothing-form, reference-form}
 use Rattle.pagable_model.specs.Blob.{preimage}
 use Rattle.pagable_world.specs.declared.handles.Owner.TheVariants as owners
 use Rattle.pagable_world.specs.Kinds.{find_row, owner_value}
-use Rattle.pagable_world.specs.World.{to_start}
+use Rattle.pagable_world.specs.Plain.{ArcRef}
+use Rattle.pagable_world.specs.World.{Written, Open, to_start}
 use Rattle.pagable_world.specs.Calls.{is_named_by}
 use Rattle.pagable_world.specs.Cascade.{FallsAnyhow}
 use Rattle.pagable_world.specs.Workers.{without_worker, is_workers}
@@ -31,9 +32,79 @@ worker-gone : FallsAnyhow two.item_stored (without_worker two.item_stored 1) (is
 unfolding is_named_by find_row
 worker-gone = record { told = Ok tt; falls = falls-alone two.item_stored (without_worker two.item_stored 1) (is_workers two.item_stored 1) refl refl refl refl refl }
 
+abbrev opened : ArcRef → ℕ → Written → List ℕ → Open
+opened r through written keys = record { reference = r; place = 0; through = two.handle through; written = written; keys = keys; height = 0 }
+
 abbrev pub at_work : MachineState two.Sample (Unit {0})
 at_work = two.machine two.begun two.two_values (two.walk_work no_shelf (two.walking (to_start two.to_parent 0 ∷ two.item_waits []) 0 None))
 
 pub pages-out : AreMoments two.sample_seen at_work two.page_out
 unfolding is_named_by find_row preimage
-pages-out = (worker-does two.begun two.begun two.begun no_shelf two.parent_claimed _ _ _ 0 1 None (claims-it two.begun no_shelf two.to_parent (two.item_waits []) refl refl) refl refl (alike-self two.begun) tt begun-passes refl refl, (worker-does two.begun two.parent_pinned two.parent_pinned two.parent_claimed two.parent_claimed _ _ _ 1 2 None (pins-it two.begun two.parent_claimed 2 two.to_parent owners.Caller (two.item_waits []) refl refl refl refl) refl refl (alike-self two.parent_pinned) tt parent-pinned-passes refl refl, (worker-does two.parent_pinned two.parent_pinned two.parent_pinned two.parent_claimed two.parent_wrote _ _ _ 2 3 None (writes-it two.parent_pinned two.parent_claimed two.to_parent (two.handle 3) two.parent_written (two.item_waits [])) refl refl (alike-self two.parent_pinned) parent-written parent-pinned-passes refl refl, (worker-does two.parent_pinned two.parent_pinned two.parent_pinned two.parent_wrote two.child_claimed _ _ _ 3 4 None (claims-it two.parent_pinned two.parent_wrote two.to_child (two.parent_waits []) refl refl) refl refl (alike-self two.parent_pinned) tt parent-pinned-passes refl refl, (worker-does two.parent_pinned two.both_pinned two.both_pinned two.child_claimed two.child_claimed _ _ _ 4 5 None (pins-it two.parent_pinned two.child_claimed 1 two.to_child (owner_value 2) (two.parent_waits []) refl refl refl refl) refl refl (alike-self two.both_pinned) tt both-pinned-passes refl refl, (worker-does two.both_pinned two.both_pinned two.both_pinned two.child_claimed two.child_wrote _ _ _ 5 6 None (writes-it two.both_pinned two.child_claimed two.to_child (two.handle 5) two.leaf_written (two.parent_waits [])) refl refl (alike-self two.both_pinned) leaf-written both-pinned-passes refl refl, (worker-does two.both_pinned two.child_stored two.child_stored two.child_wrote two.child_wrote _ _ _ 6 7 None (stores-it two.both_pinned two.child_wrote (record { reference = two.to_child; place = 0; through = two.handle 5; written = two.leaf_written; keys = []; height = 0 }) 8 (two.parent_waits []) refl refl refl refl) refl refl (alike-self two.child_stored) tt child-stored-passes refl refl, (worker-does two.child_stored two.child_keyed two.child_keyed two.child_wrote two.child_wrote _ _ _ 7 8 None (keys-it two.child_stored two.child_wrote 1 two.to_child (two.handle 5) 8 0 (two.parent_waits []) refl refl refl refl refl refl) refl refl (alike-self two.child_keyed) tt child-keyed-passes refl refl, (worker-does two.child_keyed two.child_keyed two.child_keyed two.child_wrote two.child_shown _ _ _ 8 9 None (publishes-it two.child_keyed two.child_wrote two.to_child 8 (two.parent_waits [])) refl refl (alike-self two.child_keyed) tt child-keyed-passes refl refl, (worker-does two.child_keyed two.child_released two.child_released two.child_shown two.child_shown _ _ _ 9 10 None (releases-it two.child_keyed two.child_shown two.to_child 8 (two.parent_waits []) refl refl refl refl) refl refl (alike-self two.child_released) tt child-released-passes refl refl, (worker-does two.child_released two.parent_stored two.parent_stored two.child_shown two.child_shown _ _ _ 10 11 None (stores-it two.child_released two.child_shown (record { reference = two.to_parent; place = 0; through = two.handle 3; written = two.parent_written; keys = 8 ∷ []; height = 0 }) 24 (two.item_waits []) refl refl refl refl) refl refl (alike-self two.parent_stored) tt parent-stored-passes refl refl, (worker-does two.parent_stored two.parent_keyed two.parent_keyed two.child_shown two.child_shown _ _ _ 11 12 None (keys-it two.parent_stored two.child_shown 2 two.to_parent (two.handle 3) 24 0 (two.item_waits []) refl refl refl refl refl refl) refl refl (alike-self two.parent_keyed) tt parent-keyed-passes refl refl, (worker-does two.parent_keyed two.parent_keyed two.parent_keyed two.child_shown two.both_shown _ _ _ 12 13 None (publishes-it two.parent_keyed two.child_shown two.to_parent 24 (two.item_waits [])) refl refl (alike-self two.parent_keyed) tt parent-keyed-passes refl refl, (worker-does two.parent_keyed two.parent_released two.parent_released two.both_shown two.both_shown _ _ _ 13 14 None (releases-it two.parent_keyed two.both_shown two.to_parent 24 (two.item_waits []) refl refl refl refl) refl refl (alike-self two.parent_released) tt parent-released-passes refl refl, (worker-does two.parent_released two.item_stored two.answered two.both_shown two.both_shown _ _ _ 14 15 _ (ends-it two.parent_released two.both_shown two.item (24 ∷ []) 25 refl refl refl refl) refl refl worker-gone tt answered-passes refl refl, tt)))))))))))))))
+pages-out = (
+  worker-does 0 (claims-it two.begun no_shelf two.to_parent (two.item_waits []) refl refl) refl refl (alike-self two.begun) tt begun-passes refl refl,
+  (
+    worker-does 1
+        (pins-it two.begun two.parent_claimed 2 two.to_parent owners.Caller (two.item_waits []) refl refl refl refl)
+        refl refl (alike-self two.parent_pinned) tt parent-pinned-passes refl refl,
+    (
+      worker-does 2
+          (writes-it two.parent_pinned two.parent_claimed two.to_parent (two.handle 3) two.parent_written (two.item_waits []))
+          refl refl (alike-self two.parent_pinned) parent-written parent-pinned-passes refl refl,
+      (
+        worker-does 3 (claims-it two.parent_pinned two.parent_wrote two.to_child (two.parent_waits []) refl refl) refl refl (alike-self two.parent_pinned) tt parent-pinned-passes refl refl,
+        (
+          worker-does 4
+              (pins-it two.parent_pinned two.child_claimed 1 two.to_child (owner_value 2) (two.parent_waits []) refl refl refl refl)
+              refl refl (alike-self two.both_pinned) tt both-pinned-passes refl refl,
+          (
+            worker-does 5
+                (writes-it two.both_pinned two.child_claimed two.to_child (two.handle 5) two.leaf_written (two.parent_waits []))
+                refl refl (alike-self two.both_pinned) leaf-written both-pinned-passes refl refl,
+            (
+              worker-does 6
+                  (stores-it two.both_pinned two.child_wrote (opened two.to_child 5 two.leaf_written []) 8 (two.parent_waits []) refl refl refl refl)
+                  refl refl (alike-self two.child_stored) tt child-stored-passes refl refl,
+              (
+                worker-does 7
+                    (keys-it two.child_stored two.child_wrote 1 two.to_child (two.handle 5) 8 0 (two.parent_waits []) refl refl refl refl refl refl)
+                    refl refl (alike-self two.child_keyed) tt child-keyed-passes refl refl,
+                (
+                  worker-does 8 (publishes-it two.child_keyed two.child_wrote two.to_child 8 (two.parent_waits [])) refl refl (alike-self two.child_keyed) tt child-keyed-passes refl refl,
+                  (
+                    worker-does 9
+                        (releases-it two.child_keyed two.child_shown two.to_child 8 (two.parent_waits []) refl refl refl refl)
+                        refl refl (alike-self two.child_released) tt child-released-passes refl refl,
+                    (
+                      worker-does 10
+                          (stores-it two.child_released two.child_shown (opened two.to_parent 3 two.parent_written (8 ∷ [])) 24 (two.item_waits []) refl refl refl refl)
+                          refl refl (alike-self two.parent_stored) tt parent-stored-passes refl refl,
+                      (
+                        worker-does 11
+                            (keys-it two.parent_stored two.child_shown 2 two.to_parent (two.handle 3) 24 0 (two.item_waits []) refl refl refl refl refl refl)
+                            refl refl (alike-self two.parent_keyed) tt parent-keyed-passes refl refl,
+                        (
+                          worker-does 12
+                              (publishes-it two.parent_keyed two.child_shown two.to_parent 24 (two.item_waits []))
+                              refl refl (alike-self two.parent_keyed) tt parent-keyed-passes refl refl,
+                          (
+                            worker-does 13
+                                (releases-it two.parent_keyed two.both_shown two.to_parent 24 (two.item_waits []) refl refl refl refl)
+                                refl refl (alike-self two.parent_released) tt parent-released-passes refl refl,
+                            (
+                              worker-does 14 (ends-it two.parent_released two.both_shown two.item (24 ∷ []) 25 refl refl refl refl) refl refl worker-gone tt answered-passes refl refl,
+                              tt,
+                            ),
+                          ),
+                        ),
+                      ),
+                    ),
+                  ),
+                ),
+              ),
+            ),
+          ),
+        ),
+      ),
+    ),
+  ),
+)

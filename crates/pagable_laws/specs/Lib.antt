@@ -8,9 +8,6 @@ pub mod FallLaws
 pub mod RunLaws
 pub mod OrderLaws
 pub mod BoundLaws
-pub mod SmallMoments
-pub mod SmallWork
-pub mod MetLaws
 pub mod StepLaws
 pub mod TreeSteps
 pub mod TreeRuns

@@ -2,7 +2,6 @@
 
 ghost use Rattle.pagable_world.specs.World.{Seen};
 ghost use Rattle.pagable_laws.specs.FallLaws.{IsThere, IsOne, IsGivenAlone, PinsAreAFilter, TwoLevelsFall, LoneIsListed};
-ghost use Rattle.pagable_laws.specs.MetLaws.{HeadlineIsMet, WorkMeetsHeadline};
 ghost use Rattle.pagable_laws.specs.ReadLaws.{AllGoOn, AsksNext, DecodesWell, PinStands, ReadStands};
 ghost use Rattle.pagable_laws.specs.LevelLaws.{TwoLevelsMeetPremises};
 ghost use Rattle.pagable_laws.specs.RunLaws.{ChainsJoin, NewIsWhole, NextIsOneOf, StepsFollow, IsOnceEach, KeysTellTheirTrees};
@@ -84,16 +83,6 @@ pub fn keys_tell_trees<N: SeenAs<B, W>, B, W>()
 {
     is_key_of_one_tree()
 }
-
-/// The headline is met with all that it asks: by a child, a parent that refers to it, and a count.
-pub fn headline_is_met<E>()
-    ensures { HeadlineIsMet E }
-{}
-
-/// The headline is met with all that it asks: by an item that a worker pages out, and a load that reads its key back.
-pub fn work_meets_headline<E>()
-    ensures { WorkMeetsHeadline E }
-{}
 
 /// The key that a blob asks for is the next of its keys.
 #[tactic(auto, using(crate::proofs::Decoding::asks_next))]
