@@ -61,7 +61,7 @@ module _ {N E B W : Type 0} (m : Seen N B W) (lawful : IsLawful m.values) (reada
       let held = held_on E m s x.after x.event x.reply on.whole premised.stays_open does on.held in
       let pins = pins-hold m (world_of s) (world_of x.after) x.event x.reply on.whole.pager.whole.handles does.step.happens in
       let so : PinsAndKeys m.values s trees x.event x.reply x.after a.after =
-      record { pins_give = pin-gives m s x.after trees a.after does.whole a.stands x.event x.reply pins; keys = fits_give_keys E m s x.after x.event x.reply trees a.after does a.stands on.fits fits held } in (
+      record { pins_give = pin-gives m s x.after trees a.after does.whole a.stands x.event x.reply pins; keys = fits_give_keys E m s x.after x.event x.reply trees a.after on.whole does a.stands on.fits fits on.held held } in (
         a.after,
         record { keeps = a.keeps; stands = a.stands; so = so },
         stay x.after a.after xs (record { whole = does.whole; settled = premised.settled; stands = a.stands; given = a.given; fits = fits; held = held }) more onwards,

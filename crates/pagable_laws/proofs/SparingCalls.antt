@@ -186,8 +186,10 @@ module _ (v : ℕ) (w w' : Core) where
         elim i.falls [
           | inl (away, f) ↦
               let m = record (without_load w l) { rows = moved (is_named_by references) (owner_value node.0) w.rows } in
-              then-fell v f.falls (record { each = λ q row own s. (spares-handle v (with_mode m h modes.LoosePinned) node modes.Pinned me).each q row own
-                  (mode-free v h modes.LoosePinned (other_row.each q row own s) (moved-free v (owner_value node.0) (named-free v w (owners.Load l) references (not-load l) right) q row own s)) }) set
+              then-fell v f.falls (record {
+                each = λ q row own s. (spares-handle v (with_mode m h modes.LoosePinned) node modes.Pinned me).each q row own
+                    (mode-free v h modes.LoosePinned (other_row.each q row own s) (moved-free v (owner_value node.0) (named-free v w (owners.Load l) references (not-load l) right) q row own s));
+              }) set
           | inr (there, f) ↦
               then-fell v f.falls (record { each = λ q row own s. (spares-handle v (with_mode (without_load w l) h modes.LoosePinned) node modes.Pinned me).each q row own (mode-free v h modes.LoosePinned (other_row.each q row own s) s) }) (load-free v w l)
         ]

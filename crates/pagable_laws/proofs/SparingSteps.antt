@@ -119,8 +119,10 @@ module _ {N B W : Type 0} (m : Seen N B W) (v : ℕ) where
     released-free w n = record { each = λ q row own s. ap (λ (f : Option HandleRow). if_there (λ row. is_owned_by (owner_worker u) row && is_at n row) false f) s.live ∙ ap (λ o. is_owner (owner_worker u) o && is_at n row) own ∙ ap (λ b. b && is_at n row) not-mine }
 
     ended-free : (w : Core) → Free v w (is_workers w u)
-    ended-free w = record { each = λ q row own s.
-        ap (λ (f : Option HandleRow). if_there (λ (row : HandleRow). is_owner (owner_worker u) row.owner || is_load_of w u row.owner) false f) s.live ∙ ap (λ o. is_owner (owner_worker u) o || is_load_of w u o) own ∙ ap (λ b. b || false) not-mine }
+    ended-free w = record {
+      each = λ q row own s.
+          ap (λ (f : Option HandleRow). if_there (λ (row : HandleRow). is_owner (owner_worker u) row.owner || is_load_of w u row.owner) false f) s.live ∙ ap (λ o. is_owner (owner_worker u) o || is_load_of w u o) own ∙ ap (λ b. b || false) not-mine;
+    }
 
     ended : {w w' : Core} (answer : Option WorkerAnswer) → Ends answer u w w' → Spares v w w'
     ended None a = spares-alike v a
