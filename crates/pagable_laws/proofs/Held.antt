@@ -22,10 +22,9 @@ use Rattle.pagable_world.specs.declared.handles.HandleRow.{HandleRow}
 use Rattle.pagable_laws.specs.KeyRuns.{StandsAt, KeyIsSet, is_publishing, AllHold, HasHandle}
 use Rattle.pagable_laws.proofs.Trees.{same_some}
 use Rattle.pagable_laws.proofs.Outlasting.{NotValues, Stands, stands-whole, stands-alike, stands-fell}
-use Rattle.pagable_laws.proofs.Goes.{fell, keyed, goes-quiet, quiet-goes}
-use Rattle.pagable_laws.specs.TreeSteps.{nothing_felt}
+use Rattle.pagable_laws.proofs.Goes.{Goes, fell, keyed, goes-quiet, quiet-goes}
+use Rattle.pagable_laws.specs.TreeSteps.{Change, nothing_felt}
 use Rattle.pagable_laws.proofs.Calling.{pins, begins}
-use Rattle.pagable_laws.proofs.LoadSteps.{Felt}
 use Rattle.pagable_laws.proofs.WalkSteps.{works-free, walk-goes}
 use Rattle.pagable_laws.proofs.Changing.{PutsSlot, puts-slot, put-cases, is-same}
 use Rattle.pagable_laws.proofs.Shelves.{keys-same}
@@ -205,51 +204,51 @@ module _ {N B W : Type 0} (m : Seen N B W) (v : ℕ) (s s' : Site) (whole : Hand
   begun-stands : (r : ArcRef) (through : HandleNumber) (l : LoadNumber) → StandsAt s.core r r.handle → PinsByLoad s.core (owner_worker v) r through l s'.core → StandsAt s'.core r through
   begun-stands r through l stands (row, (mid, key, clone, begin)) = stands-on (begins (Ok (beginnings.Load l key)) begin) (clone-stands whole r through stands clone)
 
-  stepped : (todo : List Todo) (step : Took W) → s.todo ≡ todo → Does m v s todo step s' → Felt s.core s'.core → AllHold s.core todo → Leaves step
+  stepped : {c : Change} (todo : List Todo) (step : Took W) → s.todo ≡ todo → Does m v s todo step s' → Goes c s.core s'.core → AllHold s.core todo → Leaves step
   unfolding AllHold
   stepped (to_start r place ∷ below) (took.Claim i (Ok claims.Claimed)) e (is, c) f (h, quiet, all) =
       let t = c.finds.1.2 in
       let new : Slot = record { worker = v; written = None; outcome = no_result } in
-      leaves t.list_is refl (stands-on f.goes (claimed-stands whole r c.finds.0), quiet, all-on f.goes below all)
+      leaves t.list_is refl (stands-on f (claimed-stands whole r c.finds.0), quiet, all-on f below all)
       (new-reveals s.shelf s'.shelf KeyThere (identity_of r) new refl (puts-slot (with_wait s.shelf v None) s'.shelf (identity_of r) new t.table_is))
-  stepped (to_start r place ∷ below) (took.Claim i (Ok (claims.Known key height))) e (is, c) f (h, quiet, all) = let t = c.finds.1.2 in stays t.table_is.slots t.list_is (known-quiet r key height below quiet) (known s'.core r key height below (all-on f.goes below all))
-  stepped (to_start r place ∷ below) (took.Claim i (Ok claims.Waiting)) e (is, c) f (h, quiet, all) = let t = c.finds.1.2 in stays t.table_is.slots (t.list_is ∙ e) refl (tt, quiet, all-on f.goes below all)
+  stepped (to_start r place ∷ below) (took.Claim i (Ok (claims.Known key height))) e (is, c) f (h, quiet, all) = let t = c.finds.1.2 in stays t.table_is.slots t.list_is (known-quiet r key height below quiet) (known s'.core r key height below (all-on f below all))
+  stepped (to_start r place ∷ below) (took.Claim i (Ok claims.Waiting)) e (is, c) f (h, quiet, all) = let t = c.finds.1.2 in stays t.table_is.slots (t.list_is ∙ e) refl (tt, quiet, all-on f below all)
   stepped (to_start r place ∷ below) (took.Claim i (Ok claims.AlreadyFailed)) e (is, c) f all = let t = c.finds.1.2 in stays t.table_is.slots t.list_is refl (tt, refl, tt)
   stepped (to_start r place ∷ below) (took.Claim i (Err x)) e (is, c) f all = let t = c.refused.1 in stays t.table_is.slots t.list_is refl (tt, refl, tt)
   stepped (to_start r place ∷ below) step e does f all = absurd does
-  stepped (to_pin r place ∷ below) (took.Pin i (Ok (pinsteps.Held k))) e (is, p) f (h, quiet, all) = let t = p.pins.2 in stays t.table_stays.slots t.list_is refl (pinned-stands r p.pins.0 k h p.pins.1, quiet, all-on f.goes below all)
-  stepped (to_pin r place ∷ below) (took.Pin i (Ok (pinsteps.LoadBegun l))) e (is, p) f (h, quiet, all) = let t = p.pins.2 in stays t.table_stays.slots t.list_is refl (begun-stands r p.pins.0 l h p.pins.1, quiet, all-on f.goes below all)
+  stepped (to_pin r place ∷ below) (took.Pin i (Ok (pinsteps.Held k))) e (is, p) f (h, quiet, all) = let t = p.pins.2 in stays t.table_stays.slots t.list_is refl (pinned-stands r p.pins.0 k h p.pins.1, quiet, all-on f below all)
+  stepped (to_pin r place ∷ below) (took.Pin i (Ok (pinsteps.LoadBegun l))) e (is, p) f (h, quiet, all) = let t = p.pins.2 in stays t.table_stays.slots t.list_is refl (begun-stands r p.pins.0 l h p.pins.1, quiet, all-on f below all)
   stepped (to_pin r place ∷ below) (took.Pin i (Ok pinsteps.LoadWent)) e (is, p) f all = absurd p.pins
   stepped (to_pin r place ∷ below) (took.Pin i (Err x)) e (is, p) f all = let t = p.refused.1 in stays t.table_stays.slots t.list_is refl (tt, refl, tt)
   stepped (to_pin r place ∷ below) step e does f all = absurd does
-  stepped (to_load r place through reading ∷ below) (took.Pin i (Ok (pinsteps.Held k))) e (is, p) f (h, quiet, all) = let t = p.goes.1 in stays t.table_stays.slots t.list_is refl (stands-on f.goes h, quiet, all-on f.goes below all)
+  stepped (to_load r place through reading ∷ below) (took.Pin i (Ok (pinsteps.Held k))) e (is, p) f (h, quiet, all) = let t = p.goes.1 in stays t.table_stays.slots t.list_is refl (stands-on f h, quiet, all-on f below all)
   stepped (to_load r place through reading ∷ below) (took.Pin i (Ok (pinsteps.LoadBegun l))) e (is, p) f all = absurd p.goes
-  stepped (to_load r place through reading ∷ below) (took.Pin i (Ok pinsteps.LoadWent)) e (is, p) f (h, quiet, all) = let t = p.goes.2 in stays t.table_stays.slots t.list_is refl (stands-on f.goes h, quiet, all-on f.goes below all)
+  stepped (to_load r place through reading ∷ below) (took.Pin i (Ok pinsteps.LoadWent)) e (is, p) f (h, quiet, all) = let t = p.goes.2 in stays t.table_stays.slots t.list_is refl (stands-on f h, quiet, all-on f below all)
   stepped (to_load r place through reading ∷ below) (took.Pin i (Err x)) e (is, p) f all = let t = p.refused.1 in stays t.table_stays.slots t.list_is refl (tt, refl, tt)
   stepped (to_load r place through reading ∷ below) step e does f all = absurd does
   stepped (to_write r place through ∷ below) (took.Write i (Ok out)) e (is, p) f (h, quiet, all) =
       let t = p.writes in
-      leaves t.list_is (started-quiet place (m.written_of out).references _ refl) (settled s'.core (record { reference = r; place = place; through = through; written = m.written_of out; keys = []; height = 0 }) below (stands-on f.goes h, quiet, all-on f.goes below all))
+      leaves t.list_is (started-quiet place (m.written_of out).references _ refl) (settled s'.core (record { reference = r; place = place; through = through; written = m.written_of out; keys = []; height = 0 }) below (stands-on f h, quiet, all-on f below all))
       (changed-reveals s.shelf s'.shelf KeyThere (identity_of r) (λ slot. record slot { written = Some (m.written_of out) }) t.table_is (λ old key height is. inl is))
   stepped (to_write r place through ∷ below) (took.Write i (Err x)) e (is, p) f all = let t = p.refused.1 in stays t.table_is.slots t.list_is refl (tt, refl, tt)
   stepped (to_write r place through ∷ below) step e does f all = absurd does
-  stepped (to_finish o ∷ below) (took.Store i (Ok key)) e (is, p) f (h, quiet, all) = let t = p.goes in stays t.table_stays.slots t.list_is refl (stands-on f.goes h, quiet, all-on f.goes below all)
+  stepped (to_finish o ∷ below) (took.Store i (Ok key)) e (is, p) f (h, quiet, all) = let t = p.goes in stays t.table_stays.slots t.list_is refl (stands-on f h, quiet, all-on f below all)
   stepped (to_finish o ∷ below) (took.Store i (Err x)) e (is, p) f all = let t = p.refused in stays t.table_stays.slots t.list_is refl (tt, refl, tt)
   stepped (to_finish o ∷ below) step e does f all = absurd does
   stepped (to_item written ks ∷ below) (took.Store i (Ok key)) e (is, p) f all = let t = p.goes in stays t.table_stays.slots t.list_is refl tt
   stepped (to_item written ks ∷ below) (took.Store i (Err x)) e (is, p) f all = let t = p.refused in stays t.table_stays.slots t.list_is refl (tt, refl, tt)
   stepped (to_item written ks ∷ below) step e does f all = absurd does
-  stepped (to_set r through key height ∷ below) (took.SetKey i (Ok u)) e (is, p) f (h, quiet, all) = sets i u r through key height below e h p.sets p.goes quiet (all-on f.goes below all)
+  stepped (to_set r through key height ∷ below) (took.SetKey i (Ok u)) e (is, p) f (h, quiet, all) = sets i u r through key height below e h p.sets p.goes quiet (all-on f below all)
   stepped (to_set r through key height ∷ below) (took.SetKey i (Err x)) e (is, p) f all = let t = p.refused in stays t.table_stays.slots t.list_is refl (tt, refl, tt)
   stepped (to_set r through key height ∷ below) step e does f all = absurd does
   stepped (to_publish r key height ∷ below) (took.Publish i k q) e (is, same_key, same_height, t) f (h, quiet, all) =
-      leaves t.list_is refl (tt, quiet, all-on f.goes below all) (changed-reveals s.shelf s'.shelf KeyThere (identity_of r) (with_outcome (published key height)) t.table_is (λ old k2 h2 known. inr (λ kind. key-on f.goes (h kind))))
+      leaves t.list_is refl (tt, quiet, all-on f below all) (changed-reveals s.shelf s'.shelf KeyThere (identity_of r) (with_outcome (published key height)) t.table_is (λ old k2 h2 known. inr (λ kind. key-on f (h kind))))
   stepped (to_publish r key height ∷ below) step e does f all = absurd does
-  stepped (to_release r key height ∷ below) (took.Release i) e (is, falls, t) f (h, quiet, all) = stays t.table_stays.slots t.list_is (given-quiet r key height below quiet) (given s'.core r key height below (all-on f.goes below all))
+  stepped (to_release r key height ∷ below) (took.Release i) e (is, falls, t) f (h, quiet, all) = stays t.table_stays.slots t.list_is (given-quiet r key height below quiet) (given s'.core r key height below (all-on f below all))
   stepped (to_release r key height ∷ below) step e does f all = absurd does
   stepped (to_fail fault back ∷ below) took.Fail e (gives, same, list_is) f all = leaves list_is refl tt (failed-reveals s.shelf s'.shelf KeyThere v same)
   stepped (to_fail fault back ∷ below) step e does f all = absurd does
   stepped [] step e does f all = absurd does
 
   pub walk-leaves : (step : Took W) → Does m v s s.todo step s' → AllHold s.core s.todo → Leaves step
-  walk-leaves step does all = stepped s.todo step refl does (walk-goes m v s s' s.todo step does) all
+  walk-leaves step does all = stepped s.todo step refl does (walk-goes m v s s' s.todo step does).goes all

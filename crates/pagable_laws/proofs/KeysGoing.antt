@@ -1,29 +1,21 @@
--- What each event does to the plain world; and that workers go on holding what they hold.
-use Rattle.std.proofs.Common.{◌≡◌, ℕ, ◌+◌, ◌≤◌, Bool, true, false, List, ◌∷◌, inl, inr, Option, Some, None, Ok, Err, refl, sym, ap, subst, ◌∙◌, if◌then◌else◌, arith}
+-- Workers go on holding what they hold.
+use Rattle.std.proofs.Common.{◌≡◌, ℕ, true, false, List, ◌∷◌, inl, inr, Some, None, Ok, Err, refl, sym, ap, subst, ◌∙◌}
 use Rattle.pagable_world.specs.Plain.{ArcRef, Identity, WorkerNumber, ReadsTree, is_loose_kind, updated}
-use Rattle.pagable_world.specs.declared.handles.Owner.TheVariants as owners
 use Rattle.pagable_world.specs.declared.events.Event.TheVariants as events
 use Rattle.pagable_world.specs.declared.events.Event.{Event}
 use Rattle.pagable_world.specs.declared.events.EventReply.TheVariants as answers
 use Rattle.pagable_world.specs.declared.events.EventReply.{EventReply}
-use Rattle.pagable_world.specs.declared.events.TableNumber.{TableNumber}
-use Rattle.pagable_world.specs.declared.events.WorkerAnswer.{WorkerAnswer}
 use Rattle.pagable_world.specs.declared.events.WorkerReply.{WorkerReply}
 use Rattle.pagable_world.specs.Kinds.{find_row}
-use Rattle.pagable_world.specs.Cascade.{only_handle}
-use Rattle.pagable_world.specs.World.{Core, Alike, OpenLoad, Shelf, Todo, to_publish, Task, of_item, of_entry, Walking, World, Seen}
-use Rattle.pagable_world.specs.Workers.{Site, IsPublished, answer_after, first_todo, without_worker, WorkerEnds, is_workers_load}
-use Rattle.pagable_world.specs.Events.{WorkStays, WorkIs, no_shelf, new_walking, Starts, Ends, WorkerSteps, Happens, with_worker}
+use Rattle.pagable_world.specs.World.{Core, Alike, Shelf, Todo, to_publish, Task, of_item, of_entry, Walking, World, Seen}
+use Rattle.pagable_world.specs.Workers.{Site, IsPublished, answer_after, first_todo}
+use Rattle.pagable_world.specs.Events.{WorkStays, WorkIs, no_shelf, new_walking, Ends, WorkerSteps, Happens}
 use Rattle.pagable_world.specs.Pager.{world_of, HandlesAreWhole}
-use Rattle.pagable_world.specs.Runs.{KeepsOpen}
-use Rattle.pagable_laws.specs.TreeSteps.{nothing_felt}
+use Rattle.pagable_laws.specs.TreeSteps.{Change, nothing_felt}
 use Rattle.pagable_laws.specs.KeyRuns.{KeyIsSet, is_publishing, AllHold, HasHandle, KeysHeld, HeldAtFirst, HeldOn, HeldGivesReady}
 use Rattle.pagable_laws.proofs.Trees.{same_some}
-use Rattle.pagable_laws.proofs.Goes.{Quiet, NotLoads, rows-self, alike, fell-anyhow, quiet-then}
-use Rattle.pagable_laws.proofs.Calling.{some-moved, begins, begins-key}
-use Rattle.pagable_laws.proofs.Called.{calls-go}
-use Rattle.pagable_laws.proofs.LoadSteps.{Felt, quiet, closed, reading-goes}
-use Rattle.pagable_laws.proofs.WalkSteps.{walk-goes}
+use Rattle.pagable_laws.proofs.Goes.{Goes, quiet-goes}
+use Rattle.pagable_laws.proofs.EventSteps.{ends-quiet, event-goes}
 use Rattle.pagable_laws.proofs.Shelves.{keys-same}
 use Rattle.pagable_laws.proofs.Publishing.{at-number}
 use Rattle.pagable_laws.proofs.Answering.{sets_key}
@@ -32,64 +24,6 @@ use Rattle.pagable_laws.proofs.Held.{walk-leaves, item-started, first-quiet}
 use Rattle.pagable_laws.proofs.Outlasting.{stands-whole}
 use Rattle.pagable_laws.proofs.Sparing.{Spares, spares-alike}
 use Rattle.pagable_laws.proofs.SparingSteps.{IsOthers, event-spares}
-
--- ---- the plain world
-
--- workers come and go; loads go
-others-work : (w : Core) (loads : ℕ → Option OpenLoad) (workers : ℕ → Bool) (worker : ℕ) → ((l : ℕ) (load : OpenLoad) → loads l ≡ Some load → w.loads l ≡ Some load) → Quiet w (record w { loads = loads; workers = workers; last = record w.last { worker = worker } })
-others-work w loads workers worker fewer =
-    record {
-      nodes = le-self _;
-      handles = le-self _;
-      loads_last = le-self _;
-      cells = λ n cell is. is;
-      stored = λ q blob is. is;
-      loads = fewer;
-      cache = λ kind key n is. is;
-      rows = rows-self w.last.handle w.rows w.rows refl;
-      shut = λ is. is;
-    }
-  where
-    le-self : (n : ℕ) → n ≤ n
-    le-self n = omega arith
-
-worker-ends : {w w' : Core} (v : ℕ) → WorkerEnds w v w' → Quiet w w'
-worker-ends {w} {w'} v f = quiet-then (others-work w (without_worker w v).loads (without_worker w v).workers w.last.worker (λ l load is. left (is_workers_load v (w.loads l)) (w.loads l) load is)) (fell-anyhow f)
-  where
-    left : (b : Bool) (x : Option OpenLoad) (y : OpenLoad) → (if b then None else x) ≡ Some y → x ≡ Some y
-    left true x y is = absurd (cc)
-    left false x y is = is
-
-pub ends-quiet : {w w' : Core} (answer : Option WorkerAnswer) (v : ℕ) → Ends answer v w w' → Quiet w w'
-ends-quiet None v e = alike e
-ends-quiet (Some a) v e = worker-ends v e
-
-caller-free : NotLoads owners.Caller
-caller-free l is = absurd (cc)
-
-module _ {N B W : Type 0} (m : Seen N B W) (u u' : World) where
-  starts-quiet : (t : TableNumber) (task : Task) (core : Core) (v : WorkerNumber) → Quiet u.core core → Starts u t task core v u' → Quiet u.core u'.core
-  starts-quiet t task core v q s = quiet-then q (quiet-then (others-work core core.loads (with_worker core).workers (core.last.worker + 1) (λ l load is. is)) (alike s.pager))
-
-  worker-goes : (v : WorkerNumber) (reply : WorkerReply W) → WorkerSteps m u v reply u' → Felt u.core u'.core
-  worker-goes v reply s = closed (walk-goes m v.0 (record { core = u.core; shelf = u.work.shelves s.walking.table; todo = s.walking.todo }) s.after s.walking.todo reply.took s.does.does) (ends-quiet reply.answer v.0 s.ends)
-
-  pub event-goes : (event : Event N B W) (reply : EventReply N B W) → KeepsOpen event → Happens m u event reply u' → Felt u.core u'.core
-  event-goes (events.Call call) (answers.CallReply r) stays h = let g = calls-go m u.core owners.Caller caller-free u'.core call r stays h.step.does in record { change = g.change; goes = g.goes }
-  event-goes (events.LoadStart k) (answers.Started r) stays h = record { change = nothing_felt; goes = begins r h.step }
-  event-goes (events.LoadKey key t) (answers.Started r) stays h = record { change = nothing_felt; goes = begins-key r h.step }
-  event-goes (events.LoadStep l) (answers.LoadMoved (Ok reply)) stays h = let x = h.moves in reading-goes m u.core owners.Caller caller-free u'.core x.reading reply.ended x.frames x.does.does
-  event-goes (events.LoadStep l) (answers.LoadMoved (Err e)) stays h = quiet (alike h.refused.1.core)
-  event-goes events.TableNew (answers.TableMade (Ok t)) stays h = quiet (alike h.made.1)
-  event-goes events.TableNew (answers.TableMade (Err e)) stays h = quiet (alike h.refused.1.core)
-  event-goes (events.WorkerItem t item) (answers.WorkerMade (Ok v)) stays h = quiet (starts-quiet t _ u.core v (others-work u.core u.core.loads u.core.workers u.core.last.worker (λ l load is. is)) h.starts)
-  event-goes (events.WorkerItem t item) (answers.WorkerMade (Err e)) stays h = quiet (alike h.refused.1.core)
-  event-goes (events.WorkerListed t i) (answers.WorkerMade (Ok v)) stays h =
-      let x = h.starts in quiet (starts-quiet t _ _ v (some-moved u.core (only_handle x.0) (owners.Worker v) _ (λ l is. absurd (cc))) x.5)
-  event-goes (events.WorkerListed t i) (answers.WorkerMade (Err e)) stays h = quiet (alike h.refused.1.core)
-  event-goes (events.WorkerStep v) (answers.WorkerMoved (Ok reply)) stays h = worker-goes v reply h.moves
-  event-goes (events.WorkerStep v) (answers.WorkerMoved (Err e)) stays h = quiet (alike h.refused.2.core)
-  event-goes event reply stays h = absurd h
 
 -- ---- what workers hold
 
@@ -100,13 +34,13 @@ held_at_first N E s idle = record { walks = λ n walking is. let f = idle.walkin
 handle-on : {w w' : Core} {v n : ℕ} → HandlesAreWhole w → Spares v w w' → HasHandle w v n → HasHandle w' v n
 handle-on whole spares h = let s = spares.each h.h.0 h.row h.own (stands-whole whole h.h.0 h.row h.live) in record { h = h.h; row = h.row; live = s.live; own = h.own; at = h.at }
 
-module _ {N B W : Type 0} (m : Seen N B W) (u u' : World) (felt : Felt u.core u'.core) (held : KeysHeld u) (whole : HandlesAreWhole u.core) where
+module _ {N B W : Type 0} (m : Seen N B W) (u u' : World) {c : Change} (goes : Goes c u.core u'.core) (held : KeysHeld u) (whole : HandlesAreWhole u.core) where
   abbrev SlotsHeld : Shelf → Type 0
   SlotsHeld shelf = (i : Identity) (key height : ℕ) → IsPublished shelf i key height → is_loose_kind i.kind.0 ≡ true → KeyIsSet u'.core i.node.0
 
   -- a table that stays
   slots-stay : (t : ℕ) (shelf : Shelf) → ((i : Identity) → shelf.slots i ≡ (u.work.shelves t).slots i) → SlotsHeld shelf
-  slots-stay t shelf same i key height p kind = key-on felt.goes (held.slots t i key height (keys-same (λ j. sym (same j)) i key height p) kind)
+  slots-stay t shelf same i key height p kind = key-on goes (held.slots t i key height (keys-same (λ j. sym (same j)) i key height p) kind)
 
   -- what a worker publishes next that stays as it is
   publishes-on : (n : ℕ) → Spares n u.core u'.core → (walking : Walking) (r : ArcRef) (key height : ℕ) (below : List Todo) → u.work.walkings n ≡ Some walking → walking.todo ≡ to_publish r key height ∷ below → HasHandle u'.core n r.node.0
@@ -116,7 +50,7 @@ module _ {N B W : Type 0} (m : Seen N B W) (u u' : World) (felt : Felt u.core u'
   work-stays spares stays =
       record {
         publishing = λ n walking r key height below is. publishes-on n (spares n) walking r key height below (sym (stays.walkings n) ∙ is);
-        walks = λ n walking is. all-on felt.goes walking.todo (held.walks n walking (sym (stays.walkings n) ∙ is));
+        walks = λ n walking is. all-on goes walking.todo (held.walks n walking (sym (stays.walkings n) ∙ is));
         slots = λ t. slots-stay t (u'.work.shelves t) (stays.shelves t).slots;
       }
 
@@ -125,7 +59,7 @@ module _ {N B W : Type 0} (m : Seen N B W) (u u' : World) (felt : Felt u.core u'
   new-table t last spares is =
       record {
         publishing = λ n walking r key height below there. publishes-on n (spares n) walking r key height below (sym (is.same_walkings n) ∙ there);
-        walks = λ n walking there. all-on felt.goes walking.todo (held.walks n walking (sym (is.same_walkings n) ∙ there));
+        walks = λ n walking there. all-on goes walking.todo (held.walks n walking (sym (is.same_walkings n) ∙ there));
         slots = λ q. at-number (λ shelf. ((j : Identity) → (u'.work.shelves q).slots j ≡ shelf.slots j) → SlotsHeld (u'.work.shelves q)) t no_shelf u.work.shelves q
             (λ same none i key height p kind. let f = sym (none i) ∙ p.claimed in absurd (cc)) (λ other same. slots-stay q (u'.work.shelves q) same) (is.same_shelves q).slots;
       }
@@ -144,7 +78,7 @@ module _ {N B W : Type 0} (m : Seen N B W) (u u' : World) (felt : Felt u.core u'
             (λ other e. publishes-on n (spares n) walking r key height below e front) (sym (is.same_walkings n) ∙ there);
         walks = λ n walking there. at-number (λ found. found ≡ Some walking → AllHold u'.core walking.todo) v (Some w) u.work.walkings n
             (λ same e. subst (λ (z : Walking). AllHold u'.core z.todo) (same_some _ _ e) (subst (λ t. AllHold u'.core t) (sym first) (first-hold u'.core w.task)))
-            (λ other e. all-on felt.goes walking.todo (held.walks n walking e)) (sym (is.same_walkings n) ∙ there);
+            (λ other e. all-on goes walking.todo (held.walks n walking e)) (sym (is.same_walkings n) ∙ there);
         slots = λ t. slots-stay t (u'.work.shelves t) (is.same_shelves t).slots;
       }
 
@@ -154,19 +88,19 @@ module _ {N B W : Type 0} (m : Seen N B W) (u u' : World) (felt : Felt u.core u'
       let w : Walking = s.walking in
       let site : Site = record { core = u.core; shelf = u.work.shelves w.table; todo = w.todo } in
       let l = walk-leaves m v.0 site s.after whole reply.took s.does.does (held.walks v.0 w s.at) in
-      let ends = quiet (ends-quiet reply.answer v.0 s.ends) in
+      let ends = quiet-goes nothing_felt (ends-quiet reply.answer v.0 s.ends) in
       let now : Walking = record w { todo = s.after.todo; steps = reply.steps; answer = reply.answer } in
       record {
         publishing = λ n walking r key height below there front. at-number (λ found. found ≡ Some walking → HasHandle u'.core n r.node.0) v.0 (Some now) u.work.walkings n
             (λ same e. subst (λ k. HasHandle u'.core k r.node.0) (sym same) (mine l.front (ap (λ (z : Walking). z.todo) (same_some _ _ e) ∙ front)))
             (λ apart e. publishes-on n (spares n (λ at. apart (sym at))) walking r key height below e front) (sym (s.work.same_walkings n) ∙ there);
         walks = λ n walking there. at-number (λ found. found ≡ Some walking → AllHold u'.core walking.todo) v.0 (Some now) u.work.walkings n
-            (λ same e. subst (λ (z : Walking). AllHold u'.core z.todo) (same_some _ _ e) (all-on ends.goes s.after.todo l.all))
-            (λ other e. all-on felt.goes walking.todo (held.walks n walking e)) (sym (s.work.same_walkings n) ∙ there);
+            (λ same e. subst (λ (z : Walking). AllHold u'.core z.todo) (same_some _ _ e) (all-on ends s.after.todo l.all))
+            (λ other e. all-on goes walking.todo (held.walks n walking e)) (sym (s.work.same_walkings n) ∙ there);
         slots = λ t. at-number (λ shelf. ((j : Identity) → (u'.work.shelves t).slots j ≡ shelf.slots j) → SlotsHeld (u'.work.shelves t)) w.table s.after.shelf u.work.shelves t
             (λ at same i key height p kind. elim (l.reveals i key height (keys-same (λ j. sym (same j)) i key height p)) [
-              | inl was ↦ key-on felt.goes (held.slots w.table i key height was kind)
-              | inr set ↦ key-on ends.goes (set kind)
+              | inl was ↦ key-on goes (held.slots w.table i key height was kind)
+              | inr set ↦ key-on ends (set kind)
             ])
             (λ other same. slots-stay t (u'.work.shelves t) same) (s.work.same_shelves t).slots;
       }
@@ -199,7 +133,7 @@ module _ {N B W : Type 0} (m : Seen N B W) (u u' : World) (felt : Felt u.core u'
 pub held_on : {N B W : Type 0} (E : Type 0) (m : Seen N B W) → HeldOn E m
 held_on E m s s' event reply whole stays does held =
     let happens = does.step.happens in
-    event-holds m (world_of s) (world_of s') (event-goes m (world_of s) (world_of s') event reply stays happens) held whole.pager.whole.handles event reply
+    event-holds m (world_of s) (world_of s') (event-goes m (world_of s) (world_of s') event reply stays happens).goes held whole.pager.whole.handles event reply
     (λ n others. event-spares m n (world_of s) (world_of s') whole.pager.whole.owners_there event reply others stays happens) happens
 
 -- ---- what is set

@@ -1,5 +1,5 @@
 -- A handle that is live, that no value owns and that isn't given up outlasts a cascade, with its row.
-use Rattle.std.proofs.Common.{◌≡◌, ℕ, zero, suc, ◌+◌, ◌<◌, ◌≤◌, ◌==◌, ◌&&◌, Bool, true, false, List, [], ◌∷◌, ◌++◌, length, cond, refl, ap, sym, subst, ◌∙◌, inl, inr, arith}
+use Rattle.std.proofs.Common.{◌≡◌, ℕ, zero, suc, ◌+◌, ◌<◌, ◌≤◌, ◌==◌, ◌&&◌, Bool, true, false, List, [], ◌∷◌, ◌++◌, cond, refl, ap, sym, subst, ◌∙◌, inl, inr, arith}
 use Rattle.std.specs.Prelude.{Option, Some, None, not, if◌then◌else◌, filter, map, slice_get}
 use Rattle.std.specs.List.{AllPairs}
 use Rattle.std.proofs.lemmas.Bool.{cases_order}
@@ -8,7 +8,6 @@ use Rattle.std.proofs.lemmas.Option.{get_or_from_slice_get, slice_get_within}
 use Rattle.pagable_world.specs.Plain.{HandleNumber, NodeNumber, Among, changed, one}
 use Rattle.pagable_world.specs.declared.handles.Owner.{Owner}
 use Rattle.pagable_world.specs.declared.handles.HandleRow.{HandleRow}
-use Rattle.pagable_world.specs.declared.rows.Mode.{Mode}
 use Rattle.pagable_world.specs.declared.handles.Owner.TheVariants as owners
 use Rattle.pagable_world.specs.Kinds.{find_row, is_handle, is_owner, is_owned_by, owner_value}
 use Rattle.pagable_world.specs.World.{Core, Last, Alike}
@@ -17,7 +16,7 @@ use Rattle.pagable_world.specs.Pager.{IsHandleBefore, HandlesAreWhole}
 use Rattle.pagable_laws.proofs.Sums.{self-number, sum-zero, at-most-sum}
 use Rattle.pagable_laws.proofs.Existing.{inside, wider}
 use Rattle.pagable_laws.proofs.Decoding.{among-either}
-use Rattle.pagable_laws.proofs.Goes.{found-number, none-in-new, none-in-next}
+use Rattle.pagable_laws.proofs.Goes.{found-number, none-in-new}
 
 -- no value's
 abbrev pub NotValues : Owner → Type 0

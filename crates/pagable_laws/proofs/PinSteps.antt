@@ -1,7 +1,7 @@
 -- What is answered as pinned is a handle that pins: of a call, of a load's last step and of a worker's pin.
-use Rattle.std.proofs.Common.{◌≡◌, ℕ, zero, suc, ◌+◌, ◌<◌, ◌≤◌, ◌&&◌, Bool, true, false, List, [], ◌∷◌, ◌++◌, refl, ap, sym, subst, ◌∙◌, inl, inr, arith}
-use Rattle.std.specs.Prelude.{Option, Some, None, not, if◌then◌else◌, Ok, Err, Result}
-use Rattle.pagable_world.specs.Plain.{Error, ArcRef, Identity, HandleNumber, LoadNumber, NodeNumber, Among, changed, if_there, updated}
+use Rattle.std.proofs.Common.{◌≡◌, ℕ, zero, suc, ◌+◌, ◌≤◌, ◌&&◌, Bool, true, false, List, [], ◌∷◌, ◌++◌, refl, ap, sym, subst, ◌∙◌, inl, inr, arith}
+use Rattle.std.specs.Prelude.{Option, Some, None, not, if◌then◌else◌, Ok}
+use Rattle.pagable_world.specs.Plain.{ArcRef, Identity, HandleNumber, LoadNumber, NodeNumber, Among, changed}
 use Rattle.pagable_world.specs.declared.handles.Owner.{Owner}
 use Rattle.pagable_world.specs.declared.handles.HandleRow.{HandleRow}
 use Rattle.pagable_world.specs.declared.rows.Mode.{Mode}
@@ -17,15 +17,14 @@ use Rattle.pagable_world.specs.declared.calls.Reply.TheVariants as replies
 use Rattle.pagable_world.specs.declared.answers.Pinning.TheVariants as pinnings
 use Rattle.pagable_world.specs.declared.events.Event.TheVariants as events
 use Rattle.pagable_world.specs.declared.events.EventReply.TheVariants as answers
-use Rattle.pagable_world.specs.declared.events.LoadAnswer.TheVariants as ends
 use Rattle.pagable_world.specs.declared.events.PinStep.TheVariants as pinsteps
 use Rattle.pagable_world.specs.declared.events.Took.TheVariants as took
-use Rattle.pagable_world.specs.Kinds.{find_row, is_handle, is_pinning, is_loose, is_owned_by, owner_worker}
+use Rattle.pagable_world.specs.Kinds.{find_row, is_handle, is_pinning, is_loose, owner_worker}
 use Rattle.pagable_world.specs.World.{Core, Last, World, Seen, Todo, to_start, to_pin, to_load, to_write, to_finish, to_item, to_set, to_publish, to_release, to_fail, row_at, Alike}
 use Rattle.pagable_world.specs.Cascade.{FallsAnyhow}
 use Rattle.pagable_world.specs.Calls.{row_of, with_handle, with_mode, moved, is_named_by, CloneCall, PinCall}
 use Rattle.pagable_world.specs.LoadCalls.{with_pin, without_load, is_owned_in, EndCall}
-use Rattle.pagable_world.specs.Loads.{EndsPinned, Does}
+use Rattle.pagable_world.specs.Loads.{Does}
 use Rattle.pagable_world.specs.Workers as workers
 use Rattle.pagable_world.specs.Workers.{Site, PinsAtOnce, answer_after}
 use Rattle.pagable_world.specs.Events.{Ends, Happens}

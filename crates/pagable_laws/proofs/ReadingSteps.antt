@@ -1,15 +1,15 @@
 -- A load's step, as trees feel it: one change, what it does to the plain world with it, and how the load's own blobs grow.
-use Rattle.std.proofs.Common.{◌≡◌, List, [], ◌∷◌, refl, sym, ap, subst, ◌∙◌, inl, inr}
+use Rattle.std.proofs.Common.{◌≡◌, List, [], refl, sym, subst, ◌∙◌, inl, inr}
 use Rattle.std.specs.Prelude.{Option, Some, None, ◌⊎◌, Ok, Err}
 use Rattle.pagable_model.specs.declared.data_key.OptionalDataKey.TheVariants as optional
-use Rattle.pagable_world.specs.Plain.{Error, Blob}
+use Rattle.pagable_world.specs.Plain.{Error}
 use Rattle.pagable_world.specs.declared.handles.Owner.{Owner}
 use Rattle.pagable_world.specs.declared.handles.Owner.TheVariants as owners
 use Rattle.pagable_world.specs.declared.events.LoadAnswer.{LoadAnswer}
 use Rattle.pagable_world.specs.declared.events.LoadAnswer.TheVariants as ends
 use Rattle.pagable_world.specs.World.{Core, OpenLoad, Frame, Reading, Alike, Seen, Values}
 use Rattle.pagable_world.specs.LoadCalls.{EndCall, HandOverCall, first_key}
-use Rattle.pagable_world.specs.Loads.{Does, GoesOn, Meets, Fails, RefusesRoot, LoadIs, IsOfCell, IsOfKey, handles_of, needs_nested, GetsRoot, GetsCached, GetsBlob, GetsLazy, MakesNode, ReadingDoes}
+use Rattle.pagable_world.specs.Loads.{Does, Meets, Fails, RefusesRoot, LoadIs, IsOfCell, IsOfKey, handles_of, GetsRoot, GetsCached, GetsBlob, GetsLazy, MakesNode, ReadingDoes}
 use Rattle.pagable_world.specs.Pager.{HandlesAreWhole}
 use Rattle.pagable_laws.specs.TreeSteps.{Change, nothing_felt, bears_known, ReadingFeels, reads-root, reads-blob, gets-known, gets-lazy, makes-known, makes-node, reading-ends}
 use Rattle.pagable_laws.proofs.Trees.{same_some}

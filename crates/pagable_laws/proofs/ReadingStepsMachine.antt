@@ -13,7 +13,7 @@ use Rattle.pagable_world.specs.declared.events.Took.{Took}
 use Rattle.pagable_world.specs.declared.events.Event.TheVariants as events
 use Rattle.pagable_world.specs.declared.events.Event.{Event}
 use Rattle.pagable_world.specs.Kinds.{owner_worker}
-use Rattle.pagable_world.specs.World.{OpenLoad, Root, of_cell, of_key, Frame, Reading, Todo, to_load, to_write, to_fail, Walking, World, Seen, Values}
+use Rattle.pagable_world.specs.World.{OpenLoad, Root, of_cell, of_key, Frame, Reading, Todo, to_load, to_write, Walking, World, Seen, Values}
 use Rattle.pagable_world.specs.Loads.{ReadingDoes, gone_on}
 use Rattle.pagable_world.specs.Workers as workers
 use Rattle.pagable_world.specs.Workers.{Site, fresh}
@@ -32,21 +32,21 @@ reading-was readings u' are q after is = of (u'.core.loads q) refl (sym (are q) 
     of (Some load) e f = (f, ap is_some e)
 
 -- a reading that makes a step is the machine's, or has just begun at an open load
-pub reading-stands : (u : World) → IsWhole u.core → (l : LoadNumber) (reading : Reading) → reading_at u l ≡ Some reading → (u.work.readings l.0 ≡ Some reading) ⊎ ((reading.frames ≡ []) × (reading.steps ≡ 0) × (reading.load.0 ≤ u.core.last.load))
+pub reading-stands : (u : World) → IsWhole u.core → (l : LoadNumber) (reading : Reading) → reading_at u l ≡ Some reading → (u.work.readings l.0 ≡ Some reading) ⊎ ((reading.frames ≡ []) × (reading.steps ≡ 0) × (reading.load ≡ l) × (l.0 ≤ u.core.last.load))
 reading-stands u whole l reading at = by (u.work.readings l.0) refl at
   where
-    begun : (load : OpenLoad) (root : Root) → u.core.loads l.0 ≡ Some load → reading_of_root l root ≡ Some reading → (reading.frames ≡ []) × (reading.steps ≡ 0) × (reading.load.0 ≤ u.core.last.load)
+    begun : (load : OpenLoad) (root : Root) → u.core.loads l.0 ≡ Some load → reading_of_root l root ≡ Some reading → (reading.frames ≡ []) × (reading.steps ≡ 0) × (reading.load ≡ l) × (l.0 ≤ u.core.last.load)
     begun load (of_cell node t h) there e =
         let same : fresh l t ≡ reading = same_some _ _ e in
         let few = (whole.loads.numbered l.0 (ap is_some there)).1 in
-        (ap (λ (r : Reading). r.frames) (sym same), ap (λ (r : Reading). r.steps) (sym same), subst (λ (r : Reading). r.load.0 ≤ u.core.last.load) same few)
+        (ap (λ (r : Reading). r.frames) (sym same), ap (λ (r : Reading). r.steps) (sym same), ap (λ (r : Reading). r.load) (sym same), few)
     begun load of_key there e = absurd (cc)
 
-    opened : (found : Option OpenLoad) → u.core.loads l.0 ≡ found → reading_of_load l found ≡ Some reading → (reading.frames ≡ []) × (reading.steps ≡ 0) × (reading.load.0 ≤ u.core.last.load)
+    opened : (found : Option OpenLoad) → u.core.loads l.0 ≡ found → reading_of_load l found ≡ Some reading → (reading.frames ≡ []) × (reading.steps ≡ 0) × (reading.load ≡ l) × (l.0 ≤ u.core.last.load)
     opened None there e = absurd (cc)
     opened (Some load) there e = begun load load.root there e
 
-    by : (found : Option Reading) → u.work.readings l.0 ≡ found → reading_at u l ≡ Some reading → (u.work.readings l.0 ≡ Some reading) ⊎ ((reading.frames ≡ []) × (reading.steps ≡ 0) × (reading.load.0 ≤ u.core.last.load))
+    by : (found : Option Reading) → u.work.readings l.0 ≡ found → reading_at u l ≡ Some reading → (u.work.readings l.0 ≡ Some reading) ⊎ ((reading.frames ≡ []) × (reading.steps ≡ 0) × (reading.load ≡ l) × (l.0 ≤ u.core.last.load))
     by (Some r) e f = inl (let g : Some r ≡ Some reading = rw e at f in e ∙ g)
     by None e f = inr (opened (u.core.loads l.0) refl (rw e at f))
 
@@ -72,7 +72,7 @@ module _ {N : Type 0} {v : Values N} {u u' : World} {l : LoadNumber} {reply : Lo
   stepped-load {B} {W} whole event is =
       let P : Event N B W → Type 0 = λ e. IsSteppedReading u e s.reading in
       let stands = reading-stands u whole l s.reading s.at in
-      subst P (sym is) (s.at, elim stands [ inl there ↦ inl (of_caller l.0 there) | inr begun ↦ inr (begun.0, begun.2) ])
+      subst P (sym is) (s.at, elim stands [ inl there ↦ inl (of_caller l.0 there) | inr begun ↦ inr (begun.0, subst (λ (z : LoadNumber). z.0 ≤ u.core.last.load) (sym begun.2) begun.3) ])
 
 -- ---- a load of a worker's
 
@@ -114,3 +114,9 @@ module _ {N B W : Type 0} {m : Seen N B W} {u u' : World} {k : WorkerNumber} {re
   stepped-worker event is r place through reading below todo =
       let P : Event N B W → Type 0 = λ e. IsSteppedReading u e reading in
       subst P (sym is) (s.walking, r, place, through, below, s.at, todo)
+
+-- the reading that makes the step is the machine's, or has just begun
+pub is-reading-of : {N B W : Type 0} (u : World) (event : Event N B W) (reading : Reading) → IsSteppedReading u event reading → IsReadingOf u.work reading ⊎ ((reading.frames ≡ []) × (reading.load.0 ≤ u.core.last.load))
+is-reading-of u (events.LoadStep l) reading stepped = stepped.1
+is-reading-of u (events.WorkerStep k) reading (walking, r, place, through, below, there, todo) = inl (of_worker k.0 place walking r through below there todo)
+is-reading-of u event reading stepped = absurd stepped

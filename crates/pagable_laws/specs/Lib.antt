@@ -13,6 +13,7 @@ pub mod MetLaws
 pub mod StepLaws
 pub mod TreeSteps
 pub mod TreeRuns
+pub mod ReadRuns
 pub mod ReadLaws
 pub mod PageOutLaws
 pub mod KeyRuns

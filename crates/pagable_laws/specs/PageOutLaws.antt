@@ -1,5 +1,5 @@
 -- What tables and workers hold of a page-out, by trees: an invariant of runs, and what follows from it of published and answered keys.
-use Rattle.std.specs.Prelude.{ℕ, ℤ, ◌≡◌, ◌≤◌, List, [], ◌∷◌, drop, length, Option, Some, None, Ok}
+use Rattle.std.specs.Prelude.{ℕ, ℤ, ◌≡◌, ◌≤◌, List, [], ◌∷◌, drop, length, Option, Some, None}
 use Rattle.pagable_model.specs.Meaning.{number, integer, text, pattern, none, pair, variant, reference, followed}
 use Rattle.pagable_model.specs.Reading.{deepest}
 use Rattle.pagable_model.specs.Form.{Form}
