@@ -85,6 +85,7 @@ cleared {w} r c = quiet-then none-known (alike c.leaves)
           nodes = le-self _;
           handles = le-self _;
           loads_last = le-self _;
+          workers_last = le-self _;
           cells = λ n cell is. is;
           stored = λ q blob is. is;
           loads = λ l load is. is;

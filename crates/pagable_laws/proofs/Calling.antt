@@ -49,6 +49,7 @@ closed-load w l =
       nodes = le-self _;
       handles = le-self _;
       loads_last = le-self _;
+      workers_last = le-self _;
       cells = λ n cell is. is;
       stored = λ q blob is. is;
       loads = λ n load is. other (n == l.0) (w.loads n) load is;
@@ -65,7 +66,7 @@ closed-load w l =
 pub was-asked : {w w' : Core} → Asked w w' → Quiet w w'
 was-asked {w} {w'} a =
     let q = alike a.leaves in
-    record { nodes = q.nodes; handles = q.handles; loads_last = q.loads_last; cells = q.cells; stored = q.stored; loads = q.loads; cache = q.cache; rows = q.rows; shut = λ is. q.shut (is.0, is.1) }
+    record { nodes = q.nodes; handles = q.handles; loads_last = q.loads_last; workers_last = q.workers_last; cells = q.cells; stored = q.stored; loads = q.loads; cache = q.cache; rows = q.rows; shut = λ is. q.shut (is.0, is.1) }
 
 was-stored : (key : ℕ) (blob : Blob) (old : ℕ → Option Blob) (new : ℕ → Option Blob) → Adds key blob old new → (q : ℕ) (b : Blob) → old q ≡ Some b → new q ≡ Some b
 was-stored key blob old new adds q b is = at (q == key) refl
@@ -90,7 +91,7 @@ pub stores : {digest : Blob → ℕ} {w w' : Core} {blob : Blob} → (r : Result
 stores {digest} {w} {w'} {blob} (Ok key) c =
     let s = c.stores.1 in
     let q = alike s.leaves in
-    record { nodes = q.nodes; handles = q.handles; loads_last = q.loads_last; cells = q.cells; stored = was-stored key blob w.stored w'.stored s.adds; loads = q.loads; cache = q.cache; rows = q.rows; shut = λ is. absurd (stays-open s.stands_open is.0) }
+    record { nodes = q.nodes; handles = q.handles; loads_last = q.loads_last; workers_last = q.workers_last; cells = q.cells; stored = was-stored key blob w.stored w'.stored s.adds; loads = q.loads; cache = q.cache; rows = q.rows; shut = λ is. absurd (stays-open s.stands_open is.0) }
 stores (Err e) c = was-asked c.refused.0
 
 pub clones : {w w' : Core} {me : Owner} {h : HandleNumber} (r : Result HandleNumber Error) → CloneCall w me h r w' → Quiet w w'

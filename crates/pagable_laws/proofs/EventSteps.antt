@@ -38,12 +38,14 @@ caller-free l is = absurd (cc)
 -- ---- workers that come and go
 
 -- workers come and go, and loads go
-others-work : (w : Core) (loads : ℕ → Option OpenLoad) (workers : ℕ → Bool) (worker : ℕ) → ((l : ℕ) (load : OpenLoad) → loads l ≡ Some load → w.loads l ≡ Some load) → Quiet w (record w { loads = loads; workers = workers; last = record w.last { worker = worker } })
-others-work w loads workers worker fewer =
+others-work : (w : Core) (loads : ℕ → Option OpenLoad) (workers : ℕ → Bool) (worker : ℕ) → w.last.worker ≤ worker → ((l : ℕ) (load : OpenLoad) → loads l ≡ Some load → w.loads l ≡ Some load)
+    → Quiet w (record w { loads = loads; workers = workers; last = record w.last { worker = worker } })
+others-work w loads workers worker more fewer =
     record {
       nodes = le-self _;
       handles = le-self _;
       loads_last = le-self _;
+      workers_last = more;
       cells = λ n cell is. is;
       stored = λ q blob is. is;
       loads = fewer;
@@ -56,7 +58,7 @@ others-work w loads workers worker fewer =
     le-self n = omega arith
 
 worker-ends : {w w' : Core} (v : ℕ) → WorkerEnds w v w' → Quiet w w'
-worker-ends {w} {w'} v f = quiet-then (others-work w (without_worker w v).loads (without_worker w v).workers w.last.worker (λ l load is. left (is_workers_load v (w.loads l)) (w.loads l) load is)) (fell-anyhow f)
+worker-ends {w} {w'} v f = quiet-then (others-work w (without_worker w v).loads (without_worker w v).workers w.last.worker (omega arith) (λ l load is. left (is_workers_load v (w.loads l)) (w.loads l) load is)) (fell-anyhow f)
   where
     left : (b : Bool) (x : Option OpenLoad) (y : OpenLoad) → (if b then None else x) ≡ Some y → x ≡ Some y
     left true x y is = absurd (cc)
@@ -67,7 +69,7 @@ ends-quiet None v e = alike e
 ends-quiet (Some a) v e = worker-ends v e
 
 starts-quiet : (u u' : World) (t : TableNumber) (task : Task) (core : Core) (v : WorkerNumber) → Quiet u.core core → Starts u t task core v u' → Quiet u.core u'.core
-starts-quiet u u' t task core v q s = quiet-then q (quiet-then (others-work core core.loads (with_worker core).workers (core.last.worker + 1) (λ l load is. is)) (alike s.pager))
+starts-quiet u u' t task core v q s = quiet-then q (quiet-then (others-work core core.loads (with_worker core).workers (core.last.worker + 1) (omega arith) (λ l load is. is)) (alike s.pager))
 
 -- ---- readings
 
@@ -192,7 +194,7 @@ module _ {N B W : Type 0} (m : Seen N B W) (u u' : World) where
   event-goes (events.LoadStep l) (answers.LoadMoved (Err e)) open_still is = stays is.refused.1
   event-goes events.TableNew (answers.TableMade (Ok t)) open_still is = let x = is.made in rests (λ n x b. absurd b) (keeps-all u u' x.2 x.3.same_walkings) (alike x.1)
   event-goes events.TableNew (answers.TableMade (Err e)) open_still is = stays is.refused.1
-  event-goes (events.WorkerItem t item) (answers.WorkerMade (Ok v)) open_still is = starts (λ n x b. b) t _ u.core v (others-work u.core u.core.loads u.core.workers u.core.last.worker (λ l load is. is)) is.starts
+  event-goes (events.WorkerItem t item) (answers.WorkerMade (Ok v)) open_still is = starts (λ n x b. b) t _ u.core v (others-work u.core u.core.loads u.core.workers u.core.last.worker (omega arith) (λ l load is. is)) is.starts
   event-goes (events.WorkerItem t item) (answers.WorkerMade (Err e)) open_still is = stays is.refused.1
   event-goes (events.WorkerListed t i) (answers.WorkerMade (Ok v)) open_still is = let x = is.starts in starts (λ n x b. b) t _ _ v (some-moved u.core (only_handle x.0) (owners.Worker v) _ (λ l is. absurd (cc))) x.5
   event-goes (events.WorkerListed t i) (answers.WorkerMade (Err e)) open_still is = stays is.refused.1

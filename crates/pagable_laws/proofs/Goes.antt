@@ -36,6 +36,7 @@ pub record Quiet (w w' : Core) : Type 0 where
   pub nodes : w.last.node ≤ w'.last.node
   pub handles : w.last.handle ≤ w'.last.handle
   pub loads_last : w.last.load ≤ w'.last.load
+  pub workers_last : w.last.worker ≤ w'.last.worker
   pub cells : (n : ℕ) (cell : Cell) → w'.cells n ≡ Some cell → w.cells n ≡ Some cell
   pub stored : (q : ℕ) (b : Blob) → w.stored q ≡ Some b → w'.stored q ≡ Some b
   pub loads : (l : ℕ) (load : OpenLoad) → w'.loads l ≡ Some load → w.loads l ≡ Some load
@@ -54,6 +55,7 @@ pub record Goes (c : Change) (w w' : Core) : Type 0 where
   pub nodes : w.last.node ≤ w'.last.node
   pub handles : w.last.handle ≤ w'.last.handle
   pub loads_last : w.last.load ≤ w'.last.load
+  pub workers_last : w.last.worker ≤ w'.last.worker
   pub cells : (n : ℕ) (cell : Cell) → w'.cells n ≡ Some cell → Kept c w n cell ⊎ ((n ≡ w.last.node + 1) × Bears c cell.node_type cell.key)
   pub stored : (q : ℕ) (b : Blob) → w.stored q ≡ Some b → w'.stored q ≡ Some b
   pub loads : (l : ℕ) (load : OpenLoad) → w'.loads l ≡ Some load → (w.loads l ≡ Some load) ⊎ ((w.last.load < l) × BeginsWell w load)
@@ -185,6 +187,7 @@ quiet-then {w} {m} {w'} a b =
       nodes = let c = a.nodes in let d = b.nodes in omega arith;
       handles = let c = a.handles in let d = b.handles in omega arith;
       loads_last = let c = a.loads_last in let d = b.loads_last in omega arith;
+      workers_last = let c = a.workers_last in let d = b.workers_last in omega arith;
       cells = λ n cell is. a.cells n cell (b.cells n cell is);
       stored = λ q blob is. b.stored q blob (a.stored q blob is);
       loads = λ l load is. a.loads l load (b.loads l load is);
@@ -202,6 +205,7 @@ alike {w} {w'} a =
       nodes = le-of _ _ (ap (λ (l : Last). l.node) a.last);
       handles = le-of _ _ (ap (λ (l : Last). l.handle) a.last);
       loads_last = le-of _ _ (ap (λ (l : Last). l.load) a.last);
+      workers_last = le-of _ _ (ap (λ (l : Last). l.worker) a.last);
       cells = λ n cell is. sym (a.cells n) ∙ is;
       stored = λ q blob is. a.stored q ∙ is;
       loads = λ l load is. sym (a.loads l) ∙ is;
@@ -213,7 +217,7 @@ alike {w} {w'} a =
 -- rows and list alone change
 pub only-rows : {w : Core} {rows : List HandleRow} {list : List HandleNumber} {last : ℕ} → RowsGo w.last.handle w.rows rows → w.last.handle ≤ last → Quiet w (record w { rows = rows; list = list; last = record w.last { handle = last } })
 only-rows {w} go le =
-    record { nodes = le-self w.last.node; handles = le; loads_last = le-self w.last.load; cells = λ n cell is. is; stored = λ q blob is. is; loads = λ l load is. is; cache = λ kind key n is. is; rows = go; shut = λ is. is }
+    record { nodes = le-self w.last.node; handles = le; loads_last = le-self w.last.load; workers_last = le-self w.last.worker; cells = λ n cell is. is; stored = λ q blob is. is; loads = λ l load is. is; cache = λ kind key n is. is; rows = go; shut = λ is. is }
   where
     le-self : (n : ℕ) → n ≤ n
     le-self n = omega arith
@@ -234,6 +238,7 @@ fell {before} {w} {w'} f = quiet-then {m = fallen w f.gone f.entries} falls (ali
           nodes = le-of _ _ refl;
           handles = le-more _ _;
           loads_last = le-of _ _ refl;
+          workers_last = le-of _ _ refl;
           cells = λ n cell is. if-some _ (w.cells n) cell is;
           stored = λ q blob is. is;
           loads = λ l load is. is;
@@ -259,6 +264,7 @@ quiet-goes c q =
       nodes = q.nodes;
       handles = q.handles;
       loads_last = q.loads_last;
+      workers_last = q.workers_last;
       cells = λ n cell is. inl (record { was = cell; live = q.cells n cell is; typed = refl; key = inl refl });
       stored = q.stored;
       loads = λ l load is. inl (q.loads l load is);
@@ -273,6 +279,7 @@ goes-quiet {c} {w} {m} {w'} a b =
       nodes = let c = a.nodes in let d = b.nodes in omega arith;
       handles = let c = a.handles in let d = b.handles in omega arith;
       loads_last = let c = a.loads_last in let d = b.loads_last in omega arith;
+      workers_last = let c = a.workers_last in let d = b.workers_last in omega arith;
       cells = λ n cell is. a.cells n cell (b.cells n cell is);
       stored = λ q blob is. b.stored q blob (a.stored q blob is);
       loads = λ l load is. a.loads l load (b.loads l load is);
@@ -295,6 +302,7 @@ born c w t key references bears =
       nodes = le-more _ _;
       handles = le-self _;
       loads_last = le-self _;
+      workers_last = le-self _;
       cells = λ n cell is. elim (at-updated _ _ w.cells n cell is) [
         | inl (next, e) ↦ let f : record { node_type = t; key = key } ≡ cell = cc in inr (next, subst (λ (x : Cell). Bears c x.node_type x.key) f bears)
         | inr there ↦ inl (record { was = cell; live = there; typed = refl; key = inl refl })
@@ -316,6 +324,7 @@ keyed w node key =
       nodes = le-self _;
       handles = le-self _;
       loads_last = le-self _;
+      workers_last = le-self _;
       cells = λ n cell is. elim (at-updated _ _ w.cells n cell is) [
         | inl (at, e) ↦ inl (subst (λ k. Kept (sets_key node.0 key) w k cell) (sym at) (keyed-cell w node.0 key cell (w.cells node.0) refl e))
         | inr there ↦ inl (record { was = cell; live = there; typed = refl; key = inl refl })
@@ -333,6 +342,7 @@ begun c w key root me well =
       nodes = le-self _;
       handles = le-self _;
       loads_last = le-more _ _;
+      workers_last = le-self _;
       cells = λ n cell is. inl (record { was = cell; live = is; typed = refl; key = inl refl });
       stored = λ q blob is. is;
       loads = λ l load is. elim (at-updated _ _ w.loads l load is) [
@@ -354,6 +364,7 @@ quiet-begins {w} {m} {w'} a b =
       nodes = let c = a.nodes in let d = b.nodes in omega arith;
       handles = let c = a.handles in let d = b.handles in omega arith;
       loads_last = let c = a.loads_last in let d = b.loads_last in omega arith;
+      workers_last = let c = a.workers_last in let d = b.workers_last in omega arith;
       cells = λ n cell is. elim (b.cells n cell is) [
         | inl k ↦ inl (record { was = k.was; live = a.cells n k.was k.live; typed = k.typed; key = kept-key k })
         | inr (next, bears) ↦ absurd bears
@@ -394,6 +405,7 @@ goes-known {c} {w} {m} a kind key n knows =
       nodes = a.nodes;
       handles = a.handles;
       loads_last = a.loads_last;
+      workers_last = a.workers_last;
       cells = a.cells;
       stored = a.stored;
       loads = a.loads;

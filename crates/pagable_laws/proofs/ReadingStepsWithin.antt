@@ -24,7 +24,6 @@ use Rattle.pagable_world.specs.Order.{Unfolds, unfolds, HasStepLeft, IsWithinBou
 use Rattle.pagable_world.specs.Headline.{StepIsWithin, StepsAreWithin, LoadsHaveStepsLeft}
 use Rattle.pagable_laws.specs.ReadLaws.{KeepsStored}
 use Rattle.pagable_laws.specs.TreeSteps.{Change, ReadingFeels}
-use Rattle.pagable_laws.specs.BoundLaws.{LoadsAreBounded}
 use Rattle.pagable_laws.proofs.Trees.{same_some}
 use Rattle.pagable_laws.proofs.Goes.{IsShut, NotLoads, at-updated}
 use Rattle.pagable_laws.proofs.EventSteps.{event-goes}
@@ -231,9 +230,7 @@ module _ {N E B W : Type 0} (m : Seen N B W) where
   steps-left s (inl shut) l reading load is open_load = λ many longest under. absurd (nothing-unfolds shut.1 under)
   steps-left s (inr all) l reading load is open_load = has-left reading (all l reading load is open_load)
 
-pub loads_bounded : {N B W : Type 0} (E : Type 0) (m : Seen N B W) → LoadsAreBounded E m
-loads_bounded E m =
-    record {
-      left = λ start moments whole idle chain. steps-left m (state_after start moments) (along m start moments chain whole (idle-stands m start idle)).1;
-      within = λ start moments whole idle chain. (along m start moments chain whole (idle-stands m start idle)).0;
-    }
+-- of a chain from where nobody works: each step of a load is within its bound, and an open load has a step left
+pub loads-bounded : {N E B W : Type 0} (m : Seen N B W) (start : MachineState N E) (moments : List (Moment N E B W)) → IsMachineWhole m.values start → IsIdle start → AreMoments m start moments
+    → StepsAreWithin m.values start moments × LoadsHaveStepsLeft m.values (world_of (state_after start moments))
+loads-bounded m start moments whole idle chain = let a = along m start moments chain whole (idle-stands m start idle) in (a.0, steps-left m (state_after start moments) a.1)

@@ -7,7 +7,6 @@ pub mod SmallWorlds
 pub mod FallLaws
 pub mod RunLaws
 pub mod OrderLaws
-pub mod BoundLaws
 pub mod StepLaws
 pub mod TreeSteps
 pub mod TreeRuns

@@ -20,6 +20,7 @@ pub record StoredStays (w w' : Core) : Type 0 where
   pub nodes : w.last.node ≤ w'.last.node
   pub handles : w.last.handle ≤ w'.last.handle
   pub loads : w.last.load ≤ w'.last.load
+  pub workers : w.last.worker ≤ w'.last.worker
 
 -- of each call by the caller or a worker, but for the one that closes the storage
 pub record CallsKeep {N B W : Type 0} (m : Seen N B W) : Type 0 where

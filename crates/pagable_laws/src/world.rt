@@ -4,7 +4,7 @@ ghost use Rattle.pagable_world.specs.World.{Seen};
 ghost use Rattle.pagable_laws.specs.FallLaws.{IsThere, IsOne, IsGivenAlone, PinsAreAFilter, TwoLevelsFall, LoneIsListed};
 ghost use Rattle.pagable_laws.specs.ReadLaws.{AllGoOn, AsksNext, DecodesWell, PinStands, ReadStands};
 ghost use Rattle.pagable_laws.specs.LevelLaws.{TwoLevelsMeetPremises};
-ghost use Rattle.pagable_laws.specs.RunLaws.{ChainsJoin, NewIsWhole, NextIsOneOf, StepsFollow, IsOnceEach, KeysTellTheirTrees};
+ghost use Rattle.pagable_laws.specs.RunLaws.{ChainsJoin, NewIsWhole, NextIsOneOf, KeysTellTheirTrees};
 
 use crate::values::is_key_of_one_tree;
 
@@ -64,17 +64,6 @@ pub fn new_is_whole<N: SeenAs<B, W>, B, W, E>()
 #[tactic(auto, using(crate::proofs::Nexts::next_is_one))]
 pub fn next_is_one()
     ensures { NextIsOneOf }
-{}
-
-/// Whatever a worker does is a step of the automaton of its order.
-#[tactic(auto, using(crate::proofs::Nexts::steps_follow))]
-pub fn steps_follow<N: SeenAs<B, W>, B, W>()
-    ensures { StepsFollow N.seen }
-{}
-
-/// What that automaton accepts, with no identity claimed twice, has each stage at most once after its claim.
-pub fn is_once_each<N: SeenAs<B, W>, B, W>()
-    ensures { IsOnceEach N.seen }
 {}
 
 /// Of stored trees of canonical types the keys are equal exactly if the trees are: the law of values, in every store.
