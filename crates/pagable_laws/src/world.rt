@@ -3,7 +3,7 @@
 ghost use Rattle.pagable_world.specs.World.{Seen};
 ghost use Rattle.pagable_laws.specs.FallLaws.{IsThere, IsOne, IsGivenAlone, PinsAreAFilter, TwoLevelsFall, LoneIsListed};
 ghost use Rattle.pagable_laws.specs.ReadLaws.{AllGoOn, AsksNext, DecodesWell, PinStands, ReadStands};
-ghost use Rattle.pagable_laws.specs.LevelLaws.{TwoLevelsMeetPremises};
+ghost use Rattle.pagable_laws.specs.LevelLaws.{TwoLevelsMeetTheHeadline};
 ghost use Rattle.pagable_laws.specs.RunLaws.{ChainsJoin, NewIsWhole, NextIsOneOf, KeysTellTheirTrees};
 
 use crate::values::is_key_of_one_tree;
@@ -101,8 +101,8 @@ pub fn what_is_pinned_stands<N: SeenAs<B, W>, B, W, E>()
     ensures { PinStands E N.seen.values }
 {}
 
-/// A chain of two levels meets all that the headline asks: births, a page-out, an eviction, and loads of parent and child.
-#[tactic(auto, using(crate::proofs::Level::premises_met))]
-pub fn two_levels_meet_premises()
-    ensures { TwoLevelsMeetPremises }
+/// The headline is met with all that it asks by a chain of two levels: births, a page-out, an eviction, and loads of cells and of a key.
+#[tactic(auto, using(crate::proofs::Level::headline_met))]
+pub fn two_levels_meet_the_headline()
+    ensures { TwoLevelsMeetTheHeadline }
 {}
