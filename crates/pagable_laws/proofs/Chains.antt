@@ -1,4 +1,4 @@
--- Trees stay along chains, pins give them, and keys are right.
+-- Trees stay along chains, pins and reads give them, and keys are right.
 use Rattle.std.proofs.Common.{ℕ, List, [], ◌∷◌, Ok}
 use Rattle.pagable_world.specs.declared.events.Event.{Event}
 use Rattle.pagable_world.specs.declared.events.Event.TheVariants as events
@@ -8,14 +8,15 @@ use Rattle.pagable_world.specs.declared.calls.Call.TheVariants as calls
 use Rattle.pagable_world.specs.declared.calls.Reply.TheVariants as replies
 use Rattle.pagable_world.specs.declared.answers.Pinning.TheVariants as pinnings
 use Rattle.pagable_world.specs.Plain.{HandleNumber, Tree}
-use Rattle.pagable_world.specs.World.{Values, Seen, IsLawful}
-use Rattle.pagable_world.specs.Pager.{MachineState, world_of, IsMachineWhole, IsIdle, StandsFor, of_caller, of_worker}
+use Rattle.pagable_world.specs.World.{Reading, Values, Seen, IsLawful}
+use Rattle.pagable_world.specs.Pager.{MachineState, world_of, IsMachineWhole, IsIdle, StandsFor, IsReadingOf, of_caller, of_worker}
 use Rattle.pagable_world.specs.Runs.{HoldsSettled, ReadsItsTypes, Moment, AreMoments, TreesAlong}
 use Rattle.pagable_world.specs.Headline.{GivesTree, PinGives}
 use Rattle.pagable_laws.specs.TreeSteps.{HasPin, PinHolds}
-use Rattle.pagable_laws.specs.TreeRuns.{ReadingsGiven, PinsAndKeys, TreesStay}
+use Rattle.pagable_laws.specs.TreeRuns.{ReadingsGiven, PinsReadsAndKeys, TreesStay}
 use Rattle.pagable_laws.specs.PageOutLaws.{WorkFits}
 use Rattle.pagable_laws.specs.KeyRuns.{KeysHeld}
+use Rattle.pagable_laws.specs.ReadRuns.{ReadingsHeld}
 use Rattle.pagable_laws.proofs.Taking.{pin_stands}
 use Rattle.pagable_laws.proofs.Lasting.{keeps-trees}
 use Rattle.pagable_laws.proofs.Publishing.{fits_at_first, fits_on}
@@ -23,6 +24,8 @@ use Rattle.pagable_laws.proofs.Answering.{fits_give_keys}
 use Rattle.pagable_laws.proofs.KeysGoing.{held_at_first, held_on, held_gives_ready}
 use Rattle.pagable_laws.proofs.PinSteps.{pins-hold}
 use Rattle.pagable_laws.proofs.EventSteps.{does-feels}
+use Rattle.pagable_laws.proofs.ReadingStepsHeld.{event-held}
+use Rattle.pagable_laws.proofs.ReadingStepsGive.{reads-give}
 
 module _ {N E B W : Type 0} (m : Seen N B W) (s s' : MachineState N E) (trees trees' : ℕ → Tree) (whole : IsMachineWhole m.values s') (stands : StandsFor m.values s' trees') where
   given-tree : (k : HandleNumber) → HasPin s'.pager.core k → GivesTree m.values s'.pager trees' k
@@ -43,16 +46,17 @@ record IsGoingOn {N E : Type 0} (v : Values N) (s : MachineState N E) (trees : �
   given : ReadingsGiven s
   fits : WorkFits v s trees
   held : KeysHeld (world_of s)
+  reads : ReadingsHeld (world_of s)
 
 module _ {N E B W : Type 0} (m : Seen N B W) (lawful : IsLawful m.values) (readable : ReadsItsTypes m.values.types) where
   idle-goes : (s : MachineState N E) (trees : ℕ → Tree) → IsMachineWhole m.values s → IsIdle s → HoldsSettled m.values s.pager → StandsFor m.values s trees → IsGoingOn m.values s trees
-  idle-goes s trees whole idle settled stands = record { whole = whole; settled = settled; stands = stands; given = none-given; fits = fits_at_first E m.values s trees idle; held = held_at_first N E s idle }
+  idle-goes s trees whole idle settled stands = record { whole = whole; settled = settled; stands = stands; given = λ reading is. absurd (none-reads reading is); fits = fits_at_first E m.values s trees idle; held = held_at_first N E s idle; reads = λ reading is. absurd (none-reads reading is) }
     where
-      none-given : ReadingsGiven s
-      none-given reading (of_caller l is) = let f = idle.readings l in absurd (cc)
-      none-given reading (of_worker n place walking r through below is todo) = let f = idle.walkings n in absurd (cc)
+      none-reads : (reading : Reading) → IsReadingOf s.work reading → ⊥
+      none-reads reading (of_caller l is) = let f = idle.readings l in cc
+      none-reads reading (of_worker n place walking r through below is todo) = let f = idle.walkings n in cc
 
-  stay : (s : MachineState N E) (trees : ℕ → Tree) (moments : List (Moment N E B W)) → IsGoingOn m.values s trees → AreMoments m s moments → TreesAlong m (PinsAndKeys m.values) s trees moments
+  stay : (s : MachineState N E) (trees : ℕ → Tree) (moments : List (Moment N E B W)) → IsGoingOn m.values s trees → AreMoments m s moments → TreesAlong m (PinsReadsAndKeys m.values) s trees moments
   stay s trees [] on does = tt
   stay s trees (x ∷ xs) on (does, more) = λ premised.
       let feels = does-feels m s x.after trees x.event x.reply on.whole on.fits premised.stays_open does in
@@ -61,11 +65,11 @@ module _ {N E B W : Type 0} (m : Seen N B W) (lawful : IsLawful m.values) (reada
       let fits = fits_on E m s x.after x.event x.reply trees a.after on.whole on.settled readable on.stands a.keeps (record { kept = feels.core.stored; last = feels.core.nodes }) does on.fits in
       let held = held_on E m s x.after x.event x.reply on.whole premised.stays_open does on.held in
       let pins = pins-hold m (world_of s) (world_of x.after) x.event x.reply on.whole.pager.whole.handles does.step.happens in
-      let so : PinsAndKeys m.values s trees x.event x.reply x.after a.after =
-      record { pins_give = pin-gives m s x.after trees a.after does.whole a.stands x.event x.reply pins; keys = fits_give_keys E m s x.after x.event x.reply trees a.after does a.stands on.fits fits held } in (
+      let so : PinsReadsAndKeys m.values s trees x.event x.reply x.after a.after =
+      record { pins_give = pin-gives m s x.after trees a.after does.whole a.stands x.event x.reply pins; reads_give = reads-give m lawful readable s x.after trees a.after on.whole does.whole on.stands on.given on.reads a.keeps a.stands x.event x.reply does; keys = fits_give_keys E m s x.after x.event x.reply trees a.after does a.stands on.fits fits held } in (
         a.after,
         record { keeps = a.keeps; stands = a.stands; so = so },
-        stay x.after a.after xs (record { whole = does.whole; settled = premised.settled; stands = a.stands; given = a.given; fits = fits; held = held }) more,
+        stay x.after a.after xs (record { whole = does.whole; settled = premised.settled; stands = a.stands; given = a.given; fits = fits; held = held; reads = event-held m.values on.reads x.event x.reply feels.core feels.feels }) more,
       )
 
 pub trees_stay : {N B W E : Type 0} (m : Seen N B W) → TreesStay E m

@@ -1,8 +1,8 @@
 -- What trees feel of each event that doesn't close the storage.
-use Rattle.std.proofs.Common.{◌≡◌, ℕ, ◌+◌, ◌<◌, ◌≤◌, Bool, true, false, List, [], ◌∷◌, ◌++◌, refl, sym, ap, subst, ◌∙◌, inl, inr, arith}
+use Rattle.std.proofs.Common.{◌≡◌, ℕ, ◌+◌, ◌<◌, ◌≤◌, Bool, true, false, List, [], ◌∷◌, refl, sym, ap, subst, ◌∙◌, inl, inr, arith}
 use Rattle.std.specs.Prelude.{Option, Some, None, ◌⊎◌, Ok, Err, Result, is_some, if◌then◌else◌}
 use Rattle.pagable_model.specs.declared.data_key.OptionalDataKey.TheVariants as optional
-use Rattle.pagable_world.specs.Plain.{Error, ArcRef, HandleNumber, LoadNumber, WorkerNumber, Tree, updated, if_there}
+use Rattle.pagable_world.specs.Plain.{Error, HandleNumber, LoadNumber, WorkerNumber, Tree, updated, if_there}
 use Rattle.pagable_world.specs.declared.handles.Owner.TheVariants as owners
 use Rattle.pagable_world.specs.declared.answers.Beginning.{Beginning}
 use Rattle.pagable_world.specs.declared.answers.Beginning.TheVariants as beginnings
@@ -15,8 +15,8 @@ use Rattle.pagable_world.specs.declared.events.TableNumber.{TableNumber}
 use Rattle.pagable_world.specs.declared.events.WorkerAnswer.{WorkerAnswer}
 use Rattle.pagable_world.specs.declared.events.WorkerReply.{WorkerReply}
 use Rattle.pagable_world.specs.Cascade.{only_handle}
-use Rattle.pagable_world.specs.World.{Core, Cell, Last, OpenLoad, Reading, Shelf, Todo, to_start, to_load, to_finish, to_item, to_release, Task, of_item, of_entry, Walking, World, Alike, Seen, Values, type_at, key_at}
-use Rattle.pagable_world.specs.Workers.{Site, first_todo, next_start, fresh, without_worker, WorkerEnds, is_workers_load, answer_after}
+use Rattle.pagable_world.specs.World.{Core, Cell, Last, OpenLoad, Reading, Shelf, Todo, to_start, to_finish, to_item, to_release, Task, of_item, of_entry, Walking, World, Alike, Seen, Values, type_at, key_at}
+use Rattle.pagable_world.specs.Workers.{Site, first_todo, fresh, without_worker, WorkerEnds, is_workers_load, answer_after}
 use Rattle.pagable_world.specs.LoadCalls.{BeginsKey}
 use Rattle.pagable_world.specs.Events.{ReadingsAre, Stays, begun_readings, KeyStarted, Starts, new_walking, Ends, WorkerSteps, Happens, with_worker}
 use Rattle.pagable_world.specs.Pager.{MachineState, world_of, IsWhole, HandlesAreWhole, IsMachineWhole, IsNewNode, EventBrings, TodoBrings, IsReadingOf, of_caller, of_worker}
@@ -30,7 +30,7 @@ use Rattle.pagable_laws.proofs.Calling.{some-moved, begins, begins-key}
 use Rattle.pagable_laws.proofs.Called.{calls-go}
 use Rattle.pagable_laws.proofs.ReadingSteps.{reading-feels, feels-alike}
 use Rattle.pagable_laws.proofs.ReadingStepsMachine.{reading-was, steps-load, stepped-load, steps-worker, stepped-worker}
-use Rattle.pagable_laws.proofs.WalkSteps.{NoLoad, WaitsWell, LoadsAnew, WalkFeels, walk-loads, walk-sets, walk-rests, walk-goes}
+use Rattle.pagable_laws.proofs.WalkSteps.{NoLoad, WaitsWell, front_reading, IsFresh, LoadsAnew, started, WalkFeels, walk-loads, walk-sets, walk-rests, walk-goes}
 
 caller-free : NotLoads owners.Caller
 caller-free l is = absurd (cc)
@@ -83,29 +83,26 @@ module _ (u u' : World) where
 
   -- one worker is another afterwards, and has at most begun a load
   keeps-but : ReadingsAre u.work.readings u' → (k : ℕ) (now : Walking) → ((n : ℕ) → u'.work.walkings n ≡ updated k (Some now) u.work.walkings n)
-      → ((r : ArcRef) (place : ℕ) (through : HandleNumber) (reading : Reading) (below : List Todo) → now.todo ≡ to_load r place through reading ∷ below → (reading.frames ≡ []) × (reading.load.0 ≤ u'.core.last.load)) → KeepsReadings u u'
+      → ((reading : Reading) → front_reading now.todo ≡ Some reading → IsFresh u'.core reading) → KeepsReadings u u'
   keeps-but are k now same anew reading (of_caller q is) = inl (callers-keep are q reading is)
   keeps-but are k now same anew reading (of_worker n place walking r through below there todo) = elim (at-updated k (Some now) u.work.walkings n walking (sym (same n) ∙ there)) [
-    | inl (here, e) ↦ inr (anew r place through reading below (ap (λ (w : Walking). w.todo) (same_some _ _ e) ∙ todo))
+    | inl (here, e) ↦ inr (anew reading (ap front_reading (ap (λ (w : Walking). w.todo) (same_some _ _ e) ∙ todo)))
     | inr old ↦ inl (of_worker n place walking r through below old todo)
   ]
 
-  keeps-begun : (key t : ℕ) (b : Beginning) → ReadingsAre (begun_readings b t u.work.readings) u' → ((l : LoadNumber) (k : ℕ) → b ≡ beginnings.Load l k → l.0 ≤ u'.core.last.load) → ((n : ℕ) → u'.work.walkings n ≡ u.work.walkings n) → KeepsReadings u u'
-  keeps-begun key t beginnings.InMemory are within same reading is = keeps-all are same reading is
-  keeps-begun key t (beginnings.Load l k) are within same reading (of_worker n place walking r through below there todo) = inl (of_worker n place walking r through below (sym (same n) ∙ there) todo)
-  keeps-begun key t (beginnings.Load l k) are within same reading (of_caller q is) = elim (at-updated l.0 (Some (fresh l t)) u.work.readings q reading (reading-was (updated l.0 (Some (fresh l t)) u.work.readings) u' are q reading is).0) [
-    | inl (here, e) ↦ let f : fresh l t ≡ reading = same_some _ _ e in inr (ap (λ (x : Reading). x.frames) (sym f), subst (λ (x : Reading). x.load.0 ≤ u'.core.last.load) f (within l k refl))
+  keeps-begun : (t : ℕ) (b : Beginning) → ReadingsAre (begun_readings b t u.work.readings) u' → ((l : LoadNumber) (k : ℕ) → b ≡ beginnings.Load l k → l.0 ≤ u'.core.last.load)
+      → ((n : ℕ) → u'.work.walkings n ≡ u.work.walkings n) → KeepsReadings u u'
+  keeps-begun t beginnings.InMemory are within same reading is = keeps-all are same reading is
+  keeps-begun t (beginnings.Load l k) are within same reading (of_worker n place walking r through below there todo) = inl (of_worker n place walking r through below (sym (same n) ∙ there) todo)
+  keeps-begun t (beginnings.Load l k) are within same reading (of_caller q is) = elim (at-updated l.0 (Some (fresh l t)) u.work.readings q reading (reading-was (updated l.0 (Some (fresh l t)) u.work.readings) u' are q reading is).0) [
+    | inl (here, e) ↦ let f : fresh l t ≡ reading = same_some _ _ e in inr (subst (λ x. IsFresh u'.core x) f (refl, within l k refl))
     | inr old ↦ inl (of_caller q old)
   ]
 
 -- a new worker has no load
-first-no-load : (task : Task) (r : ArcRef) (place : ℕ) (through : HandleNumber) (reading : Reading) (below : List Todo) → first_todo task ≡ to_load r place through reading ∷ below → ⊥
-first-no-load (of_entry h i) r place through reading below is = absurd (cc)
-first-no-load (of_item written) r place through reading below is = started _ is
-  where
-    started : (rs : List ArcRef) → next_start 0 rs ++ to_item written [] ∷ [] ≡ to_load r place through reading ∷ below → ⊥
-    started [] is = absurd (cc)
-    started (x ∷ xs) is = absurd (cc)
+first-no-load : (task : Task) → front_reading (first_todo task) ≡ None
+first-no-load (of_entry h i) = refl
+first-no-load (of_item written) = started 0 _ _ [] refl
 
 -- ---- events
 
@@ -123,22 +120,25 @@ module _ {N B W : Type 0} (m : Seen N B W) (u u' : World) where
   abbrev EG : Event N B W → EventReply N B W → Type 0
   EG event reply = EventGoes m u event reply u'
 
-  rests : {event : Event N B W} {reply : EventReply N B W} → ((n : ℕ) (x : N) → EventBrings m.values u event n x → IsNewNode u.core n ⊎ StaysAway u.core u'.core n) → KeepsReadings u u' → Quiet u.core u'.core → EG event reply
+  rests : {event : Event N B W} {reply : EventReply N B W} → ((n : ℕ) (x : N) → EventBrings m.values u event n x → IsNewNode u.core n ⊎ StaysAway u.core u'.core n)
+      → KeepsReadings u u' → Quiet u.core u'.core → EG event reply
   rests brings keeps q = record { change = nothing_felt; goes = quiet-goes nothing_felt q; feels = λ whole well. by-nothing brings keeps }
 
   stays : {event : Event N B W} {reply : EventReply N B W} → Stays u u' → EG event reply
   stays s = rests (λ n x b. inr (alike-away s.core n)) (keeps-all u u' s.readings s.work.walkings) (alike s.core)
 
-  starts : {event : Event N B W} {reply : EventReply N B W} → ((n : ℕ) (x : N) → EventBrings m.values u event n x → ⊥) → (t : TableNumber) (task : Task) (core : Core) (v : WorkerNumber) → Quiet u.core core → Starts u t task core v u' → EG event reply
+  starts : {event : Event N B W} {reply : EventReply N B W} → ((n : ℕ) (x : N) → EventBrings m.values u event n x → ⊥)
+      → (t : TableNumber) (task : Task) (core : Core) (v : WorkerNumber) → Quiet u.core core → Starts u t task core v u' → EG event reply
   starts none t task core v q s =
-      rests (λ n x b. absurd (none n x b)) (keeps-but u u' s.readings v.0 (new_walking t task) s.work.same_walkings (λ r place through reading below is. absurd (first-no-load task r place through reading below is))) (starts-quiet u u' t task core v q s)
+      rests (λ n x b. absurd (none n x b)) (keeps-but u u' s.readings v.0 (new_walking t task) s.work.same_walkings (λ reading is. let first = first-no-load task in absurd (cc)))
+      (starts-quiet u u' t task core v q s)
 
   load-starts : (h : HandleNumber) (r : Result Beginning Error) → Happens m u (events.LoadStart h) (answers.Started r) u' → EG (events.LoadStart h) (answers.Started r)
   load-starts h r is = record { change = nothing_felt; goes = begins r is.step; feels = λ whole well. by-nothing (λ n x b. absurd b) (keeps-all u u' is.readings is.work.walkings) }
 
   key-starts : (key t : ℕ) (r : Result Beginning Error) → KeyStarted u key t r u' → EG (events.LoadKey key t) (answers.Started r)
   key-starts key t (Err e) is = record { change = nothing_felt; goes = begins-key (Err e) is.step; feels = λ whole well. by-nothing (λ n x b. absurd b) (keeps-all u u' is.refused is.work.walkings) }
-  key-starts key t (Ok b) is = record { change = nothing_felt; goes = begins-key (Ok b) is.step; feels = λ whole well. by-nothing (λ n x b. absurd b) (keeps-begun u u' key t b is.begun (within b is.step.begins) is.work.walkings) }
+  key-starts key t (Ok b) is = record { change = nothing_felt; goes = begins-key (Ok b) is.step; feels = λ whole well. by-nothing (λ n x b. absurd b) (keeps-begun u u' t b is.begun (within b is.step.begins) is.work.walkings) }
     where
       within : (b : Beginning) → BeginsKey u.core owners.Caller key b u'.core → (l : LoadNumber) (k : ℕ) → b ≡ beginnings.Load l k → l.0 ≤ u'.core.last.load
       within beginnings.InMemory does l k is = absurd does
@@ -152,7 +152,11 @@ module _ {N B W : Type 0} (m : Seen N B W) (u u' : World) where
   load-steps l reply is =
       let x = is.moves in
       let f = reading-feels m u.core owners.Caller caller-free u'.core x.reading reply.ended x.frames x.does in
-      record { change = f.change; goes = f.goes; feels = λ whole well. by-reading f.change x.reading reply.ended x.frames (stepped-load x {B = B} {W = W} whole (events.LoadStep l) refl) f.opens (f.feels whole.handles) (steps-load x) }
+      record {
+        change = f.change;
+        goes = f.goes;
+        feels = λ whole well. by-reading f.change x.reading reply.ended x.frames (stepped-load x {B = B} {W = W} whole (events.LoadStep l) refl) f.opens (f.feels whole.handles) (steps-load x);
+      }
 
   module _ (k : WorkerNumber) (reply : WorkerReply W) (s : WorkerSteps m u k reply u') where
     abbrev site : Site
@@ -163,7 +167,7 @@ module _ {N B W : Type 0} (m : Seen N B W) (u u' : World) where
         let q = ends-quiet reply.answer k.0 s.ends in
         let le = q.loads_last in
         keeps-but u u' s.readings k.0 (record s.walking { todo = s.after.todo; steps = reply.steps; answer = reply.answer }) s.work.same_walkings
-        (λ r place through reading below is. let a = anew r place through reading below is in let b = a.1 in (a.0, omega (arith, b, le)))
+        (λ reading is. let a = anew reading is in let b = a.1 in (a.0, omega (arith, b, le)))
 
     worker-feels : (c : Change) → WalkFeels m k.0 site s.after s.walking.todo c → IsWhole u.core → EventFeels {B = B} m.values u (events.WorkerStep k) (answers.WorkerMoved (Ok reply)) u' c
     worker-feels c (walk-loads c2 r place through reading below todo t opens feels) whole =
@@ -172,7 +176,8 @@ module _ {N B W : Type 0} (m : Seen N B W) (u u' : World) where
         by-reading c reading t.answer t.frames (stepped-worker s (events.WorkerStep k) refl r place through reading below todo) opens (feels-alike (feels whole.handles) last) (steps-worker s t)
     worker-feels c (walk-sets r through key height below row todo live own loose anew) whole =
         by-key k key row refl (record { walking = s.walking; r = r; through = through; height = height; below = below; there = s.at; sets = todo; live = live; own = own; loose = loose }) (now anew)
-    worker-feels c (walk-rests none anew) whole = by-nothing (λ n x (walking, at, brings). let same : walking ≡ s.walking = same_some _ _ (sym at ∙ s.at) in absurd (none n x (subst (λ (z : Walking). TodoBrings m.values u.core z.todo n x) same brings))) (now anew)
+    worker-feels c (walk-rests none anew) whole =
+        by-nothing (λ n x (walking, at, brings). absurd (none n x (subst (λ (z : Walking). TodoBrings m.values u.core z.todo n x) (same_some _ _ (sym at ∙ s.at)) brings))) (now anew)
 
     worker-steps : EG (events.WorkerStep k) (answers.WorkerMoved (Ok reply))
     worker-steps =
@@ -256,8 +261,9 @@ walks-well v g shelf n task (to_release r key height ∷ below) walks = waits-we
 walks-well v g shelf n task todo walks = tt
 
 -- each event of a whole machine is felt
-pub does-feels : {N B W E : Type 0} (m : Seen N B W) (s s' : MachineState N E) (trees : ℕ → Tree) (event : Event N B W) (reply : EventReply N B W) → IsMachineWhole m.values s → WorkFits m.values s trees → KeepsOpen event → Does m s event reply s'
-    → StepFeels m.values (world_of s) event reply (world_of s')
+pub does-feels : {N B W E : Type 0} (m : Seen N B W) (s s' : MachineState N E) (trees : ℕ → Tree) (event : Event N B W) (reply : EventReply N B W)
+    → IsMachineWhole m.values s → WorkFits m.values s trees → KeepsOpen event → Does m s event reply s' → StepFeels m.values (world_of s) event reply (world_of s')
 does-feels m s s' trees event reply whole fits open_still does =
     let g = event-goes m (world_of s) (world_of s') event reply open_still does.step.happens in
-    record { change = g.change; core = core-goes g.change whole.pager.whole.handles g.goes; feels = g.feels whole.pager.whole (λ n walking is. walks-well m.values _ _ n walking.task walking.todo (fits.walks n walking is)) }
+    let well : AllWaitWell (world_of s) = λ n walking is. walks-well m.values _ _ n walking.task walking.todo (fits.walks n walking is) in
+    record { change = g.change; core = core-goes g.change whole.pager.whole.handles g.goes; feels = g.feels whole.pager.whole well }

@@ -19,7 +19,7 @@ use Rattle.pagable_world.specs.Runs.{ReadsItsTypes, Does}
 use Rattle.pagable_world.specs.Headline.{ReadIsRight, ReadGives}
 use Rattle.pagable_laws.specs.TreeSteps.{HandsOver}
 use Rattle.pagable_laws.specs.TreeRuns.{ReadingsGiven}
-use Rattle.pagable_laws.specs.ReadRuns.{ReadingsHeld, ReadsGive}
+use Rattle.pagable_laws.specs.ReadRuns.{ReadingsHeld}
 use Rattle.pagable_laws.proofs.Goes.{NotLoads}
 use Rattle.pagable_laws.proofs.Fitting.{inside, frames_go_on}
 use Rattle.pagable_laws.proofs.Decoding.{decodes}
@@ -75,11 +75,8 @@ module _ {N E B W : Type 0} (m : Seen N B W) (lawful : IsLawful m.values) (reada
         root-right lawful readable s'.pager trees' reading x load.key whole'.pager stands'.pager after root (owned reading is load.key fit x root hands)
   ]
 
-  gives : (event : Event N B W) (reply : EventReply N B W) → Does m s event reply s' → ReadGives m.values s trees event reply s' trees'
-  gives (events.LoadStep l) (answers.LoadMoved (Ok reply)) does = λ load x open_load ended.
+  pub reads-give : (event : Event N B W) (reply : EventReply N B W) → Does m s event reply s' → ReadGives m.values s trees event reply s' trees'
+  reads-give (events.LoadStep l) (answers.LoadMoved (Ok reply)) does = λ load x open_load ended.
       let h = reads-hold m (world_of s) (world_of s') whole.pager.whole.handles (events.LoadStep l) (answers.LoadMoved (Ok reply)) does.step.happens x ended in
       reading-right l reply does.step.happens.moves h.0 h.1 x h.2 h.3 load open_load
-  gives event reply does = tt
-
-pub reads_give : {N B W : Type 0} (E : Type 0) (m : Seen N B W) → ReadsGive E m
-reads_give E m lawful readable s s' trees trees' event reply whole stands given held does same stands' = gives m lawful readable s s' trees trees' whole does.whole stands given held same stands' event reply does
+  reads-give event reply does = tt

@@ -7,11 +7,10 @@ use Rattle.pagable_world.specs.declared.events.Event.{Event}
 use Rattle.pagable_world.specs.declared.events.EventReply.{EventReply}
 use Rattle.pagable_world.specs.declared.events.LoadAnswer.{LoadAnswer}
 use Rattle.pagable_world.specs.Kinds.{fits_mode}
-use Rattle.pagable_world.specs.World.{Core, Frame, Reading, World, Values, Seen}
+use Rattle.pagable_world.specs.World.{Core, Frame, Reading, World, Values}
 use Rattle.pagable_world.specs.Loads.{with_got, root_frame, nested_frame}
-use Rattle.pagable_world.specs.Pager.{MachineState, IsIdle, IsReadingOf, of_caller, of_worker}
 use Rattle.pagable_laws.specs.TreeSteps.{Change, CoreGoes, GetsRow, KeepsReadings, ReadingFeels, reads-root, reads-blob, gets-known, gets-lazy, makes-known, makes-node, reading-ends, EventFeels, by-call, by-reading, by-key, by-nothing}
-use Rattle.pagable_laws.specs.ReadRuns.{GotStands, FramesHeld, ReadingsHeld, ReadsHeldOn}
+use Rattle.pagable_laws.specs.ReadRuns.{GotStands, FramesHeld, ReadingsHeld}
 use Rattle.pagable_laws.proofs.Trees.{same_some}
 use Rattle.pagable_laws.proofs.Fitting.{pushed}
 use Rattle.pagable_laws.proofs.ReadingStepsMachine.{is-reading-of}
@@ -81,7 +80,7 @@ module _ {u u' : World} (held : ReadingsHeld u) where
   ]
 
 module _ {N B W : Type 0} (v : Values N) {u u' : World} (held : ReadingsHeld u) where
-  event-held : (event : Event N B W) (reply : EventReply N B W) {c : Change} → CoreGoes c u.core u'.core → EventFeels v u event reply u' c → ReadingsHeld u'
+  pub event-held : (event : Event N B W) (reply : EventReply N B W) {c : Change} → CoreGoes c u.core u'.core → EventFeels v u event reply u' c → ReadingsHeld u'
   event-held event reply goes (by-call c call answer called replied feels keeps) = kept held goes keeps
   event-held event reply goes (by-key k key row is sets keeps) = kept held goes keeps
   event-held event reply goes (by-nothing stays keeps) = kept held goes keeps
@@ -91,14 +90,3 @@ module _ {N B W : Type 0} (v : Values N) {u u' : World} (held : ReadingsHeld u) 
         let before : FramesHeld u.core reading.load reading.frames = elim (is-reading-of u event reading stepped) [ inl there ↦ held reading there | inr begun ↦ none-held u.core reading.load reading.frames begun.0 ] in
         subst (λ (r : Reading). FramesHeld u'.core r.load r.frames) (sym same) (held-after reading answer frames goes none before feels)
   ]
-
-first-held : {N E : Type 0} (s : MachineState N E) → IsIdle s → (reading : Reading) → IsReadingOf s.work reading → FramesHeld s.pager.core reading.load reading.frames
-first-held s idle reading (of_caller l is) = let e = idle.readings l in absurd (cc)
-first-held s idle reading (of_worker n place walking r through below there todo) = let e = idle.walkings n in absurd (cc)
-
-pub reads_held : {N B W : Type 0} (E : Type 0) (m : Seen N B W) → ReadsHeldOn E m
-reads_held E m =
-    record {
-      first = first-held;
-      on = λ u u' event reply feels held. event-held m.values held event reply feels.core feels.feels;
-    }

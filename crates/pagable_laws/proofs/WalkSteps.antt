@@ -1,5 +1,5 @@
 -- What a worker's step does to the plain world, as trees feel it, and which loads it begins.
-use Rattle.std.proofs.Common.{◌≡◌, ℕ, ◌+◌, ◌≤◌, Bool, true, false, List, [], ◌∷◌, ◌++◌, refl, sym, ap, subst, ◌∙◌, inl, inr, arith}
+use Rattle.std.proofs.Common.{◌≡◌, ℕ, ◌+◌, ◌≤◌, true, List, [], ◌∷◌, ◌++◌, refl, sym, ap, subst, ◌∙◌, inl, inr, arith}
 use Rattle.std.specs.Prelude.{Option, Some, None, Ok, Err, Result}
 use Rattle.pagable_world.specs.Plain.{Error, ArcRef, HandleNumber, LoadNumber}
 use Rattle.pagable_world.specs.declared.handles.HandleRow.{HandleRow}
@@ -12,9 +12,10 @@ use Rattle.pagable_world.specs.declared.events.Took.{Took}
 use Rattle.pagable_world.specs.Kinds.{owner_worker, is_loose}
 use Rattle.pagable_world.specs.World.{Core, Last, OpenLoad, Reading, Todo, to_start, to_pin, to_load, to_write, to_finish, to_item, to_set, to_publish, to_release, to_fail, row_at, Seen}
 use Rattle.pagable_world.specs.Calls.{SetKeyCall}
-use Rattle.pagable_world.specs.Workers.{Site, Does, PinsAtOnce, PinsByLoad, PinRefused, GivesBack, next_start, give, give_known}
+use Rattle.pagable_world.specs.Workers.{Site, Does, PinsAtOnce, PinsByLoad, PinRefused, GivesBack, next_start, give, give_known, fresh}
 use Rattle.pagable_world.specs.Pager.{HandlesAreWhole, TodoBrings}
 use Rattle.pagable_laws.specs.TreeSteps.{Change, nothing_felt, sets_key, ReadingFeels}
+use Rattle.pagable_laws.proofs.Trees.{same_some}
 use Rattle.pagable_laws.proofs.Goes.{Quiet, Goes, NotLoads, quiet-then, quiet-goes, quiet-begins, goes-quiet, alike, fell, fell-anyhow, keyed}
 use Rattle.pagable_laws.proofs.Calling.{clones, pins, begins, stores}
 use Rattle.pagable_laws.proofs.Called.{schedules}
@@ -39,22 +40,26 @@ WaitsWell (to_start r place ∷ below) = NoLoad below
 WaitsWell (to_release r key height ∷ below) = NoLoad below
 WaitsWell todo = Unit {0}
 
-abbrev begins_load : List Todo → Bool
-begins_load (to_load r place through reading ∷ below) = true
-begins_load todo = false
+-- the reading of a load at the front
+abbrev pub front_reading : List Todo → Option Reading
+front_reading (to_load r place through reading ∷ below) = Some reading
+front_reading todo = None
 
--- a load at the front has just begun
+-- it has just begun
+abbrev pub IsFresh : Core → Reading → Type 0
+IsFresh w reading = (reading.frames ≡ []) × (reading.load.0 ≤ w.last.load)
+
 abbrev pub LoadsAnew : Site → Type 0
-LoadsAnew s = (r : ArcRef) (place : ℕ) (through : HandleNumber) (after : Reading) (below : List Todo) → s.todo ≡ to_load r place through after ∷ below → (after.frames ≡ []) × (after.load.0 ≤ s.core.last.load)
+LoadsAnew s = (reading : Reading) → front_reading s.todo ≡ Some reading → IsFresh s.core reading
 
-no-load : (s : Site) (todo : List Todo) → s.todo ≡ todo → begins_load todo ≡ false → LoadsAnew s
-no-load s todo is other r place through after below e = let f : begins_load todo ≡ true = ap begins_load (sym is ∙ e) in absurd (cc)
+no-load : (s : Site) (todo : List Todo) → s.todo ≡ todo → front_reading todo ≡ None → LoadsAnew s
+no-load s todo is none reading e = let f : front_reading todo ≡ Some reading = ap front_reading (sym is) ∙ e in absurd (cc)
 
-started : (place : ℕ) (rs : List ArcRef) (x : Todo) (below : List Todo) → begins_load (x ∷ below) ≡ false → begins_load (next_start place rs ++ x ∷ below) ≡ false
-started place [] x below other = other
-started place (r ∷ rs) x below other = refl
+pub started : (place : ℕ) (rs : List ArcRef) (x : Todo) (below : List Todo) → front_reading (x ∷ below) ≡ None → front_reading (next_start place rs ++ x ∷ below) ≡ None
+started place [] x below none = none
+started place (r ∷ rs) x below none = refl
 
-given : (r : ArcRef) (key height : ℕ) (below : List Todo) → NoLoad below → begins_load (give r key height below) ≡ false
+given : (r : ArcRef) (key height : ℕ) (below : List Todo) → NoLoad below → front_reading (give r key height below) ≡ None
 given r key height [] well = refl
 given r key height (to_finish o ∷ below) well = started o.place _ _ below refl
 given r key height (to_item written keys ∷ below) well = started 0 _ _ below refl
@@ -67,7 +72,7 @@ given r key height (to_publish q k h ∷ below) well = absurd well
 given r key height (to_release q k h ∷ below) well = absurd well
 given r key height (to_fail fault back ∷ below) well = absurd well
 
-given-known : (r : ArcRef) (key height : ℕ) (below : List Todo) → NoLoad below → begins_load (give_known r key height below) ≡ false
+given-known : (r : ArcRef) (key height : ℕ) (below : List Todo) → NoLoad below → front_reading (give_known r key height below) ≡ None
 given-known r key height [] well = refl
 given-known r key height (x ∷ below) well = given r key height (x ∷ below) well
 
@@ -75,9 +80,12 @@ given-known r key height (x ∷ below) well = given r key height (x ∷ below) w
 
 -- A load makes its step; the key is set through the worker's own loose handle; or nothing is felt. But for the first, a load at the front afterwards has just begun.
 pub data WalkFeels {N B W : Type 0} (m : Seen N B W) (v : ℕ) (s s' : Site) (todo : List Todo) : Change → Type 0 where
-  walk-loads : (c : Change) (r : ArcRef) (place : ℕ) (through : HandleNumber) (reading : Reading) (below : List Todo) → todo ≡ to_load r place through reading ∷ below → (t : LoadsTodo m.values (owner_worker v) s s' reading)
-      → (t.answer ≡ None → (load : OpenLoad) × (s.core.loads reading.load.0 ≡ Some load)) → (HandlesAreWhole s.core → ReadingFeels m.values s.core reading t.answer t.frames s'.core c) → WalkFeels m v s s' todo c
-  walk-sets : (r : ArcRef) (through : HandleNumber) (key height : ℕ) (below : List Todo) (row : HandleRow) → todo ≡ to_set r through key height ∷ below → row_at s.core through ≡ Some row → row.owner ≡ owner_worker v → is_loose row.mode ≡ true
+  walk-loads : (c : Change) (r : ArcRef) (place : ℕ) (through : HandleNumber) (reading : Reading) (below : List Todo) → todo ≡ to_load r place through reading ∷ below
+      → (t : LoadsTodo m.values (owner_worker v) s s' reading)
+      → (t.answer ≡ None → (load : OpenLoad) × (s.core.loads reading.load.0 ≡ Some load))
+      → (HandlesAreWhole s.core → ReadingFeels m.values s.core reading t.answer t.frames s'.core c) → WalkFeels m v s s' todo c
+  walk-sets : (r : ArcRef) (through : HandleNumber) (key height : ℕ) (below : List Todo) (row : HandleRow)
+      → todo ≡ to_set r through key height ∷ below → row_at s.core through ≡ Some row → row.owner ≡ owner_worker v → is_loose row.mode ≡ true
       → LoadsAnew s' → WalkFeels m v s s' todo (sets_key row.node.0 key)
   walk-rests : ((n : ℕ) (x : N) → TodoBrings m.values s.core todo n x → ⊥) → LoadsAnew s' → WalkFeels m v s s' todo nothing_felt
 
@@ -120,20 +128,24 @@ module _ {N B W : Type 0} (m : Seen N B W) (v : ℕ) (s s' : Site) where
   WF todo = WalkFelt m v s s' todo
 
   -- nothing is felt, and this stands at the front afterwards
-  begun : {todo : List Todo} (next : List Todo) → ((n : ℕ) (x : N) → TodoBrings m.values s.core todo n x → ⊥) → s'.todo ≡ next → (WaitsWell todo → begins_load next ≡ false) → Goes nothing_felt s.core s'.core → WF todo
+  begun : {todo : List Todo} (next : List Todo) → ((n : ℕ) (x : N) → TodoBrings m.values s.core todo n x → ⊥)
+      → s'.todo ≡ next → (WaitsWell todo → front_reading next ≡ None) → Goes nothing_felt s.core s'.core → WF todo
   begun next none is other g = record { change = nothing_felt; goes = g; feels = λ front well. walk-rests none (no-load s' next is (other well)) }
 
-  rests : {todo : List Todo} (next : List Todo) → ((n : ℕ) (x : N) → TodoBrings m.values s.core todo n x → ⊥) → s'.todo ≡ next → (WaitsWell todo → begins_load next ≡ false) → Quiet s.core s'.core → WF todo
+  rests : {todo : List Todo} (next : List Todo) → ((n : ℕ) (x : N) → TodoBrings m.values s.core todo n x → ⊥)
+      → s'.todo ≡ next → (WaitsWell todo → front_reading next ≡ None) → Quiet s.core s'.core → WF todo
   rests next none is other q = begun next none is other (quiet-goes nothing_felt q)
 
   -- the load at the front makes its step
-  loads-on : (r : ArcRef) (place : ℕ) (through : HandleNumber) (reading : Reading) (below : List Todo) (step : Took W) → Does m v s (to_load r place through reading ∷ below) step s' → WF (to_load r place through reading ∷ below)
+  loads-on : (r : ArcRef) (place : ℕ) (through : HandleNumber) (reading : Reading) (below : List Todo) (step : Took W)
+      → Does m v s (to_load r place through reading ∷ below) step s' → WF (to_load r place through reading ∷ below)
   loads-on r place through reading below step does =
       let t = loads-todo m v s s' r place through reading below step does in
       let f = reading-feels m s.core (owner_worker v) (works-free v) s'.core reading t.answer t.frames t.does in
       record { change = f.change; goes = f.goes; feels = λ front well. walk-loads f.change r place through reading below refl t f.opens f.feels }
 
-  sets : (r : ArcRef) (through : HandleNumber) (key height : ℕ) (below next : List Todo) (told : Result (Unit {0}) Error) → SetKeyCall s.core (owner_worker v) through key told s'.core → s'.todo ≡ next → begins_load next ≡ false → WF (to_set r through key height ∷ below)
+  sets : (r : ArcRef) (through : HandleNumber) (key height : ℕ) (below next : List Todo) (told : Result (Unit {0}) Error)
+      → SetKeyCall s.core (owner_worker v) through key told s'.core → s'.todo ≡ next → front_reading next ≡ None → WF (to_set r through key height ∷ below)
   sets r through key height below next told c is other = elim c.does [
     | inl refused ↦ rests next (λ n x b. b) is (λ well. other) (alike refused.stays)
     | inr (row, owns, inl (mode, done, a)) ↦ rests next (λ n x b. b) is (λ well. other) (alike a)
@@ -144,15 +156,15 @@ module _ {N B W : Type 0} (m : Seen N B W) (v : ℕ) (s s' : Site) where
     }
   ]
 
-  load-begins : (r : ArcRef) (place : ℕ) (below : List Todo) (through : HandleNumber) (l : LoadNumber) (reading : Reading) → reading.frames ≡ [] → reading.load ≡ l → PinsByLoad s.core (owner_worker v) r through l s'.core → s'.todo ≡ to_load r place through reading ∷ below → WF (to_pin r place ∷ below)
-  load-begins r place below through l reading none of does is =
+  load-begins : (r : ArcRef) (place t : ℕ) (below : List Todo) (through : HandleNumber) (l : LoadNumber) → PinsByLoad s.core (owner_worker v) r through l s'.core
+      → s'.todo ≡ to_load r place through (fresh l t) ∷ below → WF (to_pin r place ∷ below)
+  load-begins r place t below through l does is =
       record {
         change = nothing_felt;
         goes = by-load v r through l does;
-        feels = λ front well. walk-rests (λ n x b. b) (λ q at h after rest e.
-            let f : to_load r place through reading ∷ below ≡ to_load q at h after ∷ rest = sym is ∙ e in
-            let same : reading ≡ after = cc in
-            (ap (λ (x : Reading). x.frames) (sym same) ∙ none, subst (λ (x : Reading). x.load.0 ≤ s'.core.last.load) same (subst (λ (x : LoadNumber). x.0 ≤ s'.core.last.load) (sym of) (begun-number v r through l does))));
+        feels = λ front well. walk-rests (λ n x b. b) (λ reading e.
+            let same : fresh l t ≡ reading = same_some _ _ (ap front_reading (sym is) ∙ e) in
+            subst (λ x. IsFresh s'.core x) same (refl, begun-number v r through l does));
       }
 
   pub walk-goes : (todo : List Todo) (step : Took W) → Does m v s todo step s' → WF todo
@@ -165,7 +177,7 @@ module _ {N B W : Type 0} (m : Seen N B W) (v : ℕ) (s s' : Site) where
   walk-goes (to_start r place ∷ below) (took.Claim i (Err f)) (is, c) = let t = c.refused.1 in rests _ (λ n x b. b) t.list_is (λ well. refl) (alike t.pager_stays)
   walk-goes (to_start r place ∷ below) step does = absurd does
   walk-goes (to_pin r place ∷ below) (took.Pin i (Ok (pinsteps.Held k))) (is, p) = rests _ (λ n x b. b) p.pins.2.list_is (λ well. refl) (at-once v r p.pins.0 k p.pins.1)
-  walk-goes (to_pin r place ∷ below) (took.Pin i (Ok (pinsteps.LoadBegun l))) (is, p) = load-begins r place below p.pins.0 l _ refl refl p.pins.1 p.pins.2.list_is
+  walk-goes (to_pin r place ∷ below) (took.Pin i (Ok (pinsteps.LoadBegun l))) (is, p) = load-begins r place _ below p.pins.0 l p.pins.1 p.pins.2.list_is
   walk-goes (to_pin r place ∷ below) (took.Pin i (Ok pinsteps.LoadWent)) (is, p) = absurd p.pins
   walk-goes (to_pin r place ∷ below) (took.Pin i (Err f)) (is, p) = begun _ (λ n x b. b) p.refused.1.list_is (λ well. refl) (pin-refused v r f p.refused.0)
   walk-goes (to_pin r place ∷ below) step does = absurd does
