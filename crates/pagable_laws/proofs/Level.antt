@@ -8,14 +8,12 @@ use Rattle.pagable_world.specs.declared.rows.Mode.TheVariants as modes
 use Rattle.pagable_world.specs.Kinds.{find_row, pins}
 use Rattle.pagable_world.specs.Calls.{row_of, is_named_by}
 use Rattle.pagable_world.specs.Runs.{AreMoments, state_after}
-use Rattle.pagable_world.specs.Headline.{Headline}
 use Rattle.pagable_laws.specs.TwoLevels as two
 use Rattle.pagable_laws.specs.LevelLaws.{ArePremised, TwoLevelsMeetTheHeadline}
 use Rattle.pagable_laws.proofs.Tested.{alike-self}
 use Rattle.pagable_laws.proofs.States.{read-back-passes}
 use Rattle.pagable_laws.proofs.Joining.{chains_join, new_whole}
-use Rattle.pagable_laws.proofs.Arriving.{work_is_right}
-use Rattle.pagable_laws.proofs.Chains.{trees_stay}
+use Rattle.pagable_laws.proofs.Arriving.{headline_law}
 use Rattle.pagable_laws.proofs.Births.{only-pager, bears}
 use Rattle.pagable_laws.proofs.Walks.{at_work, pages-out}
 use Rattle.pagable_laws.proofs.Loading.{done-whole}
@@ -77,13 +75,6 @@ no-other n all =
     let found = last.0.step.happens.step.does.0.found in
     pins-two n found.0 found.1 found.2
 
-headline : Headline two.sample_seen two.new_one (two.moments 2)
-unfolding two.value_at
-headline =
-    let new = new_whole (Unit {0}) two.sample in
-    let w = work_is_right (Unit {0}) two.sample_seen two.new_one (two.moments 2) (new.whole _ _ tt) (new.idle _ _ tt) runs in
-    record { chain = runs; work = w.work; loads = w.loads; trees = λ trees stands lawful readable settled. trees_stay two.sample_seen lawful readable two.new_one trees (two.moments 2) (new.whole _ _ tt) (new.idle _ _ tt) settled stands runs }
-
 pub headline_met : TwoLevelsMeetTheHeadline
 unfolding two.value_at
 headline_met =
@@ -96,6 +87,6 @@ headline_met =
       stands = λ trees. new.stands _ _ tt trees;
       settled = λ n x is. settled x;
       premised = all-asked;
-      headline = headline;
+      headline = headline_law (Unit {0}) two.sample_seen two.new_one (two.moments 2) (new.whole _ _ tt) (new.idle _ _ tt) runs;
       no_other = no-other;
     }

@@ -6,8 +6,6 @@ pub mod Rows
 pub mod SmallWorlds
 pub mod FallLaws
 pub mod RunLaws
-pub mod OrderLaws
-pub mod StepLaws
 pub mod TreeSteps
 pub mod TreeRuns
 pub mod ReadRuns
