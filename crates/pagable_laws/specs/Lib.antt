@@ -6,11 +6,6 @@ pub mod Rows
 pub mod SmallWorlds
 pub mod FallLaws
 pub mod RunLaws
-pub mod OrderLaws
-pub mod SmallMoments
-pub mod SmallWork
-pub mod MetLaws
-pub mod StepLaws
 pub mod TreeSteps
 pub mod TreeRuns
 pub mod ReadRuns
@@ -18,3 +13,4 @@ pub mod ReadLaws
 pub mod PageOutLaws
 pub mod KeyRuns
 pub mod TwoLevels
+pub mod LevelLaws

@@ -3,9 +3,7 @@
 #![tactic(auto)]
 
 pub mod keys;
-pub mod order;
 pub mod runs;
-pub mod steps;
 pub mod values;
 pub mod worked;
 pub mod world;

@@ -2,9 +2,8 @@
 
 ghost use Rattle.pagable_world.specs.World.{Seen};
 ghost use Rattle.pagable_laws.specs.FallLaws.{IsThere, IsOne, IsGivenAlone, PinsAreAFilter, TwoLevelsFall, LoneIsListed};
-ghost use Rattle.pagable_laws.specs.MetLaws.{HeadlineIsMet, WorkMeetsHeadline};
 ghost use Rattle.pagable_laws.specs.ReadLaws.{AllGoOn, AsksNext, DecodesWell, PinStands, ReadStands};
-ghost use Rattle.pagable_laws.specs.TwoLevels.{TwoLevelsAreWhole};
+ghost use Rattle.pagable_laws.specs.LevelLaws.{TwoLevelsMeetTheHeadline};
 ghost use Rattle.pagable_laws.specs.RunLaws.{ChainsJoin, NewIsWhole, NextIsOneOf, KeysTellTheirTrees};
 
 use crate::values::is_key_of_one_tree;
@@ -74,16 +73,6 @@ pub fn keys_tell_trees<N: SeenAs<B, W>, B, W>()
     is_key_of_one_tree()
 }
 
-/// The headline is met with all that it asks: by a child, a parent that refers to it, and a count.
-pub fn headline_is_met<E>()
-    ensures { HeadlineIsMet E }
-{}
-
-/// The headline is met with all that it asks: by an item that a worker pages out, and a load that reads its key back.
-pub fn work_meets_headline<E>()
-    ensures { WorkMeetsHeadline E }
-{}
-
 /// The key that a blob asks for is the next of its keys.
 #[tactic(auto, using(crate::proofs::Decoding::asks_next))]
 pub fn asks_for_the_next()
@@ -112,8 +101,8 @@ pub fn what_is_pinned_stands<N: SeenAs<B, W>, B, W, E>()
     ensures { PinStands E N.seen.values }
 {}
 
-/// Each pager is whole that a chain of two levels goes through: births, a page-out, an eviction, and loads of parent and child.
-#[tactic(auto, using(crate::proofs::States::all_whole))]
-pub fn two_levels_are_whole()
-    ensures { TwoLevelsAreWhole }
+/// The headline is met with all that it asks by a chain of two levels: births, a page-out, an eviction, and loads of cells and of a key.
+#[tactic(auto, using(crate::proofs::Level::headline_met))]
+pub fn two_levels_meet_the_headline()
+    ensures { TwoLevelsMeetTheHeadline }
 {}
