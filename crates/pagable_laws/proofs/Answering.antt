@@ -6,7 +6,7 @@ use Rattle.pagable_model.specs.declared.data_key.OptionalDataKey.TheVariants as 
 use Rattle.pagable_model.specs.Meaning.{number, integer, text, pattern, none, pair, variant, reference, followed}
 use Rattle.pagable_model.specs.Canonical.{EachType}
 use Rattle.pagable_model.specs.Merkle.{blob_of, KeyOf, KeyOfItem}
-use Rattle.pagable_world.specs.Plain.{OptionalDataKey, Identity, Meaning, Tree, WorkerNumber, type_of, updated, if_there}
+use Rattle.pagable_world.specs.Plain.{OptionalDataKey, ArcRef, Identity, is_loose_kind, Meaning, Tree, WorkerNumber, type_of, updated, if_there}
 use Rattle.pagable_world.specs.declared.events.Event.TheVariants as events
 use Rattle.pagable_world.specs.declared.events.Event.{Event}
 use Rattle.pagable_world.specs.declared.events.EventReply.TheVariants as answers
@@ -16,16 +16,17 @@ use Rattle.pagable_world.specs.declared.events.Took.{Took}
 use Rattle.pagable_world.specs.declared.events.WorkerAnswer.TheVariants as finals
 use Rattle.pagable_world.specs.declared.events.WorkerReply.{WorkerReply}
 use Rattle.pagable_world.specs.Kinds.{identity_of, has_key}
-use Rattle.pagable_world.specs.World.{Cell, key_at, Shelf, Slot, Written, Fault, was_refused, was_failed, Todo, to_item, to_publish, to_release, to_fail, Task, of_item, of_entry, Walking, Values, Seen}
+use Rattle.pagable_world.specs.World.{Core, Cell, key_at, Shelf, Slot, Written, Fault, was_refused, was_failed, Todo, to_item, to_publish, to_release, to_fail, Task, of_item, of_entry, Walking, Values, Seen}
 use Rattle.pagable_world.specs.Workers.{Site, Does, IsPublished, answer_after}
 use Rattle.pagable_world.specs.Events.{WorkerSteps, Happens}
 use Rattle.pagable_world.specs.Pager.{PagerState, MachineState, world_of, kids_of, HandlesAreWhole, IsMachineWhole, KeyFits, NodeStands, here, away, Represents, StandsFor}
 use Rattle.pagable_world.specs.Headline.{Meets, meets-of-item, meets-entry, meets-below, AreKeysOf, IsLeftPagedOut, HasKeyOf, LeavesAll, IsKeyOfTask}
 use Rattle.pagable_laws.specs.PageOutLaws.{Ground, ground_of, IsOfEntry, Waits, Walks, WorkFits, IsDone, SetsReadKeys}
-use Rattle.pagable_laws.specs.KeyRuns.{KeyIsSet, KeysHeld, KeysAreRight, FitsGiveKeys}
+use Rattle.pagable_laws.specs.KeyRuns.{KeyIsSet, AllHold, HasHandle, KeysHeld, KeysAreRight, FitsGiveKeys}
 use Rattle.pagable_laws.proofs.Merkle.{one_key, one_item_key, tree_readable}
 use Rattle.pagable_laws.proofs.Trees.{same_some}
-use Rattle.pagable_laws.proofs.Following.{IdentityStands, known-of, keys-of, tree-form, held-of}
+use Rattle.pagable_laws.proofs.Following.{IdentityStands, known-of, keys-of, tree-form, held-of, cell-of}
+use Rattle.pagable_laws.proofs.Taking.{row-held}
 use Rattle.pagable_laws.proofs.Shelves.{KeepsKeys, keys-on, keys-same}
 use Rattle.pagable_laws.proofs.Stepping.{all-known, stands-for}
 
@@ -129,21 +130,31 @@ node-keyed : {N E : Type 0} {v : Values N} {s : PagerState N E} {n : ℕ} {t : T
 node-keyed (here n x own t held typed means stands fits) = fits
 node-keyed (away n key t none_there keyed fits) = fits
 
-has-key-of : {N E : Type 0} (v : Values N) (s : PagerState N E) (trees : ℕ → Tree) (n : ℕ) → HandlesAreWhole s.core → Represents v s trees → KeyIsSet s.core n → is_some (s.core.cells n) ≡ true → HasKeyOf v s trees n
-has-key-of v s trees n whole stands set live = by (s.core.cells n) refl live
+-- a live cell whose key was set has one
+key-known : (w : Core) (n : ℕ) → KeyIsSet w n → is_some (w.cells n) ≡ true → (key : ℕ) × (key_at w n ≡ optional.Some key)
+key-known w n set live = by (w.cells n) refl live
   where
-    of-key : (cell : Cell) (own : OptionalDataKey) → s.core.cells n ≡ Some cell → cell.key ≡ own → has_key own ≡ true → HasKeyOf v s trees n
-    of-key cell optional.None there e is = absurd (cc)
-    of-key cell (optional.Some key) there e is =
-        let known : key_at s.core n ≡ optional.Some key = ap (λ (c : Option Cell). if_there (λ (x : Cell). x.key) optional.None c) there ∙ e in
-        record { key = key; set = known; reads = node-keyed (stands.stands n (held-of whole n (ap is_some there))) key known }
+    of-key : (own : OptionalDataKey) → has_key own ≡ true → (key : ℕ) × (own ≡ optional.Some key)
+    of-key optional.None is = absurd (cc)
+    of-key (optional.Some key) is = (key, refl)
 
-    by : (c : Option Cell) → s.core.cells n ≡ c → is_some c ≡ true → HasKeyOf v s trees n
+    by : (c : Option Cell) → w.cells n ≡ c → is_some c ≡ true → (key : ℕ) × (key_at w n ≡ optional.Some key)
     by None there is = absurd (cc)
-    by (Some cell) there is = of-key cell cell.key there refl (set.keyed cell there)
+    by (Some cell) there is = let k = of-key cell.key (set.keyed cell there) in (k.0, ap (λ (c : Option Cell). if_there (λ (x : Cell). x.key) optional.None c) there ∙ k.1)
 
-module _ {N B W E : Type 0} (m : Seen N B W) (s s' : MachineState N E) (trees trees' : ℕ → Tree) (before : WorkFits m.values s trees) (after : WorkFits m.values s' trees') (whole : IsMachineWhole m.values s') (stands : StandsFor m.values s' trees')
-    (held : KeysHeld (world_of s')) where
+has-key-of : {N E : Type 0} (v : Values N) (s : PagerState N E) (trees : ℕ → Tree) (n : ℕ) → HandlesAreWhole s.core → Represents v s trees → KeyIsSet s.core n → is_some (s.core.cells n) ≡ true → HasKeyOf v s trees n
+has-key-of v s trees n whole stands set live = let k = key-known s.core n set live in record { key = k.0; set = k.1; reads = node-keyed (stands.stands n (held-of whole n live)) k.0 k.1 }
+
+-- a cell whose key is published has one by then
+set-by-then : {N B W : Type 0} (m : Seen N B W) (n : ℕ) (s s' : Site) (todo : List Todo) (i : Identity) (key height : ℕ) → Does m n s todo (took.Publish i key height) s' → AllHold s.core todo
+    → ((r : ArcRef) (k h : ℕ) (below : List Todo) → todo ≡ to_publish r k h ∷ below → is_some (s.core.cells r.node.0) ≡ true) → is_loose_kind i.kind.0 ≡ true → (set : ℕ) × (key_at s.core i.node.0 ≡ optional.Some set)
+unfolding AllHold
+set-by-then m n s s' (to_publish r k h ∷ below) i key height (is, same_key, same_height, t) all live kind =
+    subst (λ (j : Identity). (set : ℕ) × (key_at s.core j.node.0 ≡ optional.Some set)) (sym is) (key-known s.core r.node.0 (all.0 (ap (λ (j : Identity). is_loose_kind j.kind.0) (sym is) ∙ kind)) (live r k h below refl))
+set-by-then m n s s' todo i key height does all live kind = absurd does
+
+module _ {N B W E : Type 0} (m : Seen N B W) (s s' : MachineState N E) (trees trees' : ℕ → Tree) (before : WorkFits m.values s trees) (after : WorkFits m.values s' trees') (earlier : IsMachineWhole m.values s) (whole : IsMachineWhole m.values s')
+    (stands : StandsFor m.values s' trees') (held_before : KeysHeld (world_of s)) (held : KeysHeld (world_of s')) where
   module _ (n : WorkerNumber) (reply : WorkerReply W) (w : WorkerSteps m (world_of s) n reply (world_of s')) where
     abbrev site : Site
     site = record { core = s.pager.core; shelf = s.work.shelves w.walking.table; todo = w.walking.todo }
@@ -167,11 +178,18 @@ module _ {N B W E : Type 0} (m : Seen N B W) (s s' : MachineState N E) (trees tr
         cells = λ i meets kind live. let p = met m.values s' trees' after t task key done i meets in has-key-of m.values s'.pager trees' i.node.0 whole.pager.whole.handles stands.pager (held.slots t i p.0 p.1.0 p.1.1 kind) live;
       }
 
+  lives : {n k : ℕ} → HasHandle s.pager.core n k → is_some (s.pager.core.cells k) ≡ true
+  lives h = subst (λ k. is_some (s.pager.core.cells k) ≡ true) h.at (cell-of earlier.pager.whole.handles h.row.node.0 (row-held s.pager.core h.h h.row h.live))
+
   keys-right : (event : Event N B W) (reply : EventReply N B W) → Happens m (world_of s) event reply (world_of s') → KeysAreRight m.values s trees event reply s' trees'
   keys-right (events.WorkerStep n) (answers.WorkerMoved (Ok reply)) is =
       let w = is.moves in
       record {
-        publishes = λ i key height e. of-publish m n.0 (ground_of s trees) w.walking.task (site n reply w) w.after w.walking.todo i key height (subst (λ (k : Took W). Does m n.0 (site n reply w) w.walking.todo k w.after) e w.does.does) (before.walks n.0 w.walking w.at);
+        publishes = λ i key height e.
+            let does = subst (λ (k : Took W). Does m n.0 (site n reply w) w.walking.todo k w.after) e w.does.does in (
+              of-publish m n.0 (ground_of s trees) w.walking.task (site n reply w) w.after w.walking.todo i key height does (before.walks n.0 w.walking w.at),
+              set-by-then m n.0 (site n reply w) w.after w.walking.todo i key height does (held_before.walks n.0 w.walking w.at) (λ r k h below is. lives (held_before.publishing n.0 w.walking r k h below w.at is)),
+            );
         key = λ walking key there e. is-after n reply w (λ x. IsKeyOfTask m.values trees' x.task key) (is-key m.values s' trees' after w.walking.table w.walking.task key (done n reply w key e)) walking there;
         leaves = λ walking key there e. is-after n reply w (λ x. LeavesAll m.values s'.pager (s'.work.shelves x.table) trees' x.task)
             (left-all w.walking.table w.walking.task key (done n reply w key e)) walking there;
@@ -187,7 +205,7 @@ module _ {N B W E : Type 0} (m : Seen N B W) (s s' : MachineState N E) (trees tr
   keys-right (events.WorkerListed t i) reply is = record { publishes = tt; key = tt; leaves = tt }
 
 pub fits_give_keys : {N B W : Type 0} (E : Type 0) (m : Seen N B W) → FitsGiveKeys E m
-fits_give_keys E m s s' event reply trees trees' does stands before after held = keys-right m s s' trees trees' before after does.whole stands held event reply does.step.happens
+fits_give_keys E m s s' event reply trees trees' whole does stands before after held_before held = keys-right m s s' trees trees' before after whole does.whole stands held_before held event reply does.step.happens
 
 -- ---- what a worker is about to set
 

@@ -11,9 +11,9 @@ use Rattle.pagable_world.specs.Plain.{HandleNumber, Tree}
 use Rattle.pagable_world.specs.World.{Reading, Values, Seen, IsLawful}
 use Rattle.pagable_world.specs.Pager.{MachineState, world_of, IsMachineWhole, IsIdle, StandsFor, IsReadingOf, of_caller, of_worker}
 use Rattle.pagable_world.specs.Runs.{HoldsSettled, ReadsItsTypes, Moment, AreMoments, TreesAlong}
-use Rattle.pagable_world.specs.Headline.{GivesTree, PinGives}
+use Rattle.pagable_world.specs.Headline.{GivesTree, PinGives, IsRight}
 use Rattle.pagable_laws.specs.TreeSteps.{HasPin, PinHolds}
-use Rattle.pagable_laws.specs.TreeRuns.{ReadingsGiven, PinsReadsAndKeys, TreesStay}
+use Rattle.pagable_laws.specs.TreeRuns.{ReadingsGiven, TreesStay}
 use Rattle.pagable_laws.specs.PageOutLaws.{WorkFits}
 use Rattle.pagable_laws.specs.KeyRuns.{KeysHeld}
 use Rattle.pagable_laws.specs.ReadRuns.{ReadingsHeld}
@@ -56,7 +56,7 @@ module _ {N E B W : Type 0} (m : Seen N B W) (lawful : IsLawful m.values) (reada
       none-reads reading (of_caller l is) = let f = idle.readings l in cc
       none-reads reading (of_worker n place walking r through below is todo) = let f = idle.walkings n in cc
 
-  stay : (s : MachineState N E) (trees : ℕ → Tree) (moments : List (Moment N E B W)) → IsGoingOn m.values s trees → AreMoments m s moments → TreesAlong m (PinsReadsAndKeys m.values) s trees moments
+  stay : (s : MachineState N E) (trees : ℕ → Tree) (moments : List (Moment N E B W)) → IsGoingOn m.values s trees → AreMoments m s moments → TreesAlong m (IsRight m.values) s trees moments
   stay s trees [] on does = tt
   stay s trees (x ∷ xs) on (does, more) = λ premised.
       let feels = does-feels m s x.after trees x.event x.reply on.whole on.fits premised.stays_open does in
@@ -65,8 +65,9 @@ module _ {N E B W : Type 0} (m : Seen N B W) (lawful : IsLawful m.values) (reada
       let fits = fits_on E m s x.after x.event x.reply trees a.after on.whole on.settled readable on.stands a.keeps (record { kept = feels.core.stored; last = feels.core.nodes }) does on.fits in
       let held = held_on E m s x.after x.event x.reply on.whole premised.stays_open does on.held in
       let pins = pins-hold m (world_of s) (world_of x.after) x.event x.reply on.whole.pager.whole.handles does.step.happens in
-      let so : PinsReadsAndKeys m.values s trees x.event x.reply x.after a.after =
-      record { pins_give = pin-gives m s x.after trees a.after does.whole a.stands x.event x.reply pins; reads_give = reads-give m lawful readable s x.after trees a.after on.whole does.whole on.stands on.given on.reads a.keeps a.stands x.event x.reply does; keys = fits_give_keys E m s x.after x.event x.reply trees a.after does a.stands on.fits fits held } in (
+      let keys = fits_give_keys E m s x.after x.event x.reply trees a.after on.whole does a.stands on.fits fits on.held held in
+      let so : IsRight m.values s trees x.event x.reply x.after a.after =
+      record { pins_give = pin-gives m s x.after trees a.after does.whole a.stands x.event x.reply pins; reads_give = reads-give m lawful readable s x.after trees a.after on.whole does.whole on.stands on.given on.reads a.keeps a.stands x.event x.reply does; leaves = keys.leaves; publishes = keys.publishes; key = keys.key } in (
         a.after,
         record { keeps = a.keeps; stands = a.stands; so = so },
         stay x.after a.after xs (record { whole = does.whole; settled = premised.settled; stands = a.stands; given = a.given; fits = fits; held = held; reads = event-held m.values on.reads x.event x.reply feels.core feels.feels }) more,

@@ -65,6 +65,9 @@ mod Following
 mod Naming
 mod Held
 mod KeysGoing
+mod Sparing
+mod SparingCalls
+mod SparingSteps
 mod Shelves
 mod Stepping
 mod Publishing

@@ -60,7 +60,7 @@ module _ {c : Change} {w w' : Core} (goes : Goes c w w') where
   pub all-on : (todo : List Todo) → AllHold w todo → AllHold w' todo
   unfolding AllHold
   all-on [] all = tt
-  all-on (x ∷ below) (h, all) = (holds-on x h, all-on below all)
+  all-on (x ∷ below) (h, quiet, all) = (holds-on x h, quiet, all-on below all)
 
 -- ---- what is claimed
 

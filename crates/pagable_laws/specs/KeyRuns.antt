@@ -1,19 +1,15 @@
 -- What workers hold of the references that they have claimed, and which cells have a key: an invariant of runs in which the storage isn't closed.
-use Rattle.std.specs.Prelude.{ℕ, ◌≡◌, ◌≤◌, true, List, [], ◌∷◌, Some, Ok}
-use Rattle.pagable_model.specs.Merkle.{KeyOf}
+use Rattle.std.specs.Prelude.{ℕ, ◌≡◌, ◌≤◌, Bool, true, false, List, [], ◌∷◌, Some}
 use Rattle.pagable_world.specs.Plain.{ArcRef, HandleNumber, Identity, Tree, is_loose_kind}
 use Rattle.pagable_world.specs.declared.handles.HandleRow.{HandleRow}
-use Rattle.pagable_world.specs.declared.events.Event.TheVariants as events
-use Rattle.pagable_world.specs.declared.events.EventReply.TheVariants as answers
-use Rattle.pagable_world.specs.declared.events.Took.TheVariants as took
 use Rattle.pagable_world.specs.declared.events.Event.{Event}
 use Rattle.pagable_world.specs.declared.events.EventReply.{EventReply}
-use Rattle.pagable_world.specs.Kinds.{is_loose, has_key}
+use Rattle.pagable_world.specs.Kinds.{is_loose, has_key, owner_worker}
 use Rattle.pagable_world.specs.World.{Core, Cell, Todo, to_start, to_pin, to_load, to_write, to_finish, to_item, to_set, to_publish, to_release, to_fail, Walking, World, row_at, Values, Seen}
 use Rattle.pagable_world.specs.Workers.{IsPublished}
 use Rattle.pagable_world.specs.Pager.{MachineState, world_of, IsMachineWhole, IsIdle, StandsFor}
-use Rattle.pagable_world.specs.Runs.{Fact, ReadsItsTypes, KeepsOpen, Does}
-use Rattle.pagable_world.specs.Headline.{AnswerIsKey, AnswerLeavesAll}
+use Rattle.pagable_world.specs.Runs.{ReadsItsTypes, KeepsOpen, Does}
+use Rattle.pagable_world.specs.Headline.{PublishIsKey, AnswerIsKey, AnswerLeavesAll}
 use Rattle.pagable_laws.specs.TreeSteps.{KeysAreReady}
 use Rattle.pagable_laws.specs.PageOutLaws.{WorkFits}
 
@@ -41,13 +37,28 @@ Holds w (to_publish r key height) = is_loose_kind r.kind.0 ≡ true → KeyIsSet
 Holds w (to_release r key height) = Unit {0}
 Holds w (to_fail fault back) = Unit {0}
 
+-- whether a key is about to be published
+abbrev pub is_publishing : List Todo → Bool
+is_publishing (to_publish r key height ∷ below) = true
+is_publishing todo = false
+
+-- of all that is to be done; nothing is published but what stands at the front
 unfoldable pub AllHold : Core → List Todo → Type 0
 AllHold w [] = Unit {0}
-AllHold w (x ∷ below) = Holds w x × AllHold w below
+AllHold w (x ∷ below) = Holds w x × (is_publishing below ≡ false) × AllHold w below
 
--- so do all workers, and each cell whose key was published by a loose reference has a key
+-- the worker has a handle of the node
+pub record HasHandle (w : Core) (v n : ℕ) : Type 0 where
+  pub h : HandleNumber
+  pub row : HandleRow
+  pub live : row_at w h ≡ Some row
+  pub own : row.owner ≡ owner_worker v
+  pub at : row.node.0 ≡ n
+
+-- So do all workers, one that is about to publish a key has a handle of its node, and each cell whose key was published by a loose reference has a key.
 pub record KeysHeld (u : World) : Type 0 where
   pub walks : (n : ℕ) (walking : Walking) → u.work.walkings n ≡ Some walking → AllHold u.core walking.todo
+  pub publishing : (n : ℕ) (walking : Walking) (r : ArcRef) (key height : ℕ) (below : List Todo) → u.work.walkings n ≡ Some walking → walking.todo ≡ to_publish r key height ∷ below → HasHandle u.core n r.node.0
   pub slots : (t : ℕ) (i : Identity) (key height : ℕ) → IsPublished (u.work.shelves t) i key height → is_loose_kind i.kind.0 ≡ true → KeyIsSet u.core i.node.0
 
 -- it is so where nobody works yet
@@ -62,19 +73,14 @@ HeldOn {N} {B} {W} E m = (s s' : MachineState N E) (event : Event N B W) (reply 
 abbrev pub HeldGivesReady : {N B W : Type 0} → (E : Type 0) → Seen N B W → Type 0
 HeldGivesReady {N} E m = (s : MachineState N E) (trees : ℕ → Tree) → ReadsItsTypes m.values.types → WorkFits m.values s trees → KeysHeld (world_of s) → KeysAreReady m.values s trees
 
--- a key that is published is the tree's
-abbrev pub PublishesKey : {N E B W : Type 0} → Values N → Fact N E B W
-PublishesKey v s trees (events.WorkerStep n) (answers.WorkerMoved (Ok reply)) s' trees' = (i : Identity) (key height : ℕ) → reply.took ≡ took.Publish i key height → KeyOf v.hash v.types (trees i.node.0) key
-PublishesKey v s trees event reply s' trees' = Unit {0}
-
--- What keys are of one event: each that is published is its tree's, each that is answered is its task's, and what was met then is left paged out, with keys of its cells.
+-- What keys are of one event: each that is published is its tree's, and a cell had one by then; each that is answered is its task's, and what was met then is left paged out, with keys of its cells.
 pub record KeysAreRight {N E B W : Type 0} (v : Values N) (s : MachineState N E) (trees : ℕ → Tree) (event : Event N B W) (reply : EventReply N B W) (s' : MachineState N E) (trees' : ℕ → Tree) : Type 0 where
-  pub publishes : PublishesKey v s trees event reply s' trees'
+  pub publishes : PublishIsKey v s trees event reply s' trees'
   pub key : AnswerIsKey v s trees event reply s' trees'
   pub leaves : AnswerLeavesAll v s trees event reply s' trees'
 
 -- They are so where tables, workers and cells fit before and after.
 abbrev pub FitsGiveKeys : {N B W : Type 0} → (E : Type 0) → Seen N B W → Type 0
 FitsGiveKeys {N} {B} {W} E m =
-    (s s' : MachineState N E) (event : Event N B W) (reply : EventReply N B W) (trees trees' : ℕ → Tree) → Does m s event reply s' → StandsFor m.values s' trees' → WorkFits m.values s trees → WorkFits m.values s' trees'
-    → KeysHeld (world_of s') → KeysAreRight m.values s trees event reply s' trees'
+    (s s' : MachineState N E) (event : Event N B W) (reply : EventReply N B W) (trees trees' : ℕ → Tree) → IsMachineWhole m.values s → Does m s event reply s' → StandsFor m.values s' trees' → WorkFits m.values s trees → WorkFits m.values s' trees'
+    → KeysHeld (world_of s) → KeysHeld (world_of s') → KeysAreRight m.values s trees event reply s' trees'

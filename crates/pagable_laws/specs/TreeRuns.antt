@@ -4,14 +4,13 @@ use Rattle.pagable_world.specs.Plain.{Blob, Types, Tree, ReadsTree}
 use Rattle.pagable_world.specs.World.{Values, Seen, IsLawful, Reading}
 use Rattle.pagable_world.specs.Pager.{MachineState, IsMachineWhole, IsIdle, StandsFor, IsReadingOf, PagerState, SameTrees, ReadsNodeTree}
 use Rattle.pagable_world.specs.Runs.{HoldsSettled, ReadsItsTypes, Moment, AreMoments, TreesAlong}
-use Rattle.pagable_world.specs.Headline.{PinGives, ReadGives}
+use Rattle.pagable_world.specs.Headline.{IsRight}
 use Rattle.pagable_world.specs.declared.events.Event.{Event}
 use Rattle.pagable_world.specs.declared.events.EventReply.{EventReply}
 use Rattle.pagable_model.specs.declared.data_key.OptionalDataKey.TheVariants as optional
 use Rattle.pagable_world.specs.Plain.{OptionalDataKey, type_of}
 use Rattle.pagable_laws.specs.ReadLaws.{ValueLeads, FramesGiven}
 use Rattle.pagable_laws.specs.TreeSteps.{Change, Sets, Knows, Bears}
-use Rattle.pagable_laws.specs.KeyRuns.{KeysAreRight}
 
 -- A key reads as the same tree when the storage has gained blobs.
 abbrev pub IsKeptByGains : Type 0
@@ -37,13 +36,7 @@ pub record TreesAfterEvent {N E : Type 0} (v : Values N) (s s' : MachineState N 
   pub stands : StandsFor v s' after
   pub given : ReadingsGiven s'
 
--- pins and reads give trees, and keys are right
-pub record PinsReadsAndKeys {N E B W : Type 0} (v : Values N) (s : MachineState N E) (trees : ℕ → Tree) (event : Event N B W) (reply : EventReply N B W) (s' : MachineState N E) (trees' : ℕ → Tree) : Type 0 where
-  pub pins_give : PinGives v s trees event reply s' trees'
-  pub reads_give : ReadGives v s trees event reply s' trees'
-  pub keys : KeysAreRight v s trees event reply s' trees'
-
 -- Trees stay: along each chain that begins where nobody works yet, each node keeps its tree, each pin that succeeds gives the tree that its handle's node was made with, each reading that of its key, and keys are right.
 abbrev pub TreesStay : {N B W : Type 0} → (E : Type 0) → Seen N B W → Type 0
 TreesStay {N} {B} {W} E m = IsLawful m.values → ReadsItsTypes m.values.types → (s : MachineState N E) (trees : ℕ → Tree) (moments : List (Moment N E B W)) → IsMachineWhole m.values s → IsIdle s → HoldsSettled m.values s.pager → StandsFor m.values s trees
-    → AreMoments m s moments → TreesAlong m (PinsReadsAndKeys m.values) s trees moments
+    → AreMoments m s moments → TreesAlong m (IsRight m.values) s trees moments
