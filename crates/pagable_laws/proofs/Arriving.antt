@@ -1,4 +1,4 @@
--- What workers and claims come to after each chain.
+-- What each chain comes to: claims, workers and loads; and with trees, the headline.
 use Rattle.std.proofs.Common.{◌≡◌, ℕ, ◌+◌, ◌≤◌, ◌||◌, Bool, true, false, List, [], ◌∷◌, ◌++◌, refl, ap, sym, subst, ◌∙◌, arith, append-nil, append_assoc}
 use Rattle.std.specs.Prelude.{Option, Some, None, is_some, is_none}
 use Rattle.std.proofs.lemmas.Bool.Decides.{nat_tests}
@@ -16,8 +16,7 @@ use Rattle.pagable_world.specs.Workers.{is_workers_load}
 use Rattle.pagable_world.specs.Pager.{MachineState, world_of, IsMachineWhole, IsIdle, MayOwnLoad}
 use Rattle.pagable_world.specs.Runs.{Moment, AreMoments, state_after, events_of, replies_of}
 use Rattle.pagable_world.specs.Order.{step_of, steps_of, InOrder}
-use Rattle.pagable_world.specs.Headline.{TableMeets, HasLetGo, claims_made, WorkerIsRight}
-use Rattle.pagable_laws.specs.OrderLaws.{WorkGoesRight}
+use Rattle.pagable_world.specs.Headline.{TableMeets, HasLetGo, claims_made, WorkerIsRight, LoadsHaveStepsLeft, WorkIsRight, HeadlineLaw}
 use Rattle.pagable_laws.proofs.Standing.{WalkingStands, is_failing, is_open_in}
 use Rattle.pagable_laws.proofs.Changing.{grows, some-none}
 use Rattle.pagable_laws.proofs.Holding.{Turned, KeepsTask, keeps-task, work-stands}
@@ -26,6 +25,7 @@ use Rattle.pagable_laws.proofs.Coming.{StandsIn, EventTurns, event-turns}
 use Rattle.pagable_laws.proofs.Histories.{Went, HasGone, goes-on}
 use Rattle.pagable_laws.proofs.Sums.{sum-zero}
 use Rattle.pagable_laws.proofs.ReadingStepsWithin.{loads-bounded}
+use Rattle.pagable_laws.proofs.Chains.{trees_stay}
 use Rattle.pagable_laws.proofs.ClaimsMade.{claims-cons, own-claims, event-claims}
 
 first-then : (a b c d x y : ℕ) → x ≡ b + c → a + b ≤ d → d + c ≤ y → a + x ≤ y
@@ -135,10 +135,10 @@ module _ {N E B W : Type 0} (m : Seen N B W) (s : MachineState N E) (work : Stan
           of true f = not-both (subst (λ o. MayOwnLoad s.pager.core o) (owner-is n q.owner f) (whole.pager.whole.loads.owned l q e)) rests
           of false f = f
 
-pub work_is_right : {N B W : Type 0} (E : Type 0) (m : Seen N B W) → WorkGoesRight E m
-work_is_right {N} {B} {W} E m s moments whole idle chain =
-    let loads = loads-bounded m s moments whole idle chain in
-    record { work = record { claims_right = record { distinct = distinct; met = is-met m end all.work all.whole }; workers = worker; loads = loads.1 }; loads = loads.0 }
+-- all that steps have come to, where open loads have a step left
+work-right : {N E B W : Type 0} (m : Seen N B W) (s : MachineState N E) (moments : List (Moment N E B W)) → IsMachineWhole m.values s → IsIdle s → AreMoments m s moments → LoadsHaveStepsLeft m.values (world_of (state_after s moments))
+    → WorkIsRight m (state_after s moments) (events_of moments) (replies_of moments)
+work-right {N} {E} {B} {W} m s moments whole idle chain loads = record { claims_right = record { distinct = distinct; met = is-met m end all.work all.whole }; workers = worker; loads = loads }
   where
     end : MachineState N E
     end = state_after s moments
@@ -179,3 +179,13 @@ work_is_right {N} {B} {W} E m s moments whole idle chain =
           met = went.met;
           let_go = λ answer is. has-let-go m end all.work all.whole n walking answer there is;
         }
+
+pub headline_law : {N B W : Type 0} (E : Type 0) (m : Seen N B W) → HeadlineLaw E m
+headline_law E m start moments whole idle chain =
+    let loads = loads-bounded m start moments whole idle chain in
+    record {
+      chain = chain;
+      work = work-right m start moments whole idle chain loads.1;
+      loads = loads.0;
+      trees = λ trees stands lawful readable settled. trees_stay m lawful readable start trees moments whole idle settled stands chain;
+    }

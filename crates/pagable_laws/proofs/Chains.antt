@@ -13,7 +13,7 @@ use Rattle.pagable_world.specs.Pager.{MachineState, world_of, IsMachineWhole, Is
 use Rattle.pagable_world.specs.Runs.{HoldsSettled, ReadsItsTypes, Moment, AreMoments, TreesAlong}
 use Rattle.pagable_world.specs.Headline.{GivesTree, PinGives, IsRight}
 use Rattle.pagable_laws.specs.TreeSteps.{HasPin, PinHolds}
-use Rattle.pagable_laws.specs.TreeRuns.{ReadingsGiven, TreesStay}
+use Rattle.pagable_laws.specs.TreeRuns.{ReadingsGiven}
 use Rattle.pagable_laws.specs.PageOutLaws.{WorkFits}
 use Rattle.pagable_laws.specs.KeyRuns.{KeysHeld}
 use Rattle.pagable_laws.specs.ReadRuns.{ReadingsHeld}
@@ -73,5 +73,7 @@ module _ {N E B W : Type 0} (m : Seen N B W) (lawful : IsLawful m.values) (reada
         stay x.after a.after xs (record { whole = does.whole; settled = premised.settled; stands = a.stands; given = a.given; fits = fits; held = held; reads = event-held m.values on.reads x.event x.reply feels.core feels.feels }) more,
       )
 
-pub trees_stay : {N B W E : Type 0} (m : Seen N B W) → TreesStay E m
+-- Along each chain that begins where nobody works yet, each node keeps its tree, each pin that succeeds gives the tree that its handle's node was made with, each reading that of its key, and keys are right.
+pub trees_stay : {N B W E : Type 0} (m : Seen N B W) → IsLawful m.values → ReadsItsTypes m.values.types → (s : MachineState N E) (trees : ℕ → Tree) (moments : List (Moment N E B W)) → IsMachineWhole m.values s → IsIdle s
+    → HoldsSettled m.values s.pager → StandsFor m.values s trees → AreMoments m s moments → TreesAlong m (IsRight m.values) s trees moments
 trees_stay m lawful readable s trees moments whole idle settled stands does = stay m lawful readable s trees moments (idle-goes m lawful readable s trees whole idle settled stands) does

@@ -26,7 +26,10 @@ use Rattle.pagable_laws.proofs.Claiming.{stands-on}
 use Rattle.pagable_laws.proofs.Going.{Goes, all-stay}
 use Rattle.pagable_laws.proofs.Holding.{SameSlots, Turned, is-quiet, is-started, is-stepped}
 use Rattle.pagable_laws.proofs.Calling as calling
-use Rattle.pagable_laws.proofs.Feeling.{calls_keep, loads_keep, walks_keep}
+use Rattle.pagable_laws.proofs.Goes.{NotLoads}
+use Rattle.pagable_laws.proofs.Called.{calls-go}
+use Rattle.pagable_laws.proofs.ReadingSteps.{reading-feels}
+use Rattle.pagable_laws.proofs.WalkSteps.{walk-goes}
 
 -- no number of a worker is taken back
 abbrev NoFewer : Core → Core → Type 0
@@ -136,6 +139,9 @@ module _ {N B W : Type 0} (m : Seen N B W) (u u' : World) (work : StandsIn u) wh
             ((w.same_shelves t.0).slots i ∙ (ap (λ (s : Shelf). s.slots i) (updated-at t.0 no_shelf u.work.shelves) ∙ nothing i ((u.work.shelves t.0).slots i) refl))
         same q i false e = (w.same_shelves q).slots i ∙ ap (λ (s : Shelf). s.slots i) (updated-off t.0 no_shelf u.work.shelves q e)
 
+  caller-free : NotLoads owners.Caller
+  caller-free l is = absurd (cc)
+
   ends-last : (answer : Option WorkerAnswer) (v : ℕ) (w w' : Core) → Ends answer v w w' → w'.last.worker ≡ w.last.worker
   ends-last None v w w' e = ap (λ l. l.worker) e.last
   ends-last (Some a) v w w' e = ap (λ l. l.worker) e.falls.leaves.last
@@ -143,7 +149,7 @@ module _ {N B W : Type 0} (m : Seen N B W) (u u' : World) (work : StandsIn u) wh
   call-last : (call : Call N B) (r : Reply N B) → CallStep m u.core owners.Caller call r u'.core → NoFewer u.core u'.core
   call-last calls.Close (replies.Done r) c = le-of (ap (λ l. l.worker) c.does.falls.falls.leaves.last)
   call-last calls.Close r c = absurd c.does
-  call-last call r c = ((calls_keep m).each u.core u'.core owners.Caller call r (λ l is. absurd (cc)) tt c).workers
+  call-last call r c = (calls-go m u.core owners.Caller caller-free u'.core call r tt c.does).goes.workers_last
 
   stepped : (v : WorkerNumber) (reply : WorkerReply W) → WorkerSteps m u v reply u' → EventTurns m u (events.WorkerStep v) (answers.WorkerMoved (Ok reply)) u'
   stepped v reply s =
@@ -156,7 +162,7 @@ module _ {N B W : Type 0} (m : Seen N B W) (u u' : World) (work : StandsIn u) wh
       let shelf_is : (i : Identity) → (u'.work.shelves w.table).slots i ≡ s.after.shelf.slots i =
       λ i. (s.work.same_shelves w.table).slots i ∙ ap (λ (x : Shelf). x.slots i) (updated-at w.table s.after.shelf u.work.shelves) in
       let site : Site = record { core = u.core; shelf = u.work.shelves w.table; todo = w.todo } in
-      let kept : NoFewer u.core s.after.core = ((walks_keep m).each v.0 site s.after reply.took s.does).workers in
+      let kept : NoFewer u.core s.after.core = (walk-goes m v.0 site s.after w.todo reply.took s.does.does).goes.workers_last in
       let last : u'.core.last.worker ≡ s.after.core.last.worker = ends-last reply.answer v.0 s.after.core u'.core s.ends in
       record {
         who = v.0;
@@ -176,7 +182,7 @@ module _ {N B W : Type 0} (m : Seen N B W) (u u' : World) (work : StandsIn u) wh
   event-turns tables (events.LoadStart q) (answers.Started r) h = by-work _ _ (λ n. refl) (calling.begins r h.step).workers_last h.work
   event-turns tables (events.LoadKey key t) (answers.Started r) h = by-work _ _ (λ n. refl) (calling.begins-key r h.step).workers_last h.work
   event-turns tables (events.LoadStep l) (answers.LoadMoved (Ok r)) h =
-      by-work _ _ (λ n. refl) ((loads_keep m.values).each u.core u'.core owners.Caller h.moves.reading r.ended h.moves.frames (λ l is. absurd (cc)) h.moves.does).workers h.moves.work
+      by-work _ _ (λ n. refl) (reading-feels m u.core owners.Caller caller-free u'.core h.moves.reading r.ended h.moves.frames h.moves.does).goes.workers_last h.moves.work
   event-turns tables (events.LoadStep l) (answers.LoadMoved (Err e)) h = unchanged _ _ (λ n. refl) h.refused.1
   event-turns tables events.TableNew (answers.TableMade (Ok t)) h = tabled _ _ (λ n. refl) tables t h.made.0 h.made.1 h.made.3
   event-turns tables events.TableNew (answers.TableMade (Err e)) h = unchanged _ _ (λ n. refl) h.refused.1

@@ -42,7 +42,6 @@ mod ReadingStepsHeld
 mod ReadingStepsGive
 mod WalkSteps
 mod EventSteps
-mod Feeling
 mod Once
 mod Standing
 mod Changing

@@ -1,10 +1,8 @@
 -- The laws of trees along runs.
-use Rattle.std.specs.Prelude.{List, ◌≤◌, ℕ, ◌≡◌, ◌+◌, Option, Some, None}
+use Rattle.std.specs.Prelude.{◌≤◌, ℕ, ◌≡◌, ◌+◌, Option, Some, None}
 use Rattle.pagable_world.specs.Plain.{Blob, Types, Tree, ReadsTree}
-use Rattle.pagable_world.specs.World.{Values, Seen, IsLawful, Reading}
-use Rattle.pagable_world.specs.Pager.{MachineState, IsMachineWhole, IsIdle, StandsFor, IsReadingOf, PagerState, SameTrees, ReadsNodeTree}
-use Rattle.pagable_world.specs.Runs.{HoldsSettled, ReadsItsTypes, Moment, AreMoments, TreesAlong}
-use Rattle.pagable_world.specs.Headline.{IsRight}
+use Rattle.pagable_world.specs.World.{Values, Reading}
+use Rattle.pagable_world.specs.Pager.{MachineState, StandsFor, IsReadingOf, PagerState, SameTrees, ReadsNodeTree}
 use Rattle.pagable_model.specs.declared.data_key.OptionalDataKey.TheVariants as optional
 use Rattle.pagable_world.specs.Plain.{OptionalDataKey, type_of}
 use Rattle.pagable_laws.specs.ReadLaws.{ValueLeads, FramesGiven}
@@ -33,8 +31,3 @@ pub record TreesAfterEvent {N E : Type 0} (v : Values N) (s s' : MachineState N 
   pub keeps : SameTrees s.pager.core.last.node trees after
   pub stands : StandsFor v s' after
   pub given : ReadingsGiven s'
-
--- Trees stay: along each chain that begins where nobody works yet, each node keeps its tree, each pin that succeeds gives the tree that its handle's node was made with, each reading that of its key, and keys are right.
-abbrev pub TreesStay : {N B W : Type 0} → (E : Type 0) → Seen N B W → Type 0
-TreesStay {N} {B} {W} E m = IsLawful m.values → ReadsItsTypes m.values.types → (s : MachineState N E) (trees : ℕ → Tree) (moments : List (Moment N E B W)) → IsMachineWhole m.values s → IsIdle s → HoldsSettled m.values s.pager → StandsFor m.values s trees
-    → AreMoments m s moments → TreesAlong m (IsRight m.values) s trees moments

@@ -1,6 +1,7 @@
 //! The laws of runs: what holds of every chain of moments, however loads and workers take turns.
 
-ghost use Rattle.pagable_laws.specs.TreeRuns.{IsKeptByGains, TreesStay};
+ghost use Rattle.pagable_world.specs.Headline.{HeadlineLaw};
+ghost use Rattle.pagable_laws.specs.TreeRuns.{IsKeptByGains};
 
 use crate::world::SeenAs;
 
@@ -10,7 +11,7 @@ pub fn gains_keep_trees()
     ensures { IsKeptByGains }
 {}
 
-/// Trees stay along each chain that begins where nobody works, pins and reads give them, and keys are right.
-pub fn trees_stay<N: SeenAs<B, W>, B, W, E>()
-    ensures { TreesStay E N.seen }
+/// The headline holds of every chain that begins at a whole machine for which nobody works yet.
+pub fn headline<N: SeenAs<B, W>, B, W, E>()
+    ensures { HeadlineLaw E N.seen }
 {}
