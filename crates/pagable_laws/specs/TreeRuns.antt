@@ -5,8 +5,6 @@ use Rattle.pagable_world.specs.World.{Values, Seen, IsLawful, Reading}
 use Rattle.pagable_world.specs.Pager.{MachineState, IsMachineWhole, IsIdle, StandsFor, IsReadingOf, PagerState, SameTrees, ReadsNodeTree}
 use Rattle.pagable_world.specs.Runs.{HoldsSettled, ReadsItsTypes, Moment, AreMoments, TreesAlong}
 use Rattle.pagable_world.specs.Headline.{IsRight}
-use Rattle.pagable_world.specs.declared.events.Event.{Event}
-use Rattle.pagable_world.specs.declared.events.EventReply.{EventReply}
 use Rattle.pagable_model.specs.declared.data_key.OptionalDataKey.TheVariants as optional
 use Rattle.pagable_world.specs.Plain.{OptionalDataKey, type_of}
 use Rattle.pagable_laws.specs.ReadLaws.{ValueLeads, FramesGiven}
