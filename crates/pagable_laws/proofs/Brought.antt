@@ -13,7 +13,7 @@ use Rattle.pagable_laws.specs.TreeSteps.{Change, CoreGoes, nothing_felt, Reading
 use Rattle.pagable_laws.specs.TreeRuns.{ChangeFits}
 use Rattle.pagable_laws.proofs.Trees.{same_some, one_tree}
 use Rattle.pagable_laws.proofs.Following.{held-of}
-use Rattle.pagable_laws.proofs.Fitting.{tree-stays, frames_go_on}
+use Rattle.pagable_laws.proofs.Fitting.{tree-stays, first-fits}
 use Rattle.pagable_laws.proofs.Decoding.{decodes}
 use Rattle.pagable_laws.proofs.Taking.{root-key, node-decoded}
 use Rattle.pagable_laws.proofs.Felt.{with-below, first-of, value-on, value-born, live-after, fits-nothing, fits-born-known}
@@ -40,8 +40,7 @@ module _ {N E : Type 0} {v : Values N} {s s' : PagerState N E} {trees : ℕ → 
   root-leads n x is root cell =
       let fit = fits cell.load cell.open_load in
       let here = subst (λ fs. FramesFit v.types s.core.stored trees cell.load.key reading.node_type fs) root.frames fit in
-      let law = frames_go_on v.types cell.load.key reading.node_type in
-      let d = decodes lawful readable root.root x (law.fits s.core.stored trees root.root [] here) root.decoded in
+      let d = decodes lawful readable root.root x (first-fits v.types cell.load.key reading.node_type s.core.stored trees root.root [] here) root.decoded in
       let under = subst (λ q. ReadsTree s.core.stored v.types q d.t) (root-key v.types s.core.stored trees cell.load.key reading.node_type root.root here) d.reads in
       let within : n ≤ s.core.last.node = subst (λ m. m ≤ s.core.last.node) cell.is (well.whole.loads.roots reading.load.0 cell.load cell.node cell.t cell.h cell.open_load cell.root).given.1 in
       let old = goes.old n within (live-after lawful settled well well' stands n x is) in

@@ -29,7 +29,7 @@ use Rattle.pagable_laws.proofs.ReadingStepsGive.{reads-give}
 
 module _ {N E B W : Type 0} (m : Seen N B W) (s s' : MachineState N E) (trees trees' : ℕ → Tree) (whole : IsMachineWhole m.values s') (stands : StandsFor m.values s' trees') where
   given-tree : (k : HandleNumber) → HasPin s'.pager.core k → GivesTree m.values s'.pager trees' k
-  given-tree k h = pin_stands m.values s'.pager trees' k h.row whole.pager stands.pager h.live h.is
+  given-tree k h = pin_stands s'.pager trees' k h.row whole.pager stands.pager h.live h.is
 
   pin-gives : (event : Event N B W) (reply : EventReply N B W) → PinHolds event reply s'.pager.core → PinGives m.values s trees event reply s' trees'
   pin-gives (events.Call (calls.Pin h)) (answers.CallReply (replies.Pin (Ok (pinnings.Pinned k)))) pinned = given-tree k pinned

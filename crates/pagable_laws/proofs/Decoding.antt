@@ -1,7 +1,7 @@
 -- A value that was read of a blob leads to what the blob's key reads as: reading the blob with the references that were got runs along the reading of
 -- its bare keys, and each of these reads as the tree of the node that was got for it.
 use Rattle.std.proofs.Common.{◌≡◌, ℕ, zero, suc, ◌+◌, ◌≤◌, ◌==◌, ◌&&◌, Bool, true, false, List, [], ◌∷◌, ◌++◌, Option, Some, None, Result, Ok, Err, if◌then◌else◌, ◌⊎◌, inl, inr, refl, sym, ap, ◌∙◌, subst, arith, sum_by}
-use Rattle.std.specs.Prelude.{slice_get}
+use Rattle.std.specs.Prelude.{slice_get, length}
 use Rattle.std.proofs.lemmas.Bool.{and_parts}
 use Rattle.pagable_model.specs.declared.error.Error.TheVariants as errors
 use Rattle.pagable_model.specs.Meaning.{number, integer, text, pattern, none, pair, variant, reference, followed}
@@ -9,12 +9,12 @@ use Rattle.pagable_model.specs.References.{references_in, SameReferences}
 use Rattle.pagable_model.specs.Reading.{Rest, read_typed}
 use Rattle.pagable_model.specs.Standing.{Answer, answer_at, handles_at}
 use Rattle.pagable_model.specs.Trees.{KeyRef, key_ref, ReadsAs, blob_context, rest_of, IsFollowed, number-followed, integer-followed, text-followed, pattern-followed, none-followed, pair-followed, variant-followed, reference-followed}
-use Rattle.pagable_world.specs.Plain.{Error, ArcRef, Kind, Blob, Shape, Types, Tree, tree, type_of, Meaning, Among, one}
+use Rattle.pagable_world.specs.Plain.{Error, ArcRef, Kind, Blob, Shape, Types, Tree, ReadsTree, tree, type_of, Meaning, Among, one}
 use Rattle.pagable_world.specs.World.{Frame, Values, IsLawful}
-use Rattle.pagable_world.specs.Loads.{answer_of, answers_from, reads, asks, next_by, IsDecoded}
-use Rattle.pagable_world.specs.Pager.{PagerState, NodeStands, MeaningStands, number-stands, integer-stands, text-stands, pattern-stands, none-stands, pair-stands, variant-stands, followed-stands, reference-stands, ReadsNodeTree, FrameFits}
+use Rattle.pagable_world.specs.Loads.{answer_of, answers_from, reads, asks, next_by, next_in, IsDecoded}
+use Rattle.pagable_world.specs.Pager.{PagerState, NodeStands, ValueStands, MeaningStands, number-stands, integer-stands, text-stands, pattern-stands, none-stands, pair-stands, variant-stands, followed-stands, reference-stands, ReadsNodeTree, FrameFits}
 use Rattle.pagable_world.specs.Runs.{ReadsItsTypes}
-use Rattle.pagable_laws.specs.ReadLaws.{LeadsTo, number-leads, integer-leads, text-leads, pattern-leads, none-leads, pair-leads, variant-leads, followed-leads, reference-leads, Decoded, AsksNext, DecodesWell, ReadStands}
+use Rattle.pagable_laws.specs.ReadLaws.{LeadsTo, number-leads, integer-leads, text-leads, pattern-leads, none-leads, pair-leads, variant-leads, followed-leads, reference-leads, Decoded}
 use Rattle.pagable_laws.proofs.Along.{Along, number-along, integer-along, text-along, pattern-along, none-along, pair-along, variant-along, reference-along, followed-along, AllTwo, no-two, more-two}
 use Rattle.pagable_laws.proofs.Related.{Out, both-given, both-refused, first-refused, OutLook, both-looked-up, first-not, read_par}
 use Rattle.pagable_laws.proofs.Trees.{tree_is, one_tree}
@@ -41,7 +41,8 @@ next-key None (Err (errors.Storage n)) kind k is = absurd (cc)
 next-key (Some q) (Err (errors.Storage n)) kind k is = let same : q ≡ k = cc in ap Some same
 next-key key (Err e) kind k is = absurd (cc)
 
-pub asks_next : AsksNext
+-- the key that a blob asks for next is the next of its keys
+pub asks_next : (types : Types) (frame : Frame) (kind : Kind) (key : ℕ) → next_in types frame ≡ asks kind key → slice_get frame.blob.keys (length frame.got) ≡ Some key
 asks_next types frame kind key is = next-key _ _ kind key is
 
 -- ---- what is answered, place by place
@@ -183,9 +184,6 @@ module _ {N : Type 0} {v : Values N} (lawful : IsLawful v) (readable : ReadsItsT
         got = λ r among. all-got two.3 r (meant-refs _ _ (lawful.refers x decoded.own decoded.means) r among);
       }
 
-pub decodes_well : {N : Type 0} (v : Values N) → DecodesWell v
-decodes_well v lawful readable stored trees frame x fits decoded = decodes lawful readable frame x fits decoded
-
 -- ---- and stands for its tree
 
 pub among-left : {X : Type 0} (xs ys : List X) (i : ℕ) (r : X) → slice_get xs i ≡ Some r → Among (xs ++ ys) r
@@ -214,8 +212,11 @@ module _ {N E : Type 0} {v : Values N} {s : PagerState N E} {trees : ℕ → Tre
   leads-stands (followed-leads kind x a f) h = followed-stands kind x a (leads-stands f h)
   leads-stands (reference-leads r a typed meant) h = reference-stands r a (subst (λ (t : Tree). NodeStands v s r.node.0 t) (tree_is _ _ _ _ typed meant) (h r (zero, refl)))
 
-pub read_stands : {N E : Type 0} (v : Values N) → ReadStands E v
-read_stands v lawful readable s trees frame x t fits decoded nodes typed reads_tree =
+-- a value that was read of a blob stands for each tree of its type that the key reads as, where the nodes of its references stand for theirs
+pub read_stands : {N E : Type 0} {v : Values N} → IsLawful v → ReadsItsTypes v.types → (s : PagerState N E) (trees : ℕ → Tree) (frame : Frame) (x : N) (t : Tree)
+    → FrameFits v.types s.core.stored trees frame → IsDecoded v frame x → ((r : ArcRef) → Among (v.references x) r → NodeStands v s r.node.0 (trees r.node.0)) → t.type ≡ frame.node_type
+    → ReadsTree s.core.stored v.types frame.key t → ValueStands v s x t
+read_stands {v = v} lawful readable s trees frame x t fits decoded nodes typed reads_tree =
     let read = decodes lawful readable frame x fits decoded in
     let led = read.leads in
     let same : read.t ≡ t = one_tree s.core.stored v.types frame.key read.t t (read.typed ∙ sym typed) read.reads reads_tree in

@@ -7,7 +7,7 @@ use Rattle.pagable_world.specs.Plain.{ArcRef, Kind, Blob, Types, Tree, type_of, 
 use Rattle.pagable_world.specs.World.{Frame}
 use Rattle.pagable_world.specs.Loads.{Next, reads, asks, is_faulty, next_in, need_at, need_of, needs_nested, needs_lazy, root_frame, nested_frame, with_got}
 use Rattle.pagable_world.specs.Pager.{ReadsNodeTree, FrameFits, FramesFit, SameTrees}
-use Rattle.pagable_laws.specs.ReadLaws.{Needs, KeepsStored, FramesGiven, AllGoOn}
+use Rattle.pagable_laws.specs.ReadLaws.{Needs, KeepsStored, FramesGiven}
 use Rattle.pagable_laws.proofs.Decoding.{asks_next}
 
 -- ---- what is asked
@@ -101,7 +101,8 @@ module _ {types : Types} {stored : ℕ → Option Blob} {trees : ℕ → Tree} w
 -- ---- all frames
 
 module _ (types : Types) (root_key root_type : ℕ) where
-  frames-stay : (stored stored' : ℕ → Option Blob) (trees trees' : ℕ → Tree) (last : ℕ) (frames : List Frame) → KeepsStored stored stored' → SameTrees last trees trees' → FramesGiven last frames
+  -- what was read goes on fitting where what was stored stays and each node that was given keeps its tree
+  pub frames-stay : (stored stored' : ℕ → Option Blob) (trees trees' : ℕ → Tree) (last : ℕ) (frames : List Frame) → KeepsStored stored stored' → SameTrees last trees trees' → FramesGiven last frames
       → FramesFit types stored trees root_key root_type frames → FramesFit types stored' trees' root_key root_type frames
   unfolding FramesFit
   frames-stay stored stored' trees trees' last [] kept same given h = tt
@@ -111,11 +112,12 @@ module _ (types : Types) (root_key root_type : ℕ) where
       (frame-stays kept last same (λ r among. given frame r (zero, refl) among) fits, typed, next_is, below)
 
   module _ (stored : ℕ → Option Blob) (trees : ℕ → Tree) where
-    root-fits : (blob : Blob) → stored root_key ≡ Some blob → FramesFit types stored trees root_key root_type (root_frame root_key root_type blob ∷ [])
+    -- and with what a step adds to it: the root's blob, the blob of the reference that it needs, or a handle of a node whose tree the key reads as
+    pub root-fits : (blob : Blob) → stored root_key ≡ Some blob → FramesFit types stored trees root_key root_type (root_frame root_key root_type blob ∷ [])
     unfolding FramesFit
     root-fits blob is = (new-fits (root_frame root_key root_type blob) refl is, refl, refl)
 
-    nested-fits : (frames : List Frame) (kind : Kind) (key : ℕ) (blob : Blob) → FramesFit types stored trees root_key root_type frames → need_of types frames ≡ needs_nested kind key
+    pub nested-fits : (frames : List Frame) (kind : Kind) (key : ℕ) (blob : Blob) → FramesFit types stored trees root_key root_type frames → need_of types frames ≡ needs_nested kind key
         → stored key ≡ Some blob
         → FramesFit types stored trees root_key root_type (nested_frame kind key blob ∷ frames)
     unfolding FramesFit
@@ -128,30 +130,31 @@ module _ (types : Types) (root_key root_type : ℕ) where
     grown-fits frame [] kind key row (fits, key_is, typed) next read = (got-fits frame _ key (asks_next types frame kind key next) read fits, key_is, typed)
     grown-fits frame (under ∷ rest) kind key row (fits, typed, next_is, more) next read = (got-fits frame _ key (asks_next types frame kind key next) read fits, typed, next_is, more)
 
-    needed-fits : (frames : List Frame) (kind : Kind) (key : ℕ) (row : HandleRow) → FramesFit types stored trees root_key root_type frames → Needs types frames kind key
+    pub needed-fits : (frames : List Frame) (kind : Kind) (key : ℕ) (row : HandleRow) → FramesFit types stored trees root_key root_type frames → Needs types frames kind key
         → ReadsNodeTree types stored trees key (type_of kind.0) row.node.0
         → FramesFit types stored trees root_key root_type (with_got kind row frames)
     unfolding FramesFit
     needed-fits [] kind key row h needs read = tt
     needed-fits (top ∷ below) kind key row h needs read = grown-fits top below kind key row h (asked below (next_in types top) kind key needs) read
 
-    made-fits : (top : Frame) (below : List Frame) (row : HandleRow) → FramesFit types stored trees root_key root_type (top ∷ below)
+    pub made-fits : (top : Frame) (below : List Frame) (row : HandleRow) → FramesFit types stored trees root_key root_type (top ∷ below)
         → ReadsNodeTree types stored trees top.key (type_of top.kind.0) row.node.0
         → FramesFit types stored trees root_key root_type (with_got top.kind row below)
     unfolding FramesFit
     made-fits top [] row h read = tt
     made-fits top (frame ∷ below) row (fits, typed, next_is, more) read = grown-fits frame below top.kind top.key row more next_is read
 
-    first-fits : (top : Frame) (below : List Frame) → FramesFit types stored trees root_key root_type (top ∷ below) → FrameFits types stored trees top
+    pub first-fits : (top : Frame) (below : List Frame) → FramesFit types stored trees root_key root_type (top ∷ below) → FrameFits types stored trees top
     unfolding FramesFit
     first-fits top [] h = h.0
     first-fits top (frame ∷ below) h = h.0
 
-    first-typed : (top frame : Frame) (below : List Frame) → FramesFit types stored trees root_key root_type (top ∷ frame ∷ below) → top.node_type ≡ type_of top.kind.0
+    pub first-typed : (top frame : Frame) (below : List Frame) → FramesFit types stored trees root_key root_type (top ∷ frame ∷ below) → top.node_type ≡ type_of top.kind.0
     unfolding FramesFit
     first-typed top frame below h = h.1
 
-got-given : (last last' : ℕ) (frames : List Frame) (kind : Kind) (row : HandleRow) → FramesGiven last frames → last ≤ last' → row.node.0 ≤ last' → FramesGiven last' (with_got kind row frames)
+-- where the node of each handle that is got was given, all stay given
+pub got-given : (last last' : ℕ) (frames : List Frame) (kind : Kind) (row : HandleRow) → FramesGiven last frames → last ≤ last' → row.node.0 ≤ last' → FramesGiven last' (with_got kind row frames)
 got-given last last' [] kind row given le node frame r (i, is) among = absurd (cc)
 got-given last last' (top ∷ below) kind row given le node frame r (zero, is) (place, there) =
     let got_is : frame.got ≡ top.got ++ record { kind = kind; node = row.node; handle = row.number } ∷ [] = cc in
@@ -161,16 +164,3 @@ got-given last last' (top ∷ below) kind row given le node frame r (zero, is) (
     of (inl old) = let a = given top r (zero, refl) (place, old) in omega (arith, a, le)
     of (inr new) = subst (λ (z : ArcRef). z.node.0 ≤ last') new.1 node
 got-given last last' (top ∷ below) kind row given le node frame r (suc i, is) among = let a = given frame r (suc i, is) among in omega (arith, a, le)
-
-pub frames_go_on : AllGoOn
-frames_go_on types root_key root_type =
-    record {
-      stays = frames-stay types root_key root_type;
-      root = root-fits types root_key root_type;
-      nested = nested-fits types root_key root_type;
-      got = needed-fits types root_key root_type;
-      made = made-fits types root_key root_type;
-      fits = first-fits types root_key root_type;
-      typed = first-typed types root_key root_type;
-      given = got-given;
-    }

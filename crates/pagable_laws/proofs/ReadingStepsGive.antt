@@ -21,7 +21,7 @@ use Rattle.pagable_world.specs.Headline.{ReadIsRight, ReadGives}
 use Rattle.pagable_laws.specs.TreeSteps.{HandsOver}
 use Rattle.pagable_laws.specs.TreeRuns.{ReadingsGiven}
 use Rattle.pagable_laws.specs.ReadRuns.{ReadingsHeld}
-use Rattle.pagable_laws.proofs.Fitting.{inside, frames_go_on}
+use Rattle.pagable_laws.proofs.Fitting.{inside, first-fits, frames-stay}
 use Rattle.pagable_laws.proofs.Decoding.{decodes}
 use Rattle.pagable_laws.proofs.Taking.{row-held, root-right}
 use Rattle.pagable_laws.proofs.ReadingSteps.{caller-free, reading-feels}
@@ -42,7 +42,7 @@ module _ {N E B W : Type 0} (m : Seen N B W) (lawful : IsLawful m.values) (reada
       → (r : ArcRef) → Among (m.values.references x) r → IsReference s'.pager.core owners.Caller r
   owned reading is key fit x root hands r among =
       let here = subst (λ fs. FramesFit m.values.types s.pager.core.stored trees key reading.node_type fs) root.frames fit in
-      let fits = (frames_go_on m.values.types key reading.node_type).fits s.pager.core.stored trees root.root [] here in
+      let fits = first-fits m.values.types key reading.node_type s.pager.core.stored trees root.root [] here in
       let got = (decodes lawful readable root.root x fits root.decoded).got r among in
       let front : Among reading.frames root.root = subst (λ fs. Among fs root.root) (sym root.frames) (zero, refl) in
       let moved = hands.each r among in
@@ -62,7 +62,7 @@ module _ {N E B W : Type 0} (m : Seen N B W) (lawful : IsLawful m.values) (reada
         let number : reading.load.0 ≡ l.0 = (whole.readings l.0 reading there).number in
         let fit = stands.readings reading is load (ap s.pager.core.loads number ∙ open_load) in
         let stored = (reading-feels m s.pager.core owners.Caller caller-free s'.pager.core h.reading reply.ended h.frames h.does).goes.stored in
-        let after = (frames_go_on m.values.types load.key reading.node_type).stays s.pager.core.stored s'.pager.core.stored trees trees' s.pager.core.last.node reading.frames stored same (given reading is).1 fit in
+        let after = frames-stay m.values.types load.key reading.node_type s.pager.core.stored s'.pager.core.stored trees trees' s.pager.core.last.node reading.frames stored same (given reading is).1 fit in
         root-right lawful readable s'.pager trees' reading x load.key whole'.pager stands'.pager after root (owned reading is load.key fit x root hands)
   ]
 

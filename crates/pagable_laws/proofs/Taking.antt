@@ -11,14 +11,14 @@ use Rattle.pagable_world.specs.Refusals.{IsReference}
 use Rattle.pagable_world.specs.Loads.{Next, reads, asks, is_faulty, next_in, need_at, need_of, needs_nested, needs_lazy, to_adopt, ReadsRoot, ReadsNode, root_frame, nested_frame, with_got}
 use Rattle.pagable_world.specs.Pager.{PagerState, HandlesAreWhole, IsWhole, WellFormed, NodeStands, here, away, ValueStands, ReadsNodeTree, FramesFit, SameTrees, Represents}
 use Rattle.pagable_world.specs.Runs.{ReadsItsTypes}
-use Rattle.pagable_world.specs.Headline.{ReadIsRight}
+use Rattle.pagable_world.specs.Headline.{GivesTree, ReadIsRight}
 use Rattle.pagable_laws.specs.TreeSteps.{Change, bears_known, CoreGoes, ReadingFeels, reads-root, reads-blob, gets-known, gets-lazy, makes-known, makes-node, reading-ends}
-use Rattle.pagable_laws.specs.ReadLaws.{Decoded, FramesGiven, PinStands}
+use Rattle.pagable_laws.specs.ReadLaws.{Decoded, FramesGiven}
 use Rattle.pagable_laws.proofs.Sums.{at-most-sum, self-number}
 use Rattle.pagable_laws.proofs.Trees.{same_some}
 use Rattle.pagable_laws.proofs.Following.{cell-of, given-of}
 use Rattle.pagable_laws.proofs.Decoding.{decodes, read_stands}
-use Rattle.pagable_laws.proofs.Fitting.{node-stays, frames_go_on}
+use Rattle.pagable_laws.proofs.Fitting.{node-stays, first-fits, first-typed, frames-stay, got-given, made-fits, needed-fits, nested-fits, root-fits}
 
 -- ---- a live handle's node
 
@@ -62,8 +62,10 @@ module _ {N E : Type 0} {v : Values N} {s : PagerState N E} where
   valued-here : WellFormed v s → (n : ℕ) → is_some (s.core.cells n) ≡ true → 0 < pins n s.core.rows → is_some (s.values n) ≡ true
   valued-here whole n live pinned = let a : nat_lt 0 (pins n s.core.rows) ≡ true = grind (arith, nat_tests) in whole.valued n ∙ rw (live, a) refl
 
-pub pin_stands : {N E : Type 0} (v : Values N) → PinStands E v
-pin_stands v s trees k row whole represents live pinning =
+-- each handle that pins gives the tree that its node was made with
+pub pin_stands : {N E : Type 0} {v : Values N} (s : PagerState N E) (trees : ℕ → Tree) (k : HandleNumber) (row : HandleRow) → WellFormed v s → Represents v s trees → row_at s.core k ≡ Some row
+    → is_pinning row.mode ≡ true → GivesTree v s trees k
+pin_stands s trees k row whole represents live pinning =
     let held_there = row-held s.core k row live in
     let there = valued-here whole row.node.0 (cell-of whole.whole.handles row.node.0 held_there) (row-pins s.core k row live pinning) in
     let x = some-value (s.values row.node.0) there in
@@ -96,7 +98,7 @@ module _ {N : Type 0} {v : Values N} {w' : Core} {trees' : ℕ → Tree} (k t : 
   fit-got : (frames : List Frame) (kind : Kind) (row : HandleRow) → HandlesAreWhole w' → row_at w' row.number ≡ Some row → FramesGiven w'.last.node frames
       → FramesFit v.types w'.stored trees' k t (with_got kind row frames)
       → FitAfter v w' trees' k t (with_got kind row frames)
-  fit-got frames kind row whole live given fit = record { fit = fit; given = (frames_go_on v.types k t).given w'.last.node w'.last.node frames kind row given (omega arith) (row-given whole row.number row live) }
+  fit-got frames kind row whole live given fit = record { fit = fit; given = got-given w'.last.node w'.last.node frames kind row given (omega arith) (row-given whole row.number row live) }
 
 module _ {N : Type 0} {v : Values N} {w w' : Core} {trees trees' : ℕ → Tree} where
   known-reads : {c : Change} → AtStep v c w w' trees trees' → (kind : Kind) (key n : ℕ) (row : HandleRow) → w.cache kind.0 key ≡ Some n → row.node.0 ≡ n
@@ -113,7 +115,7 @@ module _ {N : Type 0} {v : Values N} {w w' : Core} {trees trees' : ℕ → Tree}
   pub fit-still : {c : Change} {k t : ℕ} {frames : List Frame} → AtStep v c w w' trees trees' → FitAfter v w trees k t frames → FitAfter v w' trees' k t frames
   fit-still {k = k} {t} {frames} h f =
       record {
-        fit = (frames_go_on v.types k t).stays w.stored w'.stored trees trees' w.last.node frames h.goes.stored h.same f.given f.fit;
+        fit = frames-stay v.types k t w.stored w'.stored trees trees' w.last.node frames h.goes.stored h.same f.given f.fit;
         given = λ frame r among got. let a = f.given frame r among got in let b = h.goes.nodes in omega (arith, a, b);
       }
 
@@ -124,7 +126,7 @@ module _ {N : Type 0} {v : Values N} {w w' : Core} {trees trees' : ℕ → Tree}
     fit-made h reading x made row live read f =
         let g = subst (λ fs. FitAfter v w' trees' k t fs) made.frames f in
         let under : FramesGiven w'.last.node made.below = λ frame r among got. g.given frame r (suc among.0, among.1) got in
-        fit-got k t made.below made.top.kind row h.after.handles live under ((frames_go_on v.types k t).made w'.stored trees' made.top made.below row g.fit read)
+        fit-got k t made.below made.top.kind row h.after.handles live under (made-fits v.types k t w'.stored trees' made.top made.below row g.fit read)
 
   -- After a load's step all that it reads fits.
   pub fit-after : (reading : Reading) (load : OpenLoad) (frames : List Frame) {c : Change} → AtStep v c w w' trees trees' → w.loads reading.load.0 ≡ Some load
@@ -134,19 +136,19 @@ module _ {N : Type 0} {v : Values N} {w w' : Core} {trees trees' : ℕ → Tree}
       let there = h.goes.stored load.key blob (subst (λ (z : OpenLoad). w.stored z.key ≡ Some blob) same_load stored) in
       let frame = root_frame load.key reading.node_type blob in
       let is2 : frames ≡ frame ∷ [] = is ∙ ap (λ (z : OpenLoad). root_frame z.key reading.node_type blob ∷ []) same_load in
-      let fit = (frames_go_on v.types load.key reading.node_type).root w'.stored trees' blob there in
+      let fit = root-fits v.types load.key reading.node_type w'.stored trees' blob there in
       subst (λ fs. FitAfter v w' trees' load.key reading.node_type fs) (sym is2) (record { fit = fit; given = new-given w'.last.node frame [] refl (λ fr r among got. absurd (let a = among.1 in cc)) })
   fit-after reading load frames h open_load f (reads-blob kind key blob needs stored answer is) =
       let g = fit-still h f in
-      let fit = (frames_go_on v.types load.key reading.node_type).nested w'.stored trees' reading.frames kind key blob g.fit needs (h.goes.stored key blob stored) in
+      let fit = nested-fits v.types load.key reading.node_type w'.stored trees' reading.frames kind key blob g.fit needs (h.goes.stored key blob stored) in
       subst (λ fs. FitAfter v w' trees' load.key reading.node_type fs) (sym is) (record { fit = fit; given = new-given w'.last.node (nested_frame kind key blob) reading.frames refl g.given })
   fit-after reading load frames h open_load f (gets-known kind key n row needs known got answer is) =
       let g = fit-still h f in
-      let fit = (frames_go_on v.types load.key reading.node_type).got w'.stored trees' reading.frames kind key row g.fit needs (known-reads h kind key n row known got.at) in
+      let fit = needed-fits v.types load.key reading.node_type w'.stored trees' reading.frames kind key row g.fit needs (known-reads h kind key n row known got.at) in
       subst (λ fs. FitAfter v w' trees' load.key reading.node_type fs) (sym is) (fit-got load.key reading.node_type reading.frames kind row h.after.handles got.live g.given fit)
   fit-after reading load frames h open_load f (gets-lazy kind key row needs got answer is) =
       let g = fit-still h f in
-      let fit = (frames_go_on v.types load.key reading.node_type).got w'.stored trees' reading.frames kind key row g.fit (inr needs) (born-reads h kind key _ row refl got.at) in
+      let fit = needed-fits v.types load.key reading.node_type w'.stored trees' reading.frames kind key row g.fit (inr needs) (born-reads h kind key _ row refl got.at) in
       subst (λ fs. FitAfter v w' trees' load.key reading.node_type fs) (sym is) (fit-got load.key reading.node_type reading.frames kind row h.after.handles got.live g.given fit)
   fit-after reading load frames h open_load f (makes-known x made n row known got answer is) =
       let read = known-reads h made.top.kind made.top.key n row known got.at in
@@ -177,11 +179,10 @@ module _ {N : Type 0} {v : Values N} (lawful : IsLawful v) (readable : ReadsItsT
   pub node-decoded : (stored : ℕ → Option Blob) (trees : ℕ → Tree) (k t : ℕ) (reading : Reading) (x : N) (r : ReadsNode v reading x) → FramesFit v.types stored trees k t reading.frames
       → Decoded v stored trees r.top x × (r.top.node_type ≡ type_of r.top.kind.0)
   node-decoded stored trees k t reading x r fit =
-      let law = frames_go_on v.types k t in
       let here = subst (λ fs. FramesFit v.types stored trees k t fs) r.frames fit in
       let over = adopted-over r.below (next_in v.types r.top) (sym (ap (need_of v.types) r.frames) ∙ r.needs) in
       let there = subst (λ fs. FramesFit v.types stored trees k t (r.top ∷ fs)) over.2 here in
-      (decodes lawful readable r.top x (law.fits stored trees r.top r.below here) r.decoded, law.typed stored trees r.top over.0 over.1 there)
+      (decodes lawful readable r.top x (first-fits v.types k t stored trees r.top r.below here) r.decoded, first-typed v.types k t stored trees r.top over.0 over.1 there)
 
   -- what a load of a key answers stands for the tree that the key reads as
   pub root-right : {E : Type 0} (s : PagerState N E) (trees : ℕ → Tree) (reading : Reading) (x : N) (key : ℕ) → WellFormed v s → Represents v s trees
@@ -189,8 +190,8 @@ module _ {N : Type 0} {v : Values N} (lawful : IsLawful v) (readable : ReadsItsT
       → ReadsRoot v reading x → ((r : ArcRef) → Among (v.references x) r → IsReference s.core owners.Caller r) → ReadIsRight v s key x
   root-right s trees reading x key whole represents fit root own =
       let here = subst (λ fs. FramesFit v.types s.core.stored trees key reading.node_type fs) root.frames fit in
-      let fits = (frames_go_on v.types key reading.node_type).fits s.core.stored trees root.root [] here in
-      record { stands = λ t typed reads_tree. read_stands v lawful readable s trees root.root x t fits root.decoded nodes-stand (typed ∙ root.decoded.typed) (subst (λ n. ReadsTree s.core.stored v.types n t) (sym (root-key v.types s.core.stored trees key reading.node_type root.root here)) reads_tree); own = own }
+      let fits = first-fits v.types key reading.node_type s.core.stored trees root.root [] here in
+      record { stands = λ t typed reads_tree. read_stands lawful readable s trees root.root x t fits root.decoded nodes-stand (typed ∙ root.decoded.typed) (subst (λ n. ReadsTree s.core.stored v.types n t) (sym (root-key v.types s.core.stored trees key reading.node_type root.root here)) reads_tree); own = own }
     where
       nodes-stand : (r : ArcRef) → Among (v.references x) r → NodeStands v s r.node.0 (trees r.node.0)
       nodes-stand r among =

@@ -10,14 +10,11 @@ use Rattle.pagable_world.specs.Pager.{PagerState, WellFormed, Moves, Represents,
 use Rattle.pagable_world.specs.Runs.{HoldsSettled}
 use Rattle.pagable_laws.specs.ReadLaws.{LeadsTo, ValueLeads}
 use Rattle.pagable_laws.specs.TreeSteps.{Change, Bears, CoreGoes, SameNode, NewNode, NodeLeads}
-use Rattle.pagable_laws.specs.TreeRuns.{IsKeptByGains, ChangeFits}
+use Rattle.pagable_laws.specs.TreeRuns.{ChangeFits}
 use Rattle.pagable_laws.proofs.Trees.{same_some}
 use Rattle.pagable_laws.proofs.Following.{given-of, held-of, cell-of}
 use Rattle.pagable_laws.proofs.Fitting.{tree-stays}
 use Rattle.pagable_laws.proofs.Leading.{leads-on, own-refs, leads-all, stands-again}
-
-pub kept : IsKeptByGains
-kept store more types key t stays reads = tree-stays stays reads
 
 pub either-side : (n last : ℕ) → (n ≤ last) ⊎ (last < n)
 either-side n last = at (nat_lt last n) refl

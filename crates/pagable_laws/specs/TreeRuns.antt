@@ -1,16 +1,12 @@
--- The laws of trees along runs.
-use Rattle.std.specs.Prelude.{◌≤◌, ℕ, ◌≡◌, ◌+◌, Option, Some, None}
-use Rattle.pagable_world.specs.Plain.{Blob, Types, Tree, ReadsTree}
+-- What a change brings to trees, and trees after an event.
+use Rattle.std.specs.Prelude.{◌≤◌, ℕ, ◌≡◌, ◌+◌, Some, None}
+use Rattle.pagable_world.specs.Plain.{Tree, ReadsTree}
 use Rattle.pagable_world.specs.World.{Values, Reading}
 use Rattle.pagable_world.specs.Pager.{MachineState, StandsFor, IsReadingOf, PagerState, SameTrees, ReadsNodeTree}
 use Rattle.pagable_model.specs.declared.data_key.OptionalDataKey.TheVariants as optional
 use Rattle.pagable_world.specs.Plain.{OptionalDataKey, type_of}
 use Rattle.pagable_laws.specs.ReadLaws.{ValueLeads, FramesGiven}
 use Rattle.pagable_laws.specs.TreeSteps.{Change, Sets, Knows, Bears}
-
--- A key reads as the same tree when the storage has gained blobs.
-abbrev pub IsKeptByGains : Type 0
-IsKeptByGains = (store more : ℕ → Option Blob) (types : Types) (key : ℕ) (t : Tree) → ((q : ℕ) (b : Blob) → store q ≡ Some b → more q ≡ Some b) → ReadsTree store types key t → ReadsTree more types key t
 
 -- What a change brings fits the trees afterwards: the key that is set, the key of a new node, what becomes known, and each value that comes.
 pub record ChangeFits {N E : Type 0} (v : Values N) (c : Change) (comes : ℕ → N → Type 0) (s s' : PagerState N E) (trees trees' : ℕ → Tree) : Type 0 where

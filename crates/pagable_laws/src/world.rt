@@ -2,7 +2,6 @@
 
 ghost use Rattle.pagable_world.specs.World.{Seen};
 ghost use Rattle.pagable_laws.specs.FallLaws.{IsThere, IsOne, IsGivenAlone, PinsAreAFilter, TwoLevelsFall, LoneIsListed};
-ghost use Rattle.pagable_laws.specs.ReadLaws.{AllGoOn, AsksNext, DecodesWell, PinStands, ReadStands};
 ghost use Rattle.pagable_laws.specs.LevelLaws.{TwoLevelsMeetTheHeadline};
 ghost use Rattle.pagable_laws.specs.RunLaws.{ChainsJoin, NewIsWhole, NextIsOneOf, KeysTellTheirTrees};
 
@@ -72,34 +71,6 @@ pub fn keys_tell_trees<N: SeenAs<B, W>, B, W>()
 {
     is_key_of_one_tree()
 }
-
-/// The key that a blob asks for is the next of its keys.
-#[tactic(auto, using(crate::proofs::Decoding::asks_next))]
-pub fn asks_for_the_next()
-    ensures { AsksNext }
-{}
-
-/// A value that was read of a blob leads to the tree that the blob's key reads as.
-#[tactic(auto, using(crate::proofs::Decoding::decodes_well))]
-pub fn reading_leads_to_the_tree<N: SeenAs<B, W>, B, W>()
-    ensures { DecodesWell N.seen.values }
-{}
-
-/// It stands for each tree of its type that the key reads as, where the nodes of its references stand for theirs.
-pub fn what_is_read_stands<N: SeenAs<B, W>, B, W, E>()
-    ensures { ReadStands E N.seen.values }
-{}
-
-/// What a load reads goes on fitting.
-#[tactic(auto, using(crate::proofs::Fitting::frames_go_on))]
-pub fn reading_goes_on_fitting()
-    ensures { AllGoOn }
-{}
-
-/// Each handle that pins gives the tree that its node was made with.
-pub fn what_is_pinned_stands<N: SeenAs<B, W>, B, W, E>()
-    ensures { PinStands E N.seen.values }
-{}
 
 /// The headline is met with all that it asks by a chain of two levels: births, a page-out, an eviction, and loads of cells and of a key.
 #[tactic(auto, using(crate::proofs::Level::headline_met))]
