@@ -34,7 +34,7 @@ use Rattle.pagable_laws.proofs.Stepping.{all-known, stands-for}
 -- ---- one step of a worker
 
 module _ {N B W : Type 0} (m : Seen N B W) (n : ℕ) (g : Ground) (task : Task) (s s' : Site) where
-  of-publish : (todo : List Todo) (i : Identity) (key height : ℕ) → Does m n s todo (took.Publish i key height) s' → Walks m.values g s.shelf n task todo → KeyOf m.values.hash m.values.types (g.trees i.node.0) key
+  of-publish : (todo : List Todo) (i : Identity) (key height : ℕ) → Does m n s todo (took.Publish i key height) s' → Walks m.values g s.shelf task todo → KeyOf m.values.hash m.values.types (g.trees i.node.0) key
   of-publish (to_publish r k h ∷ below) i key height (is, same_key, same_height, t) (blob, above) =
       subst (λ (j : Identity). KeyOf m.values.hash m.values.types (g.trees j.node.0) key) (sym is) (subst (λ q. KeyOf m.values.hash m.values.types (g.trees r.node.0) q) (sym same_key) blob.stands.right.is_key)
   of-publish todo i key height does walks = absurd does
@@ -48,7 +48,7 @@ module _ {N B W : Type 0} (m : Seen N B W) (n : ℕ) (g : Ground) (task : Task) 
   is-fault (was_refused f) key e = cc
   is-fault was_failed key e = cc
 
-  answered : (todo : List Todo) (step : Took W) → Does m n s todo step s' → Walks m.values g s.shelf n task todo → (key : ℕ) → answer_after todo step ≡ Some (finals.Key key) → Answers key
+  answered : (todo : List Todo) (step : Took W) → Does m n s todo step s' → Walks m.values g s.shelf task todo → (key : ℕ) → answer_after todo step ≡ Some (finals.Key key) → Answers key
   unfolding Waits
   answered (to_item written ks ∷ below) (took.Store i (Ok k)) (is, p) (of_it, known) key e =
       let to : k ≡ key = cc in
@@ -59,7 +59,7 @@ module _ {N B W : Type 0} (m : Seen N B W) (n : ℕ) (g : Ground) (task : Task) 
       }
   answered (to_item written ks ∷ below) (took.Store i (Err f)) does walks key e = absurd (cc)
   answered (to_item written ks ∷ below) step does walks key e = absurd does
-  answered (to_release r k h ∷ []) (took.Release i) (is, falls, t) (p, expects, waits) key e =
+  answered (to_release r k h ∷ []) (took.Release i) (is, falls, t) (p, (expects, waits)) key e =
       let to : k ≡ key = cc in record { done = of-entry task expects (subst (λ q. IsPublished s.shelf (identity_of r) q h) to p); same = t.table_stays.slots }
     where
       of-entry : (task : Task) → IsOfEntry task r → IsPublished s.shelf (identity_of r) key h → IsDone m.values s.shelf task key
@@ -223,5 +223,5 @@ each-type all (followed kind a) = (all (type_of kind), each-type all a)
 pub sets-key : {N E : Type 0} (v : Values N) (s : MachineState N E) (trees : ℕ → Tree) → ReadsItsTypes v.types → WorkFits v s trees → (n : ℕ) (walking : Walking) (r : ArcRef) (through : HandleNumber) (key height : ℕ) (below : List Todo)
     → s.work.walkings n ≡ Some walking → walking.todo ≡ to_set r through key height ∷ below → ReadsTree s.pager.core.stored v.types key (trees r.node.0)
 sets-key v s trees reads fit n walking r through key height below there is =
-    let walks = subst (λ t. Walks v (ground_of s trees) (s.work.shelves walking.table) n walking.task t) is (fit.walks n walking there) in
+    let walks = subst (λ t. Walks v (ground_of s trees) (s.work.shelves walking.table) walking.task t) is (fit.walks n walking there) in
     tree_readable s.pager.core.stored v.types (trees r.node.0) key (reads (trees r.node.0).type, each-type reads (trees r.node.0).meaning) walks.0.stands.right.stands

@@ -18,10 +18,10 @@ use Rattle.pagable_world.specs.Runs.{Moment, AreMoments, state_after, events_of,
 use Rattle.pagable_world.specs.Order.{step_of, steps_of, InOrder}
 use Rattle.pagable_world.specs.Headline.{TableMeets, HasLetGo, claims_made, WorkerIsRight, LoadsHaveStepsLeft, WorkIsRight, HeadlineLaw}
 use Rattle.pagable_laws.proofs.Standing.{WalkingStands, is_failing, is_open_in}
-use Rattle.pagable_laws.proofs.Changing.{grows, some-none}
-use Rattle.pagable_laws.proofs.Holding.{Turned, KeepsTask, keeps-task, work-stands}
+use Rattle.pagable_laws.proofs.Changing.{grows}
+use Rattle.pagable_laws.proofs.Holding.{Turned, KeepsTask, keeps-task}
 use Rattle.pagable_laws.proofs.Once.{once_each}
-use Rattle.pagable_laws.proofs.Coming.{StandsIn, EventTurns, event-turns}
+use Rattle.pagable_laws.proofs.Coming.{StandsIn, EventTurns, event-turns, turns-stand, idle-stands}
 use Rattle.pagable_laws.proofs.Histories.{Went, HasGone, goes-on}
 use Rattle.pagable_laws.proofs.Sums.{sum-zero}
 use Rattle.pagable_laws.proofs.ReadingStepsWithin.{loads-bounded}
@@ -56,9 +56,7 @@ module _ {N E B W : Type 0} (m : Seen N B W) where
       let turns : EventTurns m (world_of s) x.event x.reply (world_of x.after) =
       event-turns m (world_of s) (world_of x.after) work (λ v w there. (whole.walkings v w there).table.1) x.event x.reply does.step.happens in
       let t = turns.turned in
-      let mid : StandsIn (world_of x.after) =
-      work-stands turns.who s.work.shelves x.after.work.shelves s.work.walkings x.after.work.walkings t s.pager.core.last.worker x.after.pager.core.last.worker turns.last turns.small work in
-      let rest = arrives x.after xs chain does.whole mid in
+      let rest = arrives x.after xs chain does.whole (turns-stand m turns work) in
       let last = (state_after x.after xs).work.walkings in
       record {
         work = rest.work;
@@ -81,14 +79,6 @@ module _ {N E B W : Type 0} (m : Seen N B W) where
           let k = keeps-task who s.work.shelves x.after.work.shelves s.work.walkings x.after.work.walkings t v w there in
           let l = keeps v k.now k.there in
           record { now = l.now; there = l.there; table = l.table ∙ k.table; task = l.task ∙ k.task }
-
-  idle-stands : (s : MachineState N E) → IsIdle s → StandsIn (world_of s)
-  idle-stands s idle =
-      record {
-        slots = λ t i slot there. some-none there (idle.shelves t i);
-        workers = λ v w there. some-none there (idle.walkings v);
-        numbered = λ v w there. some-none there (idle.walkings v);
-      }
 
 owner-is : (n : ℕ) (o : Owner) → is_owner (owner_worker n) o ≡ true → o ≡ owner_worker n
 owner-is n owners.Caller is = absurd (cc)
@@ -150,7 +140,7 @@ work-right {N} {E} {B} {W} m s moments whole idle chain loads = record { claims_
     replied = replies_of moments
 
     all : Arrives m s end happened replied
-    all = arrives m s moments chain whole (idle-stands m s idle)
+    all = arrives m s moments chain whole (idle-stands s idle)
 
     one-at-most : (a c : ℕ) (b : Bool) → a + c ≤ one b → c ≤ 1
     one-at-most a c true few = omega arith

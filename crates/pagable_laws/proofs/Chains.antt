@@ -18,6 +18,7 @@ use Rattle.pagable_laws.specs.PageOutLaws.{WorkFits}
 use Rattle.pagable_laws.specs.KeyRuns.{KeysHeld}
 use Rattle.pagable_laws.specs.ReadRuns.{ReadingsHeld}
 use Rattle.pagable_laws.proofs.Taking.{pin_stands}
+use Rattle.pagable_laws.proofs.Coming.{StandsIn, event-turns, turns-stand, idle-stands}
 use Rattle.pagable_laws.proofs.Lasting.{keeps-trees}
 use Rattle.pagable_laws.proofs.Publishing.{fits-at-first, fits-on}
 use Rattle.pagable_laws.proofs.Answering.{keys-right}
@@ -41,6 +42,7 @@ module _ {N E B W : Type 0} (m : Seen N B W) (s s' : MachineState N E) (trees tr
 -- what holds of a machine and its trees along a chain
 record IsGoingOn {N E : Type 0} (v : Values N) (s : MachineState N E) (trees : ℕ → Tree) : Type 0 where
   whole : IsMachineWhole v s
+  work : StandsIn (world_of s)
   settled : HoldsSettled v s.pager
   stands : StandsFor v s trees
   given : ReadingsGiven s
@@ -50,7 +52,7 @@ record IsGoingOn {N E : Type 0} (v : Values N) (s : MachineState N E) (trees : �
 
 module _ {N E B W : Type 0} (m : Seen N B W) (lawful : IsLawful m.values) (readable : ReadsItsTypes m.values.types) where
   idle-goes : (s : MachineState N E) (trees : ℕ → Tree) → IsMachineWhole m.values s → IsIdle s → HoldsSettled m.values s.pager → StandsFor m.values s trees → IsGoingOn m.values s trees
-  idle-goes s trees whole idle settled stands = record { whole = whole; settled = settled; stands = stands; given = λ reading is. absurd (none-reads reading is); fits = fits-at-first m.values s trees idle; held = held-at-first s idle; reads = λ reading is. absurd (none-reads reading is) }
+  idle-goes s trees whole idle settled stands = record { whole = whole; work = idle-stands s idle; settled = settled; stands = stands; given = λ reading is. absurd (none-reads reading is); fits = fits-at-first m.values s trees idle; held = held-at-first s idle; reads = λ reading is. absurd (none-reads reading is) }
     where
       none-reads : (reading : Reading) → IsReadingOf s.work reading → ⊥
       none-reads reading (of_caller l is) = let f = idle.readings l in cc
@@ -62,7 +64,8 @@ module _ {N E B W : Type 0} (m : Seen N B W) (lawful : IsLawful m.values) (reada
       let feels = does-feels m s x.after trees x.event x.reply on.whole on.fits premised.stays_open does in
       let ready = keys-ready m.values s trees readable on.fits on.held in
       let a = keeps-trees m lawful readable s x.after trees x.event x.reply on.stands on.given on.settled on.whole does.whole ready premised.well does.moves feels in
-      let fits = fits-on m s x.after trees a.after (record { kept = feels.core.stored; last = feels.core.nodes; trees = a.keeps }) on.fits on.whole on.stands.pager on.settled readable x.event x.reply does.step.happens does.writes in
+      let turns = event-turns m (world_of s) (world_of x.after) on.work (λ v w there. (on.whole.walkings v w there).table.1) x.event x.reply does.step.happens in
+      let fits = fits-on m s x.after trees a.after (record { kept = feels.core.stored; last = feels.core.nodes; trees = a.keeps }) on.fits on.whole on.stands.pager on.settled readable on.work x.event x.reply turns does.writes in
       let held = held-on m s x.after x.event x.reply on.whole premised.stays_open does on.held in
       let pins = pins-hold m (world_of s) (world_of x.after) x.event x.reply on.whole.pager.whole.handles does.step.happens in
       let keys = keys-right m s x.after trees a.after on.fits fits on.whole does.whole a.stands on.held held x.event x.reply does.step.happens in
@@ -70,7 +73,7 @@ module _ {N E B W : Type 0} (m : Seen N B W) (lawful : IsLawful m.values) (reada
       record { pins_give = pin-gives m s x.after trees a.after does.whole a.stands x.event x.reply pins; reads_give = reads-give m lawful readable s x.after trees a.after on.whole does.whole on.stands on.given on.reads a.keeps a.stands x.event x.reply does; leaves = keys.leaves; publishes = keys.publishes; key = keys.key } in (
         a.after,
         record { keeps = a.keeps; stands = a.stands; so = so },
-        stay x.after a.after xs (record { whole = does.whole; settled = premised.settled; stands = a.stands; given = a.given; fits = fits; held = held; reads = event-held m.values on.reads x.event x.reply feels.core feels.feels }) more,
+        stay x.after a.after xs (record { whole = does.whole; work = turns-stand m turns on.work; settled = premised.settled; stands = a.stands; given = a.given; fits = fits; held = held; reads = event-held m.values on.reads x.event x.reply feels.core feels.feels }) more,
       )
 
 -- Along each chain that begins where nobody works yet, each node keeps its tree, each pin that succeeds gives the tree that its handle's node was made with, each reading that of its key, and keys are right.

@@ -19,12 +19,13 @@ use Rattle.pagable_world.specs.declared.events.EventReply.TheVariants as answers
 use Rattle.pagable_world.specs.World.{Core, Alike, Shelf, Slot, Todo, Task, Walking, World, Seen}
 use Rattle.pagable_world.specs.Workers.{Site, answer_after}
 use Rattle.pagable_world.specs.Events.{CallStep, Happens, Stays, WorkStays, WorkIs, Starts, no_shelf, new_walking, WorkerSteps, Ends}
+use Rattle.pagable_world.specs.Pager.{MachineState, world_of, IsIdle}
 use Rattle.pagable_world.specs.Order.{step_of}
 use Rattle.pagable_laws.proofs.Standing.{WorkStands}
-use Rattle.pagable_laws.proofs.Changing.{SlotChanges, ShelfGrows, grows, same-slots, meets-grow}
+use Rattle.pagable_laws.proofs.Changing.{SlotChanges, ShelfGrows, some-none, grows, same-slots, meets-grow}
 use Rattle.pagable_laws.proofs.Claiming.{stands-on}
 use Rattle.pagable_laws.proofs.Going.{Goes, all-stay}
-use Rattle.pagable_laws.proofs.Holding.{SameSlots, Turned, is-quiet, is-started, is-stepped}
+use Rattle.pagable_laws.proofs.Holding.{SameSlots, Turned, work-stands, is-quiet, is-started, is-stepped}
 use Rattle.pagable_laws.proofs.Calling as calling
 use Rattle.pagable_laws.proofs.Goes.{NotLoads}
 use Rattle.pagable_laws.proofs.Called.{calls-go}
@@ -44,8 +45,8 @@ KnowsTables u = (v : ℕ) (w : Walking) → u.work.walkings v ≡ Some w → w.t
 
 -- what an event does to the worker that it touches, which makes these steps
 pub data OwnTurn {N B W : Type 0} (m : Seen N B W) (u : World) (v : ℕ) (taken : List (Took W)) (u' : World) : Type 0 where
-  rests : taken ≡ [] → u'.work.walkings v ≡ u.work.walkings v → OwnTurn m u v taken u'
-  begins : (t : TableNumber) (task : Task) → taken ≡ [] → u.work.walkings v ≡ None → u'.work.walkings v ≡ Some (new_walking t task) → OwnTurn m u v taken u'
+  rests : taken ≡ [] → SameSlots u.work.shelves u'.work.shelves → u'.work.walkings v ≡ u.work.walkings v → OwnTurn m u v taken u'
+  begins : (t : TableNumber) (task : Task) → taken ≡ [] → SameSlots u.work.shelves u'.work.shelves → u.work.walkings v ≡ None → u'.work.walkings v ≡ Some (new_walking t task) → OwnTurn m u v taken u'
   steps : (k : WorkerNumber) (reply : WorkerReply W) → k.0 ≡ v → taken ≡ reply.took ∷ [] → WorkerSteps m u k reply u' → OwnTurn m u v taken u'
 
 pub record EventTurns {N B W : Type 0} (m : Seen N B W) (u : World) (event : Event N B W) (reply : EventReply N B W) (u' : World) : Type 0 where
@@ -94,7 +95,7 @@ module _ {N B W : Type 0} (m : Seen N B W) (u u' : World) (work : StandsIn u) wh
           last = last;
           small = omega arith;
           others = λ n other. no_step n;
-          own = rests (no_step 0) (stay 0);
+          own = rests (no_step 0) same (stay 0);
         }
 
     by-work : ((n : ℕ) → step_of n event reply ≡ []) → NoFewer u.core u'.core → WorkStays u.work u'.work → EventTurns m u event reply u'
@@ -117,7 +118,7 @@ module _ {N B W : Type 0} (m : Seen N B W) (u u' : World) (work : StandsIn u) wh
           last = let e = s.next in omega arith;
           small = let e = s.next in omega arith;
           others = λ n other. no_step n;
-          own = begins t task (no_step v.0) (nobody above (u.work.walkings v.0) refl) new;
+          own = begins t task (no_step v.0) (λ q i. (s.work.same_shelves q).slots i) (nobody above (u.work.walkings v.0) refl) new;
         }
       where
         nobody : u.core.last.worker < v.0 → (o : Option Walking) → u.work.walkings v.0 ≡ o → u.work.walkings v.0 ≡ None
@@ -193,3 +194,17 @@ module _ {N B W : Type 0} (m : Seen N B W) (u u' : World) (work : StandsIn u) wh
   event-turns tables (events.WorkerStep v) (answers.WorkerMoved (Ok reply)) h = stepped v reply h.moves
   event-turns tables (events.WorkerStep v) (answers.WorkerMoved (Err e)) h = unchanged _ _ (λ n. refl) h.refused.2
   event-turns tables event reply h = absurd h
+
+-- what stands goes on to stand
+pub turns-stand : {N B W : Type 0} (m : Seen N B W) {u u' : World} {event : Event N B W} {reply : EventReply N B W} → EventTurns m u event reply u' → StandsIn u → StandsIn u'
+turns-stand m {u} {u'} turns work =
+    work-stands turns.who u.work.shelves u'.work.shelves u.work.walkings u'.work.walkings turns.turned u.core.last.worker u'.core.last.worker turns.last turns.small work
+
+-- and so it does where nobody works yet
+pub idle-stands : {N E : Type 0} (s : MachineState N E) → IsIdle s → StandsIn (world_of s)
+idle-stands s idle =
+    record {
+      slots = λ t i slot there. some-none there (idle.shelves t i);
+      workers = λ v w there. some-none there (idle.walkings v);
+      numbered = λ v w there. some-none there (idle.walkings v);
+    }

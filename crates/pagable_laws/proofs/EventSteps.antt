@@ -248,22 +248,22 @@ core-goes {w} {w'} c whole g =
     ]
 
 -- where what workers do fits trees, no load waits below
-waits-well : (shelf : Shelf) (n : ℕ) (task : Task) (below : List Todo) → Waits shelf n task below → NoLoad below
+waits-well : (shelf : Shelf) (task : Task) (below : List Todo) → Waits shelf task below → NoLoad below
 unfolding Waits
-waits-well shelf n task [] waits = tt
-waits-well shelf n task (to_finish o ∷ below) waits = tt
-waits-well shelf n task (to_item written keys ∷ below) waits = tt
-waits-well shelf n task (x ∷ below) waits = absurd waits
+waits-well shelf task [] waits = tt
+waits-well shelf task (to_finish o ∷ below) waits = tt
+waits-well shelf task (to_item written keys ∷ below) waits = tt
+waits-well shelf task (x ∷ below) waits = absurd waits
 
-walks-well : {N : Type 0} (v : Values N) (g : Ground) (shelf : Shelf) (n : ℕ) (task : Task) (todo : List Todo) → Walks v g shelf n task todo → WaitsWell todo
-walks-well v g shelf n task (to_start r place ∷ below) walks = waits-well shelf n task below walks.1
-walks-well v g shelf n task (to_release r key height ∷ below) walks = waits-well shelf n task below walks.2
-walks-well v g shelf n task todo walks = tt
+walks-well : {N : Type 0} (v : Values N) (g : Ground) (shelf : Shelf) (task : Task) (todo : List Todo) → Walks v g shelf task todo → WaitsWell todo
+walks-well v g shelf task (to_start r place ∷ below) walks = waits-well shelf task below walks.1
+walks-well v g shelf task (to_release r key height ∷ below) walks = waits-well shelf task below walks.1.1
+walks-well v g shelf task todo walks = tt
 
 -- each event of a whole machine is felt
 pub does-feels : {N B W E : Type 0} (m : Seen N B W) (s s' : MachineState N E) (trees : ℕ → Tree) (event : Event N B W) (reply : EventReply N B W)
     → IsMachineWhole m.values s → WorkFits m.values s trees → KeepsOpen event → Does m s event reply s' → StepFeels m.values (world_of s) event reply (world_of s')
 does-feels m s s' trees event reply whole fits open_still does =
     let g = event-goes m (world_of s) (world_of s') event reply open_still does.step.happens in
-    let well : AllWaitWell (world_of s) = λ n walking is. walks-well m.values _ _ n walking.task walking.todo (fits.walks n walking is) in
+    let well : AllWaitWell (world_of s) = λ n walking is. walks-well m.values _ _ walking.task walking.todo (fits.walks n walking is) in
     record { change = g.change; core = core-goes g.change whole.pager.whole.handles g.goes; feels = g.feels whole.pager.whole well }

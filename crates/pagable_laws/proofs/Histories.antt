@@ -133,8 +133,8 @@ module _ {N B W : Type 0} (m : Seen N B W) (u u' : World) (grow : (t : ℕ) → 
 
   own-goes : StandsIn u → (v : ℕ) (past taken : List (Took W)) → OwnTurn m u v taken u' → HasGone f v u.work.shelves (u.work.walkings v) past
       → HasGone f v u'.work.shelves (u'.work.walkings v) (past ++ taken)
-  own-goes work v past taken (rests none same) gone = stays v (u.work.walkings v) (u'.work.walkings v) past taken same none gone
-  own-goes work v past taken (begins t task none nobody new) gone = begun v t task past taken none nobody new gone
+  own-goes work v past taken (rests none slots same) gone = stays v (u.work.walkings v) (u'.work.walkings v) past taken same none gone
+  own-goes work v past taken (begins t task none slots nobody new) gone = begun v t task past taken none nobody new gone
   own-goes work v past taken (steps k reply is taken_is s) gone =
       subst (λ x. HasGone f x u'.work.shelves (u'.work.walkings x) (past ++ taken)) is
       (subst (λ k_steps. HasGone f k.0 u'.work.shelves (u'.work.walkings k.0) (past ++ k_steps)) (sym taken_is)

@@ -1,5 +1,5 @@
 -- What tables and workers hold of a page-out, by trees: an invariant of runs, and what follows from it of published and answered keys.
-use Rattle.std.specs.Prelude.{ℕ, ℤ, ◌≡◌, ◌≤◌, List, [], ◌∷◌, drop, length, Option, Some, None}
+use Rattle.std.specs.Prelude.{ℕ, ℤ, ◌≡◌, ◌≤◌, List, [], ◌∷◌, drop, length, Option, Some}
 use Rattle.pagable_model.specs.Meaning.{number, integer, text, pattern, none, pair, variant, reference, followed}
 use Rattle.pagable_model.specs.Reading.{deepest}
 use Rattle.pagable_model.specs.Form.{Form}
@@ -7,7 +7,7 @@ use Rattle.pagable_model.specs.Writing.{kind_of_arc}
 use Rattle.pagable_model.specs.Merkle.{blob_of, KeyOf, StoredTree}
 use Rattle.pagable_world.specs.Plain.{ArcRef, Identity, Blob, Meaning, Shape, Tree, Types, type_of, Among}
 use Rattle.pagable_world.specs.Kinds.{identity_of}
-use Rattle.pagable_world.specs.World.{Shelf, Slot, no_result, published, Written, Todo, to_start, to_pin, to_load, to_write, to_finish, to_item, to_set, to_publish, to_release, to_fail, Task, of_item, of_entry, Walking, Values, digest}
+use Rattle.pagable_world.specs.World.{Shelf, Slot, published, Written, Todo, to_start, to_pin, to_load, to_write, to_finish, to_item, to_set, to_publish, to_release, to_fail, Task, of_item, of_entry, Walking, Values, digest}
 use Rattle.pagable_world.specs.Workers.{IsPublished}
 use Rattle.pagable_world.specs.Pager.{MachineState}
 use Rattle.pagable_world.specs.Headline.{AreKeysOf}
@@ -60,14 +60,6 @@ pub record SlotFits {N : Type 0} (v : Values N) (g : Ground) (shelf : Shelf) (i 
   pub writes : (written : Written) → slot.written ≡ Some written → WroteTree v.types g i.node.0 written
   pub publishes : (key height : ℕ) → slot.outcome ≡ published key height → (written : Written) × (slot.written ≡ Some written) × BlobStands v g shelf i.node.0 written key
 
--- the worker's claim of the identity, of which this is written, and which has no result yet
-pub record IsMine (shelf : Shelf) (n : ℕ) (i : Identity) (written : Option Written) : Type 0 where
-  pub slot : Slot
-  pub claimed : shelf.slots i ≡ Some slot
-  pub own : slot.worker ≡ n
-  pub wrote : slot.written ≡ written
-  pub no_result_yet : slot.outcome ≡ no_result
-
 -- the keys that are known of the first of the references
 unfoldable pub KeysSoFar : Shelf → List ArcRef → List ℕ → Type 0
 KeysSoFar shelf rs [] = Unit {0}
@@ -90,57 +82,46 @@ Expects task r (to_finish o ∷ below) = IsNextOf o.written.references o.keys r
 Expects task r (to_item written keys ∷ below) = IsNextOf written.references keys r
 Expects task r (x ∷ below) = ⊥
 
--- P of the identity of each written node that waits
-unfoldable pub EachOpen : (Identity → Type 0) → List Todo → Type 0
-EachOpen P [] = Unit {0}
-EachOpen P (to_finish o ∷ below) = P (identity_of o.reference) × EachOpen P below
-EachOpen P (x ∷ below) = Unit {0}
+-- what waits: written nodes, with the keys of their first references, and the task's item
+unfoldable pub Waits : Shelf → Task → List Todo → Type 0
+Waits shelf task [] = Unit {0}
+Waits shelf task (to_finish o ∷ below) = KeysSoFar shelf o.written.references o.keys × Expects task o.reference below × Waits shelf task below
+Waits shelf task (to_item written keys ∷ below) = (task ≡ of_item written) × KeysSoFar shelf written.references keys
+Waits shelf task (x ∷ below) = ⊥
 
-abbrev pub Apart : Identity → List Todo → Type 0
-Apart i todo = EachOpen (λ j. i ≡ j → ⊥) todo
+-- below the reference stands what waits for it
+abbrev pub Above : Shelf → Task → ArcRef → List Todo → Type 0
+Above shelf task r below = Expects task r below × Waits shelf task below
 
--- what waits: written nodes, each claimed by the worker, with the keys of its first references, and the task's item
-unfoldable pub Waits : Shelf → ℕ → Task → List Todo → Type 0
-Waits shelf n task [] = Unit {0}
-Waits shelf n task (to_finish o ∷ below) =
-    IsMine shelf n (identity_of o.reference) (Some o.written)
-    × KeysSoFar shelf o.written.references o.keys
-    × Apart (identity_of o.reference) below
-    × Expects task o.reference below
-    × Waits shelf n task below
-Waits shelf n task (to_item written keys ∷ below) = (task ≡ of_item written) × KeysSoFar shelf written.references keys
-Waits shelf n task (x ∷ below) = ⊥
-
--- below the reference stands what waits for it, and nothing below is of the same identity
-pub record Above (shelf : Shelf) (n : ℕ) (task : Task) (r : ArcRef) (below : List Todo) : Type 0 where
-  pub apart : Apart (identity_of r) below
-  pub expects : Expects task r below
-  pub waits : Waits shelf n task below
-
--- the key of the worker's claim stands for what was written of it
-pub record HasBlob {N : Type 0} (v : Values N) (g : Ground) (shelf : Shelf) (n : ℕ) (r : ArcRef) (key : ℕ) : Type 0 where
+-- the key stands for what was written of the reference's node
+pub record HasBlob {N : Type 0} (v : Values N) (g : Ground) (shelf : Shelf) (r : ArcRef) (key : ℕ) : Type 0 where
+  pub slot : Slot
   pub written : Written
-  pub mine : IsMine shelf n (identity_of r) (Some written)
+  pub claimed : shelf.slots (identity_of r) ≡ Some slot
+  pub wrote : slot.written ≡ Some written
   pub stands : BlobStands v g shelf r.node.0 written key
 
 -- what a worker has to do fits its table and trees
-abbrev pub Walks : {N : Type 0} → Values N → Ground → Shelf → ℕ → Task → List Todo → Type 0
-Walks v g shelf n task [] = Unit {0}
-Walks v g shelf n task (to_start r place ∷ below) = Expects task r below × Waits shelf n task below
-Walks v g shelf n task (to_pin r place ∷ below) = IsMine shelf n (identity_of r) None × Above shelf n task r below
-Walks v g shelf n task (to_load r place through reading ∷ below) = IsMine shelf n (identity_of r) None × Above shelf n task r below
-Walks v g shelf n task (to_write r place through ∷ below) = IsMine shelf n (identity_of r) None × Above shelf n task r below
-Walks v g shelf n task (to_finish o ∷ below) = Waits shelf n task (to_finish o ∷ below)
-Walks v g shelf n task (to_item written keys ∷ below) = Waits shelf n task (to_item written keys ∷ below)
-Walks v g shelf n task (to_set r through key height ∷ below) = HasBlob v g shelf n r key × Above shelf n task r below
-Walks v g shelf n task (to_publish r key height ∷ below) = HasBlob v g shelf n r key × Above shelf n task r below
-Walks v g shelf n task (to_release r key height ∷ below) = IsPublished shelf (identity_of r) key height × Expects task r below × Waits shelf n task below
-Walks v g shelf n task (to_fail fault back ∷ below) = Unit {0}
+abbrev pub Walks : {N : Type 0} → Values N → Ground → Shelf → Task → List Todo → Type 0
+Walks v g shelf task [] = Unit {0}
+Walks v g shelf task (to_start r place ∷ below) = Above shelf task r below
+Walks v g shelf task (to_pin r place ∷ below) = Above shelf task r below
+Walks v g shelf task (to_load r place through reading ∷ below) = Above shelf task r below
+Walks v g shelf task (to_write r place through ∷ below) = Above shelf task r below
+Walks v g shelf task (to_finish o ∷ below) = Waits shelf task (to_finish o ∷ below)
+Walks v g shelf task (to_item written keys ∷ below) = Waits shelf task (to_item written keys ∷ below)
+Walks v g shelf task (to_set r through key height ∷ below) = HasBlob v g shelf r key × Above shelf task r below
+Walks v g shelf task (to_publish r key height ∷ below) = HasBlob v g shelf r key × Above shelf task r below
+Walks v g shelf task (to_release r key height ∷ below) = IsPublished shelf (identity_of r) key height × Above shelf task r below
+Walks v g shelf task (to_fail fault back ∷ below) = Unit {0}
+
+abbrev pub SlotsFit : {N : Type 0} → Values N → Ground → Shelf → Type 0
+SlotsFit v g shelf = (i : Identity) (slot : Slot) → shelf.slots i ≡ Some slot → SlotFits v g shelf i slot
 
 -- all slots and all workers of the machine fit
 pub record WorkFits {N E : Type 0} (v : Values N) (s : MachineState N E) (trees : ℕ → Tree) : Type 0 where
-  pub slots : (t : ℕ) (i : Identity) (slot : Slot) → (s.work.shelves t).slots i ≡ Some slot → SlotFits v (ground_of s trees) (s.work.shelves t) i slot
-  pub walks : (n : ℕ) (walking : Walking) → s.work.walkings n ≡ Some walking → Walks v (ground_of s trees) (s.work.shelves walking.table) n walking.task walking.todo
+  pub slots : (t : ℕ) → SlotsFit v (ground_of s trees) (s.work.shelves t)
+  pub walks : (n : ℕ) (walking : Walking) → s.work.walkings n ≡ Some walking → Walks v (ground_of s trees) (s.work.shelves walking.table) walking.task walking.todo
 
 -- the key is what the task has come to: over the keys that are known of its item's references, or of its entry
 abbrev pub IsDone : {N : Type 0} → Values N → Shelf → Task → ℕ → Type 0
