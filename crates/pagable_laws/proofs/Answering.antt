@@ -1,10 +1,12 @@
 -- What follows for keys: each that is published is its tree's, each that is answered is its task's, and what a worker met that answers one is left paged out.
-use Rattle.std.proofs.Common.{◌≡◌, ℕ, ◌==◌, true, List, [], ◌∷◌, Some, None, Ok, Err, if◌then◌else◌, sym, ap, subst, ◌∙◌, arith}
+use Rattle.std.proofs.Common.{◌≡◌, ℕ, ◌==◌, true, List, [], ◌∷◌, Option, Some, None, Ok, Err, if◌then◌else◌, refl, sym, ap, subst, ◌∙◌, arith}
+use Rattle.std.specs.Prelude.{is_some}
 use Rattle.std.proofs.lemmas.Bool.Decides.{nat_tests}
+use Rattle.pagable_model.specs.declared.data_key.OptionalDataKey.TheVariants as optional
 use Rattle.pagable_model.specs.Meaning.{number, integer, text, pattern, none, pair, variant, reference, followed}
 use Rattle.pagable_model.specs.Canonical.{EachType}
 use Rattle.pagable_model.specs.Merkle.{blob_of, KeyOf, KeyOfItem}
-use Rattle.pagable_world.specs.Plain.{Identity, Meaning, Tree, WorkerNumber, type_of, updated}
+use Rattle.pagable_world.specs.Plain.{OptionalDataKey, ArcRef, Identity, is_loose_kind, Meaning, Tree, HandleNumber, ReadsTree, WorkerNumber, type_of, updated, if_there}
 use Rattle.pagable_world.specs.declared.events.Event.TheVariants as events
 use Rattle.pagable_world.specs.declared.events.Event.{Event}
 use Rattle.pagable_world.specs.declared.events.EventReply.TheVariants as answers
@@ -13,16 +15,19 @@ use Rattle.pagable_world.specs.declared.events.Took.TheVariants as took
 use Rattle.pagable_world.specs.declared.events.Took.{Took}
 use Rattle.pagable_world.specs.declared.events.WorkerAnswer.TheVariants as finals
 use Rattle.pagable_world.specs.declared.events.WorkerReply.{WorkerReply}
-use Rattle.pagable_world.specs.Kinds.{identity_of}
-use Rattle.pagable_world.specs.World.{Shelf, Slot, Written, Fault, was_refused, was_failed, Todo, to_item, to_publish, to_release, to_fail, Task, of_item, of_entry, Walking, Values, Seen}
+use Rattle.pagable_world.specs.Kinds.{identity_of, has_key}
+use Rattle.pagable_world.specs.World.{Core, Cell, key_at, Shelf, Slot, Written, Fault, was_refused, was_failed, Todo, to_item, to_set, to_publish, to_release, to_fail, Task, of_item, of_entry, Walking, Values, Seen}
 use Rattle.pagable_world.specs.Workers.{Site, Does, IsPublished, answer_after}
 use Rattle.pagable_world.specs.Events.{WorkerSteps, Happens}
-use Rattle.pagable_world.specs.Pager.{MachineState, world_of, kids_of}
-use Rattle.pagable_world.specs.Headline.{Meets, meets-of-item, meets-entry, meets-below, AreKeysOf, IsLeftPagedOut, IsKeyOfTask}
-use Rattle.pagable_laws.specs.PageOutLaws.{Ground, ground_of, IsOfEntry, Waits, Walks, WorkFits, KeysAreRight, FitsGiveKeys, IsDone, SetsReadKeys}
+use Rattle.pagable_world.specs.Pager.{PagerState, MachineState, world_of, kids_of, HandlesAreWhole, IsMachineWhole, KeyFits, NodeStands, here, away, Represents, StandsFor}
+use Rattle.pagable_world.specs.Runs.{ReadsItsTypes}
+use Rattle.pagable_world.specs.Headline.{Meets, meets-of-item, meets-entry, meets-below, AreKeysOf, IsLeftPagedOut, HasKeyOf, LeavesAll, IsKeyOfTask}
+use Rattle.pagable_laws.specs.PageOutLaws.{Ground, ground_of, IsOfEntry, Waits, Walks, WorkFits, IsDone}
+use Rattle.pagable_laws.specs.KeyRuns.{KeyIsSet, AllHold, HasHandle, KeysHeld, KeysAreRight}
 use Rattle.pagable_laws.proofs.Merkle.{one_key, one_item_key, tree_readable}
 use Rattle.pagable_laws.proofs.Trees.{same_some}
-use Rattle.pagable_laws.proofs.Following.{IdentityStands, known-of, keys-of, tree-form}
+use Rattle.pagable_laws.proofs.Following.{IdentityStands, known-of, keys-of, tree-form, held-of, cell-of}
+use Rattle.pagable_laws.proofs.Taking.{row-held}
 use Rattle.pagable_laws.proofs.Shelves.{KeepsKeys, keys-on, keys-same}
 use Rattle.pagable_laws.proofs.Stepping.{all-known, stands-for}
 
@@ -114,14 +119,43 @@ module _ {N E : Type 0} (v : Values N) (s : MachineState N E) (trees : ℕ → T
 
 -- ---- an event
 
-at-self : {X : Type 0} (k : ℕ) (x : X) (f : ℕ → X) → updated k x f k ≡ x
+pub at-self : {X : Type 0} (k : ℕ) (x : X) (f : ℕ → X) → updated k x f k ≡ x
 at-self k x f = let e : (k == k) ≡ true = grind (arith, nat_tests) in ap (λ b. if b then x else f k) e
 
 done-on : {N : Type 0} (v : Values N) {shelf shelf' : Shelf} → KeepsKeys shelf shelf' → (task : Task) (key : ℕ) → IsDone v shelf task key → IsDone v shelf' task key
 done-on v keeps (of_item written) key (keys, known, is) = (keys, keys-on keeps written.references keys known, is)
 done-on v keeps (of_entry h i) key (height, p) = (height, keeps i key height p)
 
-module _ {N B W E : Type 0} (m : Seen N B W) (s s' : MachineState N E) (trees trees' : ℕ → Tree) (before : WorkFits m.values s trees) (after : WorkFits m.values s' trees') where
+-- a live cell's key reads as its tree
+node-keyed : {N E : Type 0} {v : Values N} {s : PagerState N E} {n : ℕ} {t : Tree} → NodeStands v s n t → KeyFits v s n t
+node-keyed (here n x own t held typed means stands fits) = fits
+node-keyed (away n key t none_there keyed fits) = fits
+
+-- a live cell whose key was set has one
+key-known : (w : Core) (n : ℕ) → KeyIsSet w n → is_some (w.cells n) ≡ true → (key : ℕ) × (key_at w n ≡ optional.Some key)
+key-known w n set live = by (w.cells n) refl live
+  where
+    of-key : (own : OptionalDataKey) → has_key own ≡ true → (key : ℕ) × (own ≡ optional.Some key)
+    of-key optional.None is = absurd (cc)
+    of-key (optional.Some key) is = (key, refl)
+
+    by : (c : Option Cell) → w.cells n ≡ c → is_some c ≡ true → (key : ℕ) × (key_at w n ≡ optional.Some key)
+    by None there is = absurd (cc)
+    by (Some cell) there is = let k = of-key cell.key (set.keyed cell there) in (k.0, ap (λ (c : Option Cell). if_there (λ (x : Cell). x.key) optional.None c) there ∙ k.1)
+
+has-key-of : {N E : Type 0} (v : Values N) (s : PagerState N E) (trees : ℕ → Tree) (n : ℕ) → HandlesAreWhole s.core → Represents v s trees → KeyIsSet s.core n → is_some (s.core.cells n) ≡ true → HasKeyOf v s trees n
+has-key-of v s trees n whole stands set live = let k = key-known s.core n set live in record { key = k.0; set = k.1; reads = node-keyed (stands.stands n (held-of whole n live)) k.0 k.1 }
+
+-- a cell whose key is published has one by then
+set-by-then : {N B W : Type 0} (m : Seen N B W) (n : ℕ) (s s' : Site) (todo : List Todo) (i : Identity) (key height : ℕ) → Does m n s todo (took.Publish i key height) s' → AllHold s.core todo
+    → ((r : ArcRef) (k h : ℕ) (below : List Todo) → todo ≡ to_publish r k h ∷ below → is_some (s.core.cells r.node.0) ≡ true) → is_loose_kind i.kind.0 ≡ true → (set : ℕ) × (key_at s.core i.node.0 ≡ optional.Some set)
+unfolding AllHold
+set-by-then m n s s' (to_publish r k h ∷ below) i key height (is, same_key, same_height, t) all live kind =
+    subst (λ (j : Identity). (set : ℕ) × (key_at s.core j.node.0 ≡ optional.Some set)) (sym is) (key-known s.core r.node.0 (all.0 (ap (λ (j : Identity). is_loose_kind j.kind.0) (sym is) ∙ kind)) (live r k h below refl))
+set-by-then m n s s' todo i key height does all live kind = absurd does
+
+module _ {N B W E : Type 0} (m : Seen N B W) (s s' : MachineState N E) (trees trees' : ℕ → Tree) (before : WorkFits m.values s trees) (after : WorkFits m.values s' trees') (earlier : IsMachineWhole m.values s) (whole : IsMachineWhole m.values s')
+    (stands : StandsFor m.values s' trees') (held_before : KeysHeld (world_of s)) (held : KeysHeld (world_of s')) where
   module _ (n : WorkerNumber) (reply : WorkerReply W) (w : WorkerSteps m (world_of s) n reply (world_of s')) where
     abbrev site : Site
     site = record { core = s.pager.core; shelf = s.work.shelves w.walking.table; todo = w.walking.todo }
@@ -138,14 +172,28 @@ module _ {N B W E : Type 0} (m : Seen N B W) (s s' : MachineState N E) (trees tr
         let same : record w.walking { todo = w.after.todo; steps = reply.steps; answer = reply.answer } ≡ walking = same_some _ _ (sym (at-self n.0 (Some (record w.walking { todo = w.after.todo; steps = reply.steps; answer = reply.answer })) s.work.walkings) ∙ sym (w.work.same_walkings n.0) ∙ there) in
         subst P same p
 
-  keys-right : (event : Event N B W) (reply : EventReply N B W) → Happens m (world_of s) event reply (world_of s') → KeysAreRight m.values s trees event reply s' trees'
+  left-all : (t : ℕ) (task : Task) (key : ℕ) → IsDone m.values (s'.work.shelves t) task key → LeavesAll m.values s'.pager (s'.work.shelves t) trees' task
+  left-all t task key done =
+      record {
+        blobs = λ i meets. let p = met m.values s' trees' after t task key done i meets in left-paged-out m.values s' trees' after t i p.0 p.1.0 p.1.1;
+        cells = λ i meets kind live. let p = met m.values s' trees' after t task key done i meets in has-key-of m.values s'.pager trees' i.node.0 whole.pager.whole.handles stands.pager (held.slots t i p.0 p.1.0 p.1.1 kind) live;
+      }
+
+  lives : {n k : ℕ} → HasHandle s.pager.core n k → is_some (s.pager.core.cells k) ≡ true
+  lives h = subst (λ k. is_some (s.pager.core.cells k) ≡ true) h.at (cell-of earlier.pager.whole.handles h.row.node.0 (row-held s.pager.core h.h h.row h.live))
+
+  pub keys-right : (event : Event N B W) (reply : EventReply N B W) → Happens m (world_of s) event reply (world_of s') → KeysAreRight m.values s trees event reply s' trees'
   keys-right (events.WorkerStep n) (answers.WorkerMoved (Ok reply)) is =
       let w = is.moves in
       record {
-        publishes = λ i key height e. of-publish m n.0 (ground_of s trees) w.walking.task (site n reply w) w.after w.walking.todo i key height (subst (λ (k : Took W). Does m n.0 (site n reply w) w.walking.todo k w.after) e w.does.does) (before.walks n.0 w.walking w.at);
+        publishes = λ i key height e.
+            let does = subst (λ (k : Took W). Does m n.0 (site n reply w) w.walking.todo k w.after) e w.does.does in (
+              of-publish m n.0 (ground_of s trees) w.walking.task (site n reply w) w.after w.walking.todo i key height does (before.walks n.0 w.walking w.at),
+              set-by-then m n.0 (site n reply w) w.after w.walking.todo i key height does (held_before.walks n.0 w.walking w.at) (λ r k h below is. lives (held_before.publishing n.0 w.walking r k h below w.at is)),
+            );
         key = λ walking key there e. is-after n reply w (λ x. IsKeyOfTask m.values trees' x.task key) (is-key m.values s' trees' after w.walking.table w.walking.task key (done n reply w key e)) walking there;
-        leaves = λ walking key there e. is-after n reply w (λ x. (i : Identity) → Meets (s'.work.shelves x.table) x.task i → IsLeftPagedOut m.values s'.pager (s'.work.shelves x.table) trees' i)
-            (λ i meets. let p = met m.values s' trees' after w.walking.table w.walking.task key (done n reply w key e) i meets in left-paged-out m.values s' trees' after w.walking.table i p.0 p.1.0 p.1.1) walking there;
+        leaves = λ walking key there e. is-after n reply w (λ x. LeavesAll m.values s'.pager (s'.work.shelves x.table) trees' x.task)
+            (left-all w.walking.table w.walking.task key (done n reply w key e)) walking there;
       }
   keys-right (events.WorkerStep n) (answers.WorkerMoved (Err e)) is = record { publishes = tt; key = tt; leaves = tt }
   keys-right (events.WorkerStep n) reply is = absurd is
@@ -156,9 +204,6 @@ module _ {N B W E : Type 0} (m : Seen N B W) (s s' : MachineState N E) (trees tr
   keys-right events.TableNew reply is = record { publishes = tt; key = tt; leaves = tt }
   keys-right (events.WorkerItem t item) reply is = record { publishes = tt; key = tt; leaves = tt }
   keys-right (events.WorkerListed t i) reply is = record { publishes = tt; key = tt; leaves = tt }
-
-pub fits_give_keys : {N B W : Type 0} (E : Type 0) (m : Seen N B W) → FitsGiveKeys E m
-fits_give_keys E m s s' event reply trees trees' does before after = keys-right m s s' trees trees' before after event reply does.step.happens
 
 -- ---- what a worker is about to set
 
@@ -175,7 +220,8 @@ each-type all (reference a) = absurd a
 each-type all (followed kind a) = (all (type_of kind), each-type all a)
 
 -- a key that a worker is about to set reads as its node's tree
-pub sets_key : {N B W : Type 0} (E : Type 0) (m : Seen N B W) → SetsReadKeys E m
-sets_key E m s trees reads fit n walking r through key height below there is =
-    let walks = subst (λ t. Walks m.values (ground_of s trees) (s.work.shelves walking.table) n walking.task t) is (fit.walks n walking there) in
-    tree_readable s.pager.core.stored m.values.types (trees r.node.0) key (reads (trees r.node.0).type, each-type reads (trees r.node.0).meaning) walks.0.stands.right.stands
+pub sets-key : {N E : Type 0} (v : Values N) (s : MachineState N E) (trees : ℕ → Tree) → ReadsItsTypes v.types → WorkFits v s trees → (n : ℕ) (walking : Walking) (r : ArcRef) (through : HandleNumber) (key height : ℕ) (below : List Todo)
+    → s.work.walkings n ≡ Some walking → walking.todo ≡ to_set r through key height ∷ below → ReadsTree s.pager.core.stored v.types key (trees r.node.0)
+sets-key v s trees reads fit n walking r through key height below there is =
+    let walks = subst (λ t. Walks v (ground_of s trees) (s.work.shelves walking.table) n walking.task t) is (fit.walks n walking there) in
+    tree_readable s.pager.core.stored v.types (trees r.node.0) key (reads (trees r.node.0).type, each-type reads (trees r.node.0).meaning) walks.0.stands.right.stands

@@ -3,14 +3,14 @@ use Rattle.std.proofs.Common.{◌≡◌, ℕ, zero, ◌+◌, ◌≤◌, List, []
 use Rattle.pagable_model.specs.declared.data_key.OptionalDataKey.TheVariants as optional
 use Rattle.pagable_world.specs.declared.events.LoadAnswer.{LoadAnswer}
 use Rattle.pagable_world.specs.Plain.{ArcRef, Kind, Tree, ReadsTree, Among, updated, is_pinned_kind}
-use Rattle.pagable_world.specs.World.{OpenLoad, Reading, Frame, Values, Seen, IsLawful}
+use Rattle.pagable_world.specs.World.{OpenLoad, Reading, Frame, Values, IsLawful}
 use Rattle.pagable_world.specs.LoadCalls.{first_key}
 use Rattle.pagable_world.specs.Loads.{ReadsRoot, Need, to_adopt, needs_lazy}
 use Rattle.pagable_world.specs.Pager.{PagerState, WellFormed, Represents, ReadingBrings, IsCellOf, FramesFit, ReadingFits}
 use Rattle.pagable_world.specs.Runs.{HoldsSettled, ReadsItsTypes, TakesWell}
 use Rattle.pagable_laws.specs.ReadLaws.{ValueLeads, FramesGiven}
 use Rattle.pagable_laws.specs.TreeSteps.{Change, CoreGoes, nothing_felt, ReadingFeels, reads-root, reads-blob, gets-known, gets-lazy, makes-known, makes-node, reading-ends}
-use Rattle.pagable_laws.specs.TreeRuns.{ChangeFits, ReadingsFit}
+use Rattle.pagable_laws.specs.TreeRuns.{ChangeFits}
 use Rattle.pagable_laws.proofs.Trees.{same_some, one_tree}
 use Rattle.pagable_laws.proofs.Following.{held-of}
 use Rattle.pagable_laws.proofs.Fitting.{tree-stays, frames_go_on}
@@ -104,6 +104,3 @@ module _ {N E : Type 0} {v : Values N} {s s' : PagerState N E} {trees : ℕ → 
               | inr (root, cell) ↦ root-on lawful readable settled well well' stands reading fits given goes t0 n y at root cell
             ]),
       )
-
-pub readings_fit : {N B W E : Type 0} (m : Seen N B W) → ReadingsFit E m
-readings_fit m lawful readable c reading answer frames s s' trees settled well well' stands fits given goes takes opens feels = reading-fits lawful readable settled well well' stands reading fits given goes takes opens feels

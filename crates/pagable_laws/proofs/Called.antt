@@ -1,7 +1,7 @@
 -- What trees feel of each call that doesn't close the storage, by the call and its reply.
-use Rattle.std.proofs.Common.{◌≡◌, ℕ, ◌≤◌, Bool, true, false, List, [], refl, ap, sym, ◌∙◌, inl, inr, arith}
+use Rattle.std.proofs.Common.{◌≡◌, ℕ, Bool, true, false, List, [], refl, ap, sym, ◌∙◌, inl, inr}
 use Rattle.std.specs.Prelude.{Option, Some, None, ◌⊎◌, Result, Ok, Err}
-use Rattle.pagable_world.specs.Plain.{Error, Kind, HandleNumber, LoadNumber, NodeNumber}
+use Rattle.pagable_world.specs.Plain.{Error, Kind, ArcRef, HandleNumber, LoadNumber, NodeNumber}
 use Rattle.pagable_world.specs.declared.handles.Owner.{Owner}
 use Rattle.pagable_world.specs.declared.handles.HandleRow.{HandleRow}
 use Rattle.pagable_world.specs.declared.rows.Mode.{Mode}
@@ -18,20 +18,15 @@ use Rattle.pagable_world.specs.World.{Core, Seen, Values}
 use Rattle.pagable_world.specs.Refusals.{Owns}
 use Rattle.pagable_world.specs.Cascade.{only_handle}
 use Rattle.pagable_world.specs.Calls.{with_mode, next_node, moved, is_named_by, BirthCall, UnpinCall, ReleaseCall, SetKeyCall, ScheduleCall, TakeCall, RecallCall, OfferCall, IsRefused, ClearCall}
-use Rattle.pagable_world.specs.LoadCalls.{AdoptCall, LazyCall, EndCall, HandOverCall, DropCall, with_pin, without_load, first_key}
+use Rattle.pagable_world.specs.LoadCalls.{AdoptCall, LazyCall, EndCall, Installs, HandOverCall, DropCall, with_pin, without_load, first_key}
 use Rattle.pagable_world.specs.Events.{Does}
 use Rattle.pagable_world.specs.Pager.{CallBrings, IsNewNode}
 use Rattle.pagable_world.specs.Runs.{KeepsOpen}
 use Rattle.pagable_laws.specs.TreeSteps.{Change, nothing_felt, sets_key, knows_node, bears_node, bears_known, CallFeels, feels-nothing, feels-birth, feels-away, feels-key, feels-known, feels-adopted, feels-lazy, feels-end, StaysAway}
-use Rattle.pagable_laws.proofs.Goes.{Quiet, Goes, NotLoads, rows-self, rows-mode, Changed, found-changed, quiet-then, alike, only-rows, fell, fell-anyhow, a-handle, quiet-goes, goes-quiet, born, keyed, goes-known, adopts}
+use Rattle.pagable_laws.proofs.Trees.{same_some}
+use Rattle.pagable_laws.proofs.Goes.{le-self, Quiet, Goes, NotLoads, rows-self, rows-mode, Changed, found-changed, quiet-then, alike, only-rows, fell, fell-anyhow, a-handle, quiet-goes, goes-quiet, born, keyed, goes-known, adopts}
 use Rattle.pagable_laws.proofs.GoodReferences.{good, alike-away, fell-away}
 use Rattle.pagable_laws.proofs.Calling.{own-mode, made-handle, some-moved, closed-load, was-asked, stores, clones, pins, begins, begins-key, gets-known, asks, closes}
-
-le-self : (n : ℕ) → n ≤ n
-le-self n = omega arith
-
-some-is : {x y : HandleRow} → Some x ≡ Some y → x ≡ y
-some-is is = cc
 
 pub refused-call : {cause : Option Error} {w w' : Core} (r : Result (Unit {0}) Error) → IsRefused cause w r w' → Quiet w w'
 refused-call r c = alike c.stays
@@ -85,11 +80,13 @@ cleared {w} r c = quiet-then none-known (alike c.leaves)
           nodes = le-self _;
           handles = le-self _;
           loads_last = le-self _;
+          workers_last = le-self _;
           cells = λ n cell is. is;
           stored = λ q blob is. is;
           loads = λ l load is. is;
           cache = λ kind key n is. absurd (cc);
           rows = rows-self w.last.handle w.rows w.rows refl;
+          shut = λ is. is;
         }
 
 -- a change, with what it does and how it is felt
@@ -178,27 +175,35 @@ module _ {N B W : Type 0} (m : Seen N B W) (w : Core) (me : Owner) (free : NotLo
       at c true e = let f : r ≡ record c.was { owner = owner_value n } = rw e at c.is in let g : r.owner ≡ owner_value n = ap (λ (x : HandleRow). x.owner) f in absurd (cc)
       at c false e =
           let f : r ≡ c.was = rw e at c.is in
-          let g : row ≡ c.was = some-is (sym owns.live ∙ c.live) in
+          let g : row ≡ c.was = same_some _ _ (sym owns.live ∙ c.live) in
           free l (sym owns.own ∙ (ap (λ (x : HandleRow). x.owner) g ∙ (sym (ap (λ (x : HandleRow). x.owner) f) ∙ is)))
 
-  pub ends-load : (l : LoadNumber) (x : N) (r : Result HandleNumber (Error × Option N)) → EndCall w me l x (m.values.node_type x) (m.values.references x) r w' → CG (calls.LoadEnd l x) (replies.LoadEnded r)
-  ends-load l x (Ok k) c =
-      let node = c.installs.0 in
-      let h = c.installs.1 in
-      let may = c.installs.2 in
-      let i = c.installs.3 in
-      let references = m.values.references x in
-      record {
-        change = nothing_felt;
-        goes = quiet-goes nothing_felt (elim i.falls [
-          | inl (away, f) ↦ quiet-then (quiet-then (quiet-then (closed-load w l) (some-moved (without_load w l) (is_named_by references) (owner_value node.0) w.list (λ l is. absurd (cc)))) (pin-of (record (without_load w l) { rows = moved (is_named_by references) (owner_value node.0) w.rows }) h node (pinned-free h (is_named_by references) node.0 i.row i.owned))) (fell-anyhow f)
-          | inr (there, f) ↦ quiet-then (quiet-then (closed-load w l) (quiet-then (own-mode (without_load w l) me h is_loose i.row modes.LoosePinned refl free (record { live = i.owned.live; own = i.owned.own; as_asked = i.owned.as_asked })) (a-handle _ node modes.Pinned me))) (fell-anyhow f)
-        ]);
-        feels = feels-end l x k refl refl (good w (owners.Load l) [] references may.good);
-      }
+  pub ends-quiet : (l : LoadNumber) (x : N) (r : Result HandleNumber (Error × Option N)) → EndCall w me l x (m.values.node_type x) (m.values.references x) r w' → Quiet w w'
+  ends-quiet l x (Ok k) c = elim i.falls [
+    | inl (away, f) ↦ quiet-then (quiet-then (quiet-then (closed-load w l) (some-moved (without_load w l) (is_named_by references) (owner_value node.0) w.list (λ l is. absurd (cc)))) (pin-of (record (without_load w l) { rows = moved (is_named_by references) (owner_value node.0) w.rows }) h node (pinned-free h (is_named_by references) node.0 i.row i.owned))) (fell-anyhow f)
+    | inr (there, f) ↦ quiet-then (quiet-then (closed-load w l) (quiet-then (own-mode (without_load w l) me h is_loose i.row modes.LoosePinned refl free (record { live = i.owned.live; own = i.owned.own; as_asked = i.owned.as_asked })) (a-handle _ node modes.Pinned me))) (fell-anyhow f)
+  ]
     where
+      node : NodeNumber
+      node = c.installs.0
+
+      h : HandleNumber
+      h = c.installs.1
+
+      references : List ArcRef
+      references = m.values.references x
+
+      i : Installs w me l node h k references w'
+      i = c.installs.3
+
       pin-of : (u : Core) (h : HandleNumber) (node : NodeNumber) → ((r : HandleRow) → find_row h.0 u.rows ≡ Some r → NotLoads r.owner) → Quiet u (with_pin u h node me)
       pin-of u h node safe = quiet-then (only-rows (rows-mode u.last.handle u.rows h modes.LoosePinned refl safe) (le-self _)) (a-handle (with_mode u h modes.LoosePinned) node modes.Pinned me)
+  ends-quiet l x (Err (e, Some y)) c = alike c.refused.1.stays
+  ends-quiet l x (Err (e, None)) c = closes l c.refused.closes
+
+  ends-load : (l : LoadNumber) (x : N) (r : Result HandleNumber (Error × Option N)) → EndCall w me l x (m.values.node_type x) (m.values.references x) r w' → CG (calls.LoadEnd l x) (replies.LoadEnded r)
+  ends-load l x (Ok k) c =
+      record { change = nothing_felt; goes = quiet-goes nothing_felt (ends-quiet l x (Ok k) c); feels = feels-end l x k refl refl (good w (owners.Load l) [] (m.values.references x) c.installs.2.good) }
   ends-load l x (Err (e, Some y)) c = quiet (λ n z b. inr (alike-away c.refused.1.stays n)) (alike c.refused.1.stays)
   ends-load l x (Err (e, None)) c = quiet (λ n z b. inr (fell-away c.refused.closes n)) (closes l c.refused.closes)
 

@@ -1,4 +1,4 @@
--- Trees stay along chains, and pins give them.
+-- Trees stay along chains, pins and reads give them, and keys are right.
 use Rattle.std.proofs.Common.{ℕ, List, [], ◌∷◌, Ok}
 use Rattle.pagable_world.specs.declared.events.Event.{Event}
 use Rattle.pagable_world.specs.declared.events.Event.TheVariants as events
@@ -8,14 +8,24 @@ use Rattle.pagable_world.specs.declared.calls.Call.TheVariants as calls
 use Rattle.pagable_world.specs.declared.calls.Reply.TheVariants as replies
 use Rattle.pagable_world.specs.declared.answers.Pinning.TheVariants as pinnings
 use Rattle.pagable_world.specs.Plain.{HandleNumber, Tree}
-use Rattle.pagable_world.specs.World.{Seen, IsLawful}
-use Rattle.pagable_world.specs.Pager.{MachineState, IsMachineWhole, StandsFor}
+use Rattle.pagable_world.specs.World.{Reading, Values, Seen, IsLawful}
+use Rattle.pagable_world.specs.Pager.{MachineState, world_of, IsMachineWhole, IsIdle, StandsFor, IsReadingOf, of_caller, of_worker}
 use Rattle.pagable_world.specs.Runs.{HoldsSettled, ReadsItsTypes, Moment, AreMoments, TreesAlong}
-use Rattle.pagable_world.specs.Headline.{GivesTree, PinGives}
+use Rattle.pagable_world.specs.Headline.{GivesTree, PinGives, IsRight}
 use Rattle.pagable_laws.specs.TreeSteps.{HasPin, PinHolds}
-use Rattle.pagable_laws.specs.TreeRuns.{ReadingsGiven, FeltAlong, TreesStay}
+use Rattle.pagable_laws.specs.TreeRuns.{ReadingsGiven}
+use Rattle.pagable_laws.specs.PageOutLaws.{WorkFits}
+use Rattle.pagable_laws.specs.KeyRuns.{KeysHeld}
+use Rattle.pagable_laws.specs.ReadRuns.{ReadingsHeld}
 use Rattle.pagable_laws.proofs.Taking.{pin_stands}
-use Rattle.pagable_laws.proofs.Lasting.{events_keep_trees}
+use Rattle.pagable_laws.proofs.Lasting.{keeps-trees}
+use Rattle.pagable_laws.proofs.Publishing.{fits-at-first, fits-on}
+use Rattle.pagable_laws.proofs.Answering.{keys-right}
+use Rattle.pagable_laws.proofs.KeysGoing.{held-at-first, held-on, keys-ready}
+use Rattle.pagable_laws.proofs.PinSteps.{pins-hold}
+use Rattle.pagable_laws.proofs.EventSteps.{does-feels}
+use Rattle.pagable_laws.proofs.ReadingStepsHeld.{event-held}
+use Rattle.pagable_laws.proofs.ReadingStepsGive.{reads-give}
 
 module _ {N E B W : Type 0} (m : Seen N B W) (s s' : MachineState N E) (trees trees' : ℕ → Tree) (whole : IsMachineWhole m.values s') (stands : StandsFor m.values s' trees') where
   given-tree : (k : HandleNumber) → HasPin s'.pager.core k → GivesTree m.values s'.pager trees' k
@@ -28,16 +38,42 @@ module _ {N E B W : Type 0} (m : Seen N B W) (s s' : MachineState N E) (trees tr
   pin-gives (events.WorkerStep n) (answers.WorkerMoved (Ok reply)) pinned = λ i k is. given-tree k (pinned i k is)
   pin-gives event reply pinned = tt
 
+-- what holds of a machine and its trees along a chain
+record IsGoingOn {N E : Type 0} (v : Values N) (s : MachineState N E) (trees : ℕ → Tree) : Type 0 where
+  whole : IsMachineWhole v s
+  settled : HoldsSettled v s.pager
+  stands : StandsFor v s trees
+  given : ReadingsGiven s
+  fits : WorkFits v s trees
+  held : KeysHeld (world_of s)
+  reads : ReadingsHeld (world_of s)
+
 module _ {N E B W : Type 0} (m : Seen N B W) (lawful : IsLawful m.values) (readable : ReadsItsTypes m.values.types) where
-  stay : (s : MachineState N E) (trees : ℕ → Tree) (moments : List (Moment N E B W)) → IsMachineWhole m.values s → HoldsSettled m.values s.pager → StandsFor m.values s trees → ReadingsGiven s → AreMoments m s moments → FeltAlong m s trees moments
-      → TreesAlong m (PinGives m.values) s trees moments
-  stay s trees [] whole settled stands given does felt = tt
-  stay s trees (x ∷ xs) whole settled stands given (does, more) (feels, ready, pins, onwards) = λ premised.
-      let a = events_keep_trees m lawful readable s x.after trees x.event x.reply stands given settled whole does.whole ready premised.well does.moves feels in (
+  idle-goes : (s : MachineState N E) (trees : ℕ → Tree) → IsMachineWhole m.values s → IsIdle s → HoldsSettled m.values s.pager → StandsFor m.values s trees → IsGoingOn m.values s trees
+  idle-goes s trees whole idle settled stands = record { whole = whole; settled = settled; stands = stands; given = λ reading is. absurd (none-reads reading is); fits = fits-at-first m.values s trees idle; held = held-at-first s idle; reads = λ reading is. absurd (none-reads reading is) }
+    where
+      none-reads : (reading : Reading) → IsReadingOf s.work reading → ⊥
+      none-reads reading (of_caller l is) = let f = idle.readings l in cc
+      none-reads reading (of_worker n place walking r through below is todo) = let f = idle.walkings n in cc
+
+  stay : (s : MachineState N E) (trees : ℕ → Tree) (moments : List (Moment N E B W)) → IsGoingOn m.values s trees → AreMoments m s moments → TreesAlong m (IsRight m.values) s trees moments
+  stay s trees [] on does = tt
+  stay s trees (x ∷ xs) on (does, more) = λ premised.
+      let feels = does-feels m s x.after trees x.event x.reply on.whole on.fits premised.stays_open does in
+      let ready = keys-ready m.values s trees readable on.fits on.held in
+      let a = keeps-trees m lawful readable s x.after trees x.event x.reply on.stands on.given on.settled on.whole does.whole ready premised.well does.moves feels in
+      let fits = fits-on m s x.after trees a.after (record { kept = feels.core.stored; last = feels.core.nodes; trees = a.keeps }) on.fits on.whole on.stands.pager on.settled readable x.event x.reply does.step.happens does.writes in
+      let held = held-on m s x.after x.event x.reply on.whole premised.stays_open does on.held in
+      let pins = pins-hold m (world_of s) (world_of x.after) x.event x.reply on.whole.pager.whole.handles does.step.happens in
+      let keys = keys-right m s x.after trees a.after on.fits fits on.whole does.whole a.stands on.held held x.event x.reply does.step.happens in
+      let so : IsRight m.values s trees x.event x.reply x.after a.after =
+      record { pins_give = pin-gives m s x.after trees a.after does.whole a.stands x.event x.reply pins; reads_give = reads-give m lawful readable s x.after trees a.after on.whole does.whole on.stands on.given on.reads a.keeps a.stands x.event x.reply does; leaves = keys.leaves; publishes = keys.publishes; key = keys.key } in (
         a.after,
-        record { keeps = a.keeps; stands = a.stands; so = pin-gives m s x.after trees a.after does.whole a.stands x.event x.reply pins },
-        stay x.after a.after xs does.whole premised.settled a.stands a.given more (onwards a.after a.keeps a.stands),
+        record { keeps = a.keeps; stands = a.stands; so = so },
+        stay x.after a.after xs (record { whole = does.whole; settled = premised.settled; stands = a.stands; given = a.given; fits = fits; held = held; reads = event-held m.values on.reads x.event x.reply feels.core feels.feels }) more,
       )
 
-pub trees_stay : {N B W E : Type 0} (m : Seen N B W) → TreesStay E m
-trees_stay m lawful readable s trees moments whole settled stands given does felt = stay m lawful readable s trees moments whole settled stands given does felt
+-- Along each chain that begins where nobody works yet, each node keeps its tree, each pin that succeeds gives the tree that its handle's node was made with, each reading that of its key, and keys are right.
+pub trees_stay : {N B W E : Type 0} (m : Seen N B W) → IsLawful m.values → ReadsItsTypes m.values.types → (s : MachineState N E) (trees : ℕ → Tree) (moments : List (Moment N E B W)) → IsMachineWhole m.values s → IsIdle s
+    → HoldsSettled m.values s.pager → StandsFor m.values s trees → AreMoments m s moments → TreesAlong m (IsRight m.values) s trees moments
+trees_stay m lawful readable s trees moments whole idle settled stands does = stay m lawful readable s trees moments (idle-goes m lawful readable s trees whole idle settled stands) does

@@ -11,14 +11,14 @@ use Rattle.pagable_world.specs.declared.calls.Call.TheVariants as calls
 use Rattle.pagable_world.specs.declared.calls.Reply.{Reply}
 use Rattle.pagable_world.specs.Plain.{OptionalDataKey, ArcRef, Tree, tree, ReadsTree, type_of, Among, updated, is_pinned_kind}
 use Rattle.pagable_world.specs.Kinds.{any_mode, is_loose}
-use Rattle.pagable_world.specs.World.{Values, Seen, IsLawful, is_here}
+use Rattle.pagable_world.specs.World.{Values, IsLawful, is_here}
 use Rattle.pagable_world.specs.Refusals.{Owns}
 use Rattle.pagable_world.specs.LoadCalls.{first_key}
 use Rattle.pagable_world.specs.Pager.{PagerState, WellFormed, Represents, ReadsNodeTree, SameTrees, CallBrings, IsNewNode, IsCellOf, ValueStands}
 use Rattle.pagable_world.specs.Runs.{HoldsSettled, AsksWell, ReadsAsType, ReadsAsValue}
 use Rattle.pagable_laws.specs.ReadLaws.{ValueLeads}
 use Rattle.pagable_laws.specs.TreeSteps.{Change, nothing_felt, sets_key, knows_node, bears_node, bears_known, CoreGoes, StaysAway, AreGood, CallFeels, feels-nothing, feels-birth, feels-away, feels-key, feels-known, feels-adopted, feels-lazy, feels-end}
-use Rattle.pagable_laws.specs.TreeRuns.{ChangeFits, CallsFit}
+use Rattle.pagable_laws.specs.TreeRuns.{ChangeFits}
 use Rattle.pagable_laws.proofs.Trees.{same_some}
 use Rattle.pagable_laws.proofs.Following.{given-of, cell-of}
 use Rattle.pagable_laws.proofs.Fitting.{tree-stays}
@@ -238,6 +238,3 @@ module _ {N E : Type 0} {v : Values N} {s s' : PagerState N E} {trees : ℕ → 
             let leads = value-leads lawful settled well stands x meant.own (trees n) (owners.Load l) meant.typed meant.means meant.stands good in
             subst (λ z. ValueLeads v trees z (trees n)) (sym b.0) leads);
       }
-
-pub calls_fit : {N B W E : Type 0} (m : Seen N B W) → CallsFit E m
-calls_fit m lawful c call reply s s' trees settled well well' stands goes asked feels = let f = call-fits lawful settled well well' stands c call reply goes asked feels in (f.after, f.fits)

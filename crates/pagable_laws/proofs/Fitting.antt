@@ -19,7 +19,7 @@ asked-by below true k q kind key (inr is) = absurd (cc)
 asked-by below false k q kind key (inl is) = absurd (cc)
 asked-by below false k q kind key (inr is) = let a : k ≡ kind = cc in let b : q ≡ key = cc in rw (a, b) refl
 
-asked : (below : List Frame) (next : Next) (kind : Kind) (key : ℕ) → (need_at below next ≡ needs_nested kind key) ⊎ (need_at below next ≡ needs_lazy kind key) → next ≡ asks kind key
+pub asked : (below : List Frame) (next : Next) (kind : Kind) (key : ℕ) → (need_at below next ≡ needs_nested kind key) ⊎ (need_at below next ≡ needs_lazy kind key) → next ≡ asks kind key
 asked below (asks k q) kind key is = asked-by below (is_eager k.0) k q kind key is
 asked [] (reads own) kind key (inl is) = absurd (cc)
 asked [] (reads own) kind key (inr is) = absurd (cc)
@@ -30,7 +30,7 @@ asked below (is_faulty e) kind key (inr is) = absurd (cc)
 
 -- ---- one frame
 
-pushed : {X : Type 0} (xs : List X) (y : X) (i : ℕ) (x : X) → slice_get (xs ++ y ∷ []) i ≡ Some x → (slice_get xs i ≡ Some x) ⊎ ((i ≡ length xs) × (y ≡ x))
+pub pushed : {X : Type 0} (xs : List X) (y : X) (i : ℕ) (x : X) → slice_get (xs ++ y ∷ []) i ≡ Some x → (slice_get xs i ≡ Some x) ⊎ ((i ≡ length xs) × (y ≡ x))
 pushed [] y zero x is = inr (refl, cc)
 pushed [] y (suc i) x is = absurd (cc)
 pushed (z ∷ xs) y zero x is = inl is
@@ -40,7 +40,7 @@ longer : {X : Type 0} (xs : List X) (y : X) → length (xs ++ y ∷ []) ≡ leng
 longer [] y = omega arith
 longer (x ∷ xs) y = let a = longer xs y in omega (arith, a)
 
-inside : {X : Type 0} (xs : List X) (i : ℕ) (x : X) → slice_get xs i ≡ Some x → i < length xs
+pub inside : {X : Type 0} (xs : List X) (i : ℕ) (x : X) → slice_get xs i ≡ Some x → i < length xs
 inside [] i x is = absurd (cc)
 inside (y ∷ xs) zero x is = omega arith
 inside (y ∷ xs) (suc i) x is = let a = inside xs i x is in omega (arith, a)

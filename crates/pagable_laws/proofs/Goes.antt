@@ -13,6 +13,7 @@ use Rattle.pagable_world.specs.World.{Core, Cell, OpenLoad, Root, Last, Alike, t
 use Rattle.pagable_world.specs.Cascade.{AreNewEntries, Falls, FallsAnyhow, fallen, left_rows}
 use Rattle.pagable_world.specs.Calls.{row_of, with_handle, with_node, with_key, with_cached, next_node, moved}
 use Rattle.pagable_world.specs.LoadCalls.{with_load, adopted}
+use Rattle.pagable_laws.proofs.Sums.{same-number}
 use Rattle.pagable_laws.specs.TreeSteps.{Change, nothing_felt, sets_key, bears_known, Sets, Knows, Bears, BeginsWell}
 
 -- the row of a handle before: at the same node, and the same if it is a load's now; a loose handle stays loose
@@ -27,16 +28,22 @@ pub record Was (rows : List HandleRow) (q : ℕ) (row : HandleRow) : Type 0 wher
 abbrev pub RowsGo : ℕ → List HandleRow → List HandleRow → Type 0
 RowsGo last rows rows' = (q : ℕ) (row : HandleRow) → find_row q rows' ≡ Some row → q ≤ last → Was rows q row
 
+-- the storage is closed, and nothing is stored in it
+abbrev pub IsShut : Core → Type 0
+IsShut w = (w.closed ≡ true) × ((q : ℕ) → w.stored q ≡ None)
+
 -- a step that sets no key, bears no node, begins no load and lets the cache know nothing
 pub record Quiet (w w' : Core) : Type 0 where
   pub nodes : w.last.node ≤ w'.last.node
   pub handles : w.last.handle ≤ w'.last.handle
   pub loads_last : w.last.load ≤ w'.last.load
+  pub workers_last : w.last.worker ≤ w'.last.worker
   pub cells : (n : ℕ) (cell : Cell) → w'.cells n ≡ Some cell → w.cells n ≡ Some cell
   pub stored : (q : ℕ) (b : Blob) → w.stored q ≡ Some b → w'.stored q ≡ Some b
   pub loads : (l : ℕ) (load : OpenLoad) → w'.loads l ≡ Some load → w.loads l ≡ Some load
   pub cache : (kind key n : ℕ) → w'.cache kind key ≡ Some n → w.cache kind key ≡ Some n
   pub rows : RowsGo w.last.handle w.rows w'.rows
+  pub shut : IsShut w → IsShut w'
 
 -- a cell that was there, but for a key that it may get
 pub record Kept (c : Change) (w : Core) (n : ℕ) (cell : Cell) : Type 0 where
@@ -49,11 +56,19 @@ pub record Goes (c : Change) (w w' : Core) : Type 0 where
   pub nodes : w.last.node ≤ w'.last.node
   pub handles : w.last.handle ≤ w'.last.handle
   pub loads_last : w.last.load ≤ w'.last.load
+  pub workers_last : w.last.worker ≤ w'.last.worker
   pub cells : (n : ℕ) (cell : Cell) → w'.cells n ≡ Some cell → Kept c w n cell ⊎ ((n ≡ w.last.node + 1) × Bears c cell.node_type cell.key)
   pub stored : (q : ℕ) (b : Blob) → w.stored q ≡ Some b → w'.stored q ≡ Some b
   pub loads : (l : ℕ) (load : OpenLoad) → w'.loads l ≡ Some load → (w.loads l ≡ Some load) ⊎ ((w.last.load < l) × BeginsWell w load)
   pub cache : (kind key n : ℕ) → w'.cache kind key ≡ Some n → (w.cache kind key ≡ Some n) ⊎ Knows c w kind key n
   pub rows : RowsGo w.last.handle w.rows w'.rows
+  pub shut : IsShut w → IsShut w'
+
+pub le-self : (n : ℕ) → n ≤ n
+le-self n = omega arith
+
+pub le-more : (a b : ℕ) → a ≤ a + b
+le-more a b = omega arith
 
 -- ---- rows
 
@@ -65,9 +80,6 @@ rows-then last more rows mid rows' le first second q row found few =
     let b = second q row found (omega arith) in
     let a = first q b.was b.live few in
     record { was = a.was; live = a.live; at = a.at ∙ b.at; mine = λ l is. let e = b.mine l is in a.mine l (ap (λ (r : HandleRow). r.owner) e ∙ is) ∙ e; loose = λ is. b.loose (a.loose is) }
-
-same-number : (a b : ℕ) → (a == b) ≡ true → a ≡ b
-same-number a b e = grind (arith, nat_tests)
 
 -- what is found has the number
 pub found-number : (q : ℕ) (rows : List HandleRow) (row : HandleRow) → find_row q rows ≡ Some row → row.number.0 ≡ q
@@ -179,11 +191,13 @@ quiet-then {w} {m} {w'} a b =
       nodes = let c = a.nodes in let d = b.nodes in omega arith;
       handles = let c = a.handles in let d = b.handles in omega arith;
       loads_last = let c = a.loads_last in let d = b.loads_last in omega arith;
+      workers_last = let c = a.workers_last in let d = b.workers_last in omega arith;
       cells = λ n cell is. a.cells n cell (b.cells n cell is);
       stored = λ q blob is. b.stored q blob (a.stored q blob is);
       loads = λ l load is. a.loads l load (b.loads l load is);
       cache = λ kind key n is. a.cache kind key n (b.cache kind key n is);
       rows = rows-then w.last.handle m.last.handle w.rows m.rows w'.rows a.handles a.rows b.rows;
+      shut = λ is. b.shut (a.shut is);
     }
 
 le-of : (a b : ℕ) → b ≡ a → a ≤ b
@@ -195,27 +209,23 @@ alike {w} {w'} a =
       nodes = le-of _ _ (ap (λ (l : Last). l.node) a.last);
       handles = le-of _ _ (ap (λ (l : Last). l.handle) a.last);
       loads_last = le-of _ _ (ap (λ (l : Last). l.load) a.last);
+      workers_last = le-of _ _ (ap (λ (l : Last). l.worker) a.last);
       cells = λ n cell is. sym (a.cells n) ∙ is;
       stored = λ q blob is. a.stored q ∙ is;
       loads = λ l load is. sym (a.loads l) ∙ is;
       cache = a.cache.only;
       rows = rows-self w.last.handle w.rows w'.rows a.rows;
+      shut = λ is. (a.closed ∙ is.0, λ q. a.stored q ∙ is.1 q);
     }
 
 -- rows and list alone change
 pub only-rows : {w : Core} {rows : List HandleRow} {list : List HandleNumber} {last : ℕ} → RowsGo w.last.handle w.rows rows → w.last.handle ≤ last → Quiet w (record w { rows = rows; list = list; last = record w.last { handle = last } })
 only-rows {w} go le =
-    record { nodes = le-self w.last.node; handles = le; loads_last = le-self w.last.load; cells = λ n cell is. is; stored = λ q blob is. is; loads = λ l load is. is; cache = λ kind key n is. is; rows = go }
-  where
-    le-self : (n : ℕ) → n ≤ n
-    le-self n = omega arith
+    record { nodes = le-self w.last.node; handles = le; loads_last = le-self w.last.load; workers_last = le-self w.last.worker; cells = λ n cell is. is; stored = λ q blob is. is; loads = λ l load is. is; cache = λ kind key n is. is; rows = go; shut = λ is. is }
 
 if-some : {X : Type 0} (b : Bool) (x : Option X) (y : X) → (if b then x else None) ≡ Some y → x ≡ Some y
 if-some true x y is = is
 if-some false x y is = absurd (cc)
-
-le-more : (a b : ℕ) → a ≤ a + b
-le-more a b = omega arith
 
 pub fell : {before w w' : Core} {given : ℕ → Bool} {r : _} → Falls before w given r w' → Quiet w w'
 fell {before} {w} {w'} f = quiet-then {m = fallen w f.gone f.entries} falls (alike f.leaves)
@@ -226,11 +236,13 @@ fell {before} {w} {w'} f = quiet-then {m = fallen w f.gone f.entries} falls (ali
           nodes = le-of _ _ refl;
           handles = le-more _ _;
           loads_last = le-of _ _ refl;
+          workers_last = le-of _ _ refl;
           cells = λ n cell is. if-some _ (w.cells n) cell is;
           stored = λ q blob is. is;
           loads = λ l load is. is;
           cache = λ kind key n is. is;
           rows = rows-then w.last.handle w.last.handle w.rows (left_rows f.gone w.rows) _ (le-of _ _ refl) (rows-left w.last.handle w.rows f.gone) (rows-more w.last.handle (left_rows f.gone w.rows) f.entries (λ q few. none-in-new w.last.handle q f.entries f.new few));
+          shut = λ is. is;
         }
 
 pub fell-anyhow : {before w w' : Core} {given : ℕ → Bool} → FallsAnyhow before w given w' → Quiet w w'
@@ -241,20 +253,19 @@ a-handle w node mode owner = only-rows (rows-more w.last.handle w.rows _ (λ q f
 
 -- ---- steps that are felt
 
-le-self : (n : ℕ) → n ≤ n
-le-self n = omega arith
-
 pub quiet-goes : (c : Change) {w w' : Core} → Quiet w w' → Goes c w w'
 quiet-goes c q =
     record {
       nodes = q.nodes;
       handles = q.handles;
       loads_last = q.loads_last;
+      workers_last = q.workers_last;
       cells = λ n cell is. inl (record { was = cell; live = q.cells n cell is; typed = refl; key = inl refl });
       stored = q.stored;
       loads = λ l load is. inl (q.loads l load is);
       cache = λ kind key n is. inl (q.cache kind key n is);
       rows = q.rows;
+      shut = q.shut;
     }
 
 pub goes-quiet : {c : Change} {w m w' : Core} → Goes c w m → Quiet m w' → Goes c w w'
@@ -263,11 +274,13 @@ goes-quiet {c} {w} {m} {w'} a b =
       nodes = let c = a.nodes in let d = b.nodes in omega arith;
       handles = let c = a.handles in let d = b.handles in omega arith;
       loads_last = let c = a.loads_last in let d = b.loads_last in omega arith;
+      workers_last = let c = a.workers_last in let d = b.workers_last in omega arith;
       cells = λ n cell is. a.cells n cell (b.cells n cell is);
       stored = λ q blob is. b.stored q blob (a.stored q blob is);
       loads = λ l load is. a.loads l load (b.loads l load is);
       cache = λ kind key n is. a.cache kind key n (b.cache kind key n is);
       rows = rows-then w.last.handle m.last.handle w.rows m.rows w'.rows a.handles a.rows b.rows;
+      shut = λ is. b.shut (a.shut is);
     }
 
 -- at a number, or elsewhere
@@ -284,6 +297,7 @@ born c w t key references bears =
       nodes = le-more _ _;
       handles = le-self _;
       loads_last = le-self _;
+      workers_last = le-self _;
       cells = λ n cell is. elim (at-updated _ _ w.cells n cell is) [
         | inl (next, e) ↦ let f : record { node_type = t; key = key } ≡ cell = cc in inr (next, subst (λ (x : Cell). Bears c x.node_type x.key) f bears)
         | inr there ↦ inl (record { was = cell; live = there; typed = refl; key = inl refl })
@@ -292,6 +306,7 @@ born c w t key references bears =
       loads = λ l load is. inl is;
       cache = λ kind q n is. inl is;
       rows = rows-moved w.last.handle w.rows _ _ (λ l is. absurd (cc));
+      shut = λ is. is;
     }
 
 keyed-cell : (w : Core) (m : ℕ) (key : ℕ) (cell : Cell) (found : Option Cell) → w.cells m ≡ found → if_there (λ (x : Cell). Some (record x { key = optional.Some key })) None found ≡ Some cell → Kept (sets_key m key) w m cell
@@ -304,6 +319,7 @@ keyed w node key =
       nodes = le-self _;
       handles = le-self _;
       loads_last = le-self _;
+      workers_last = le-self _;
       cells = λ n cell is. elim (at-updated _ _ w.cells n cell is) [
         | inl (at, e) ↦ inl (subst (λ k. Kept (sets_key node.0 key) w k cell) (sym at) (keyed-cell w node.0 key cell (w.cells node.0) refl e))
         | inr there ↦ inl (record { was = cell; live = there; typed = refl; key = inl refl })
@@ -312,6 +328,7 @@ keyed w node key =
       loads = λ l load is. inl is;
       cache = λ kind q n is. inl is;
       rows = rows-self w.last.handle w.rows w.rows refl;
+      shut = λ is. is;
     }
 
 pub begun : (c : Change) (w : Core) (key : ℕ) (root : Root) (me : Owner) → BeginsWell w (record { owner = me; key = key; root = root }) → Goes c w (with_load w key root me)
@@ -320,6 +337,7 @@ begun c w key root me well =
       nodes = le-self _;
       handles = le-self _;
       loads_last = le-more _ _;
+      workers_last = le-self _;
       cells = λ n cell is. inl (record { was = cell; live = is; typed = refl; key = inl refl });
       stored = λ q blob is. is;
       loads = λ l load is. elim (at-updated _ _ w.loads l load is) [
@@ -328,6 +346,7 @@ begun c w key root me well =
       ];
       cache = λ kind q n is. inl is;
       rows = rows-self w.last.handle w.rows w.rows refl;
+      shut = λ is. is;
     }
   where
     next-above : (l last : ℕ) → l ≡ last + 1 → last < l
@@ -340,6 +359,7 @@ quiet-begins {w} {m} {w'} a b =
       nodes = let c = a.nodes in let d = b.nodes in omega arith;
       handles = let c = a.handles in let d = b.handles in omega arith;
       loads_last = let c = a.loads_last in let d = b.loads_last in omega arith;
+      workers_last = let c = a.workers_last in let d = b.workers_last in omega arith;
       cells = λ n cell is. elim (b.cells n cell is) [
         | inl k ↦ inl (record { was = k.was; live = a.cells n k.was k.live; typed = k.typed; key = kept-key k })
         | inr (next, bears) ↦ absurd bears
@@ -354,6 +374,7 @@ quiet-begins {w} {m} {w'} a b =
         | inr known ↦ absurd known
       ];
       rows = rows-then w.last.handle m.last.handle w.rows m.rows w'.rows a.handles a.rows b.rows;
+      shut = λ is. b.shut (a.shut is);
     }
   where
     kept-key : {n : ℕ} {cell : Cell} → (k : Kept nothing_felt m n cell) → (cell.key ≡ k.was.key) ⊎ ((key : ℕ) × Sets nothing_felt n key × (cell.key ≡ optional.Some key))
@@ -379,6 +400,7 @@ goes-known {c} {w} {m} a kind key n knows =
       nodes = a.nodes;
       handles = a.handles;
       loads_last = a.loads_last;
+      workers_last = a.workers_last;
       cells = a.cells;
       stored = a.stored;
       loads = a.loads;
@@ -387,6 +409,7 @@ goes-known {c} {w} {m} a kind key n knows =
         | inr old ↦ a.cache k q there old
       ];
       rows = a.rows;
+      shut = a.shut;
     }
   where
     moved-to : (k q there : ℕ) → k ≡ kind.0 → q ≡ key → there ≡ n.0 → Knows c w k q there

@@ -4,16 +4,18 @@ use Rattle.pagable_world.specs.declared.events.Event.{Event}
 use Rattle.pagable_world.specs.declared.events.EventReply.{EventReply}
 use Rattle.pagable_world.specs.declared.events.LoadAnswer.{LoadAnswer}
 use Rattle.pagable_world.specs.Plain.{Tree}
-use Rattle.pagable_world.specs.World.{OpenLoad, Reading, Frame, Seen}
+use Rattle.pagable_world.specs.World.{OpenLoad, Reading, Frame, Seen, IsLawful}
 use Rattle.pagable_world.specs.Loads.{gone_on}
-use Rattle.pagable_world.specs.Pager.{MachineState, world_of, IsMachineWhole, StandsFor, FramesFit, ReadingFits, IsReadingOf}
+use Rattle.pagable_world.specs.Pager.{MachineState, world_of, IsMachineWhole, StandsFor, FramesFit, ReadingFits, IsReadingOf, Moves, EventBrings}
+use Rattle.pagable_world.specs.Runs.{HoldsSettled, ReadsItsTypes, IsWellAsked}
 use Rattle.pagable_laws.specs.ReadLaws.{FramesGiven}
-use Rattle.pagable_laws.specs.TreeSteps.{Change, CoreGoes, ReadingFeels, EventFeels, by-call, by-reading, by-key, by-nothing, KeepsReadings}
-use Rattle.pagable_laws.specs.TreeRuns.{ChangeFits, ReadingsGiven, EventsKeepTrees}
+use Rattle.pagable_laws.specs.TreeSteps.{Change, CoreGoes, ReadingFeels, EventFeels, by-call, by-reading, by-key, by-nothing, KeepsReadings, KeysAreReady, StepFeels, IsFresh}
+use Rattle.pagable_laws.specs.TreeRuns.{ChangeFits, ReadingsGiven, TreesAfterEvent}
 use Rattle.pagable_laws.proofs.Trees.{same_some}
-use Rattle.pagable_laws.proofs.TreesGoing.{trees_go_on}
+use Rattle.pagable_laws.proofs.TreesGoing.{trees-go-on}
 use Rattle.pagable_laws.proofs.Taking.{AtStep, fit-still, fit-after}
-use Rattle.pagable_laws.proofs.Staying.{reading-is, nothing-yet, none-given, fits-of, given-of, events_fit}
+use Rattle.pagable_laws.proofs.ReadingStepsMachine.{is-reading-of}
+use Rattle.pagable_laws.proofs.Staying.{nothing-yet, none-given, fits-of, given-of, event-fits}
 
 module _ {N E B W : Type 0} (m : Seen N B W) (s s' : MachineState N E) (trees trees' : ℕ → Tree) (whole : IsMachineWhole m.values s) (whole' : IsMachineWhole m.values s') (stands : StandsFor m.values s trees) (given : ReadingsGiven s)
     {comes : ℕ → N → Type 0} {c : Change} (goes : CoreGoes c s.pager.core s'.pager.core) (fits : ChangeFits m.values c comes s.pager s'.pager trees trees') where
@@ -53,9 +55,9 @@ module _ {N E B W : Type 0} (m : Seen N B W) (s s' : MachineState N E) (trees tr
   fresh-goes reading none within = (nothing-yet m s' trees' reading none, within, none-given m s' trees' s'.pager.core.last.node reading.frames none)
 
   either-goes : KeepsReadings (world_of s) (world_of s') → (reading : Reading) → IsReadingOf s'.work reading → GoesOn reading
-  either-goes keeps reading is = elim (keeps reading is) [ inl was ↦ old-goes reading was | inr new ↦ fresh-goes reading new.0 new.1 ]
+  either-goes keeps reading is = elim (keeps reading is) [ inl was ↦ old-goes reading was | inr new ↦ fresh-goes reading new.0 new.2 ]
 
-  stepped-goes : (reading : Reading) (frames : List Frame) → IsReadingOf s.work reading ⊎ ((reading.frames ≡ []) × (reading.load.0 ≤ s.pager.core.last.load)) → (load : OpenLoad) → s.pager.core.loads reading.load.0 ≡ Some load
+  stepped-goes : (reading : Reading) (frames : List Frame) → IsReadingOf s.work reading ⊎ IsFresh s.pager.core reading → (load : OpenLoad) → s.pager.core.loads reading.load.0 ≡ Some load
       → ReadingFeels m.values s.pager.core reading None frames s'.pager.core c → GoesOn (gone_on reading frames)
   stepped-goes reading frames is load opened feels =
       let fit = fits-of m s trees stands given reading is in
@@ -65,9 +67,9 @@ module _ {N E B W : Type 0} (m : Seen N B W) (s s' : MachineState N E) (trees tr
       let b = goes.loads_last in
       (λ other at. let same : load ≡ other = same_some _ _ (sym opened ∙ was-open reading.load.0 other a at) in subst (λ (z : OpenLoad). FramesFit m.values.types s'.pager.core.stored trees' z.key reading.node_type frames) same after.fit, omega (arith, a, b), after.given)
     where
-      within : IsReadingOf s.work reading ⊎ ((reading.frames ≡ []) × (reading.load.0 ≤ s.pager.core.last.load)) → reading.load.0 ≤ s.pager.core.last.load
+      within : IsReadingOf s.work reading ⊎ IsFresh s.pager.core reading → reading.load.0 ≤ s.pager.core.last.load
       within (inl was) = (given reading was).0
-      within (inr new) = new.1
+      within (inr new) = new.2
 
   readings-on : {d : Change} (event : Event N B W) (reply : EventReply N B W) → d ≡ c → EventFeels m.values (world_of s) event reply (world_of s') d → (reading : Reading) → IsReadingOf s'.work reading → GoesOn reading
   readings-on event reply e (by-call c2 call answer called replied feels keeps) reading is = either-goes keeps reading is
@@ -78,12 +80,15 @@ module _ {N E B W : Type 0} (m : Seen N B W) (s s' : MachineState N E) (trees tr
     | inr (none, gone) ↦
         let load = opens none in
         let felt = subst (λ (o : Option (LoadAnswer N)). ReadingFeels m.values s.pager.core was o frames s'.pager.core c) none (subst (λ z. ReadingFeels m.values s.pager.core was answer frames s'.pager.core z) e feels) in
-        subst GoesOn (sym gone) (stepped-goes was frames (reading-is m s trees event was stepped) load.0 load.1 felt)
+        subst GoesOn (sym gone) (stepped-goes was frames (is-reading-of (world_of s) event was stepped) load.0 load.1 felt)
   ]
 
-pub events_keep_trees : {N B W E : Type 0} (m : Seen N B W) → EventsKeepTrees E m
-events_keep_trees m lawful readable s s' trees event reply stands given settled whole whole' ready well moves feels =
-    let f = events_fit m lawful readable s s' trees event reply stands given settled whole whole' ready well feels in
-    let pager = trees_go_on m lawful (world_of s) event feels.change s.pager s'.pager trees f.0 settled whole.pager whole'.pager stands.pager moves feels.core f.1 in
+-- a machine that stands for trees does so after each event, as trees feel it
+pub keeps-trees : {N B W E : Type 0} (m : Seen N B W) → IsLawful m.values → ReadsItsTypes m.values.types → (s s' : MachineState N E) (trees : ℕ → Tree) (event : Event N B W) (reply : EventReply N B W) → StandsFor m.values s trees → ReadingsGiven s → HoldsSettled m.values s.pager
+    → IsMachineWhole m.values s → IsMachineWhole m.values s' → KeysAreReady m.values s trees → IsWellAsked m.values s trees event reply → Moves (EventBrings m.values (world_of s) event) s.pager s'.pager
+    → StepFeels m.values (world_of s) event reply (world_of s') → TreesAfterEvent m.values s s' trees
+keeps-trees m lawful readable s s' trees event reply stands given settled whole whole' ready well moves feels =
+    let f = event-fits m s trees stands given lawful readable s' settled whole whole' ready event reply feels.core well feels.feels in
+    let pager = trees-go-on lawful settled whole.pager whole'.pager stands.pager moves feels.core f.1 in
     let on = readings-on m s s' trees f.0 whole whole' stands given feels.core f.1 event reply refl feels.feels in
     record { after = f.0; keeps = f.1.same; stands = record { pager = pager; readings = λ reading is. (on reading is).0 }; given = λ reading is. let g = on reading is in (g.1, g.2) }

@@ -6,9 +6,9 @@ use Rattle.pagable_world.specs.declared.events.PinStep.TheVariants as pinsteps
 use Rattle.pagable_world.specs.declared.events.Took.TheVariants as took
 use Rattle.pagable_world.specs.declared.events.Took.{Took}
 use Rattle.pagable_world.specs.World.{Todo, to_start, to_pin, to_load, to_write, to_finish, to_item, to_set, to_publish, to_release, to_fail, was_failed, Seen}
-use Rattle.pagable_world.specs.Workers.{Site, Does, failing, failing_by}
+use Rattle.pagable_world.specs.Workers.{Site, Does, WalkDoes, failing, failing_by}
 use Rattle.pagable_world.specs.Order.{Follows}
-use Rattle.pagable_laws.specs.RunLaws.{NextIsOneOf, StepsFollow}
+use Rattle.pagable_laws.specs.RunLaws.{NextIsOneOf}
 
 pub next_is_one : NextIsOneOf
 next_is_one types frame =
@@ -58,5 +58,6 @@ module _ {N B W : Type 0} (m : Seen N B W) (v : ℕ) (s s' : Site) where
   follow (to_fail fault back ∷ below) e step does = absurd does
   follow [] e step does = absurd does
 
-pub steps_follow : {N B W : Type 0} (m : Seen N B W) → StepsFollow m
+-- whatever a worker does is a step of the automaton of its order
+pub steps_follow : {N B W : Type 0} (m : Seen N B W) (v : ℕ) (s s' : Site) (step : Took W) → WalkDoes m v s step s' → Follows m.written_of s.todo step s'.todo
 steps_follow m v s s' step does = follow m v s s' s.todo refl step does.does

@@ -10,10 +10,9 @@ use Rattle.pagable_world.specs.declared.events.PinStep.TheVariants as pinsteps
 use Rattle.pagable_world.specs.declared.events.Took.TheVariants as took
 use Rattle.pagable_world.specs.declared.events.Took.{Took}
 use Rattle.pagable_world.specs.Kinds.{identity_of}
-use Rattle.pagable_world.specs.World.{Open, Todo, was_failed, to_start, to_pin, to_load, to_write, to_finish, to_item, to_set, to_publish, to_release, to_fail, Task, of_item, of_entry, Written, Seen, is_identity}
+use Rattle.pagable_world.specs.World.{Open, Todo, was_failed, to_start, to_pin, to_load, to_write, to_finish, to_item, to_set, to_publish, to_release, to_fail, Task, of_item, of_entry, Written, is_identity}
 use Rattle.pagable_world.specs.Workers.{next_start, give, first_todo, failing, failing_by}
-use Rattle.pagable_world.specs.Order.{Follows, Leads, is_claim_of, is_later_of}
-use Rattle.pagable_laws.specs.RunLaws.{IsOnceEach}
+use Rattle.pagable_world.specs.Order.{Follows, Leads, InOrder, OnceEach, is_claim_of, is_later_of}
 
 -- ---- numbers
 
@@ -259,5 +258,6 @@ module _ (k : ℕ) (i : Identity) where
         le-of is = omega arith
     at-once (of_entry h j) steps last leads few = entry _ _ steps last leads few
 
-pub once_each : {N B W : Type 0} (m : Seen N B W) → IsOnceEach m
-once_each m task steps order few = record { claim = few; later = λ stage i. at-once stage i m.written_of task steps order.left order.leads (few i) }
+-- what the automaton accepts, with no identity claimed twice, has each stage at most once after its claim
+pub once_each : {W : Type 0} (f : W → Written) (task : Task) (steps : List (Took W)) → InOrder f task steps → ((i : Identity) → times (is_claim_of i) steps ≤ 1) → OnceEach steps
+once_each f task steps order few = record { claim = few; later = λ stage i. at-once stage i f task steps order.left order.leads (few i) }

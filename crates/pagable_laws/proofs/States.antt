@@ -1,7 +1,8 @@
--- Each state of the chain of two levels is whole.
+-- Each pager and each machine of the chain of two levels is whole.
 use Rattle.std.proofs.Common.{◌≡◌, ℕ, zero, suc, ◌<◌, ◌≤◌, ◌==◌, Bool, true, false, List, [], ◌∷◌, refl, ap, sym, subst, ◌∙◌, arith}
 use Rattle.std.specs.Prelude.{Option, Some, None, is_some, is_none}
 use Rattle.std.proofs.lemmas.Bool.Decides.{nat_tests}
+use Rattle.pagable_world.specs.Plain.{is_in}
 use Rattle.pagable_world.specs.declared.rows.Mode.TheVariants as modes
 use Rattle.pagable_world.specs.World.{Core, Shelf, Reading, Walking}
 use Rattle.pagable_world.specs.Cascade.{fallen, nobody}
@@ -23,7 +24,7 @@ few-as w w' same_cells same_loads same_workers few =
       workers = λ v lt. ap (λ f. f v) same_workers ∙ few.workers v lt;
     }
 
-few-fallen : (w : Core) (gone : ℕ → Bool) → is_low (fallen w gone []) ≡ true → ((l : ℕ) → 2 < l → w.loads l ≡ None) → ((v : ℕ) → 1 < v → w.workers v ≡ false) → IsFew (fallen w gone [])
+few-fallen : (w : Core) (gone : ℕ → Bool) → is_low (fallen w gone []) ≡ true → ((l : ℕ) → 3 < l → w.loads l ≡ None) → ((v : ℕ) → 1 < v → w.workers v ≡ false) → IsFew (fallen w gone [])
 few-fallen w gone low loads workers = record { cells = λ n lt. let e = held-past (fallen w gone []).rows low n lt in rw e refl; loads = loads; workers = workers }
 
 knows-none : (w : Core) → ((kind key : ℕ) → w.cache kind key ≡ None) → KnowsThird w
@@ -61,17 +62,17 @@ few-parent-loading : IsFew two.parent_loading
 unfolding is_named_by find_row
 few-parent-loading =
     let few : IsFew two.evicted = few-fallen (with_mode two.answered (two.handle 2) modes.LooseUnpinned) two.child_handle refl (λ l lt. refl) few-answered.workers in
-    record { cells = few.cells; loads = updated-past 2 1 _ None (λ l. None) (omega arith) (λ l lt. refl); workers = few.workers }
+    record { cells = few.cells; loads = updated-past 3 1 _ None (λ l. None) (omega arith) (λ l lt. refl); workers = few.workers }
 
 few-got : IsFew two.child_got
 few-got = record { cells = updated-past 3 3 _ None two.parent_loading.cells (omega arith) few-parent-loading.cells; loads = few-parent-loading.loads; workers = few-parent-loading.workers }
 
 few-loaded : IsFew two.parent_loaded
 unfolding is_named_by find_row
-few-loaded = few-fallen (ended two.child_got 1 2 2 (two.to_leaf 3 8 ∷ [])) (gives_up two.child_got 1 (two.to_leaf 3 8 ∷ [])) refl (updated-past 2 1 None None two.parent_loading.loads (omega arith) few-parent-loading.loads) few-got.workers
+few-loaded = few-fallen (ended two.child_got 1 2 2 (two.to_leaf 3 8 ∷ [])) (gives_up two.child_got 1 (two.to_leaf 3 8 ∷ [])) refl (updated-past 3 1 None None two.parent_loading.loads (omega arith) few-parent-loading.loads) few-got.workers
 
 few-child-loading : IsFew two.child_loading
-few-child-loading = record { cells = few-loaded.cells; loads = updated-past 2 2 _ None two.parent_loaded.loads (omega arith) few-loaded.loads; workers = few-loaded.workers }
+few-child-loading = record { cells = few-loaded.cells; loads = updated-past 3 2 _ None two.parent_loaded.loads (omega arith) few-loaded.loads; workers = few-loaded.workers }
 
 pub child-passes : Passes two.child_born two.one_value
 unfolding value_at is_named_by find_row
@@ -153,31 +154,28 @@ child-loading-passes = passes two.child_loading two.parent_value few-child-loadi
 
 pub child-loaded-passes : Passes two.child_loaded two.last_values
 unfolding value_at is_named_by find_row
-child-loaded-passes = passes two.child_loaded two.last_values (few-fallen (ended two.child_loading 2 3 10 []) (gives_up two.child_loading 2 []) refl (updated-past 2 2 None None two.child_loading.loads (omega arith) few-child-loading.loads) few-child-loading.workers) (knows-third two.child_loaded (λ kind key. refl) (omega arith)) (omega arith) refl refl refl
+child-loaded-passes = passes two.child_loaded two.last_values (few-fallen (ended two.child_loading 2 3 10 []) (gives_up two.child_loading 2 []) refl (updated-past 3 2 None None two.child_loading.loads (omega arith) few-child-loading.loads) few-child-loading.workers) (knows-third two.child_loaded (λ kind key. refl) (omega arith)) (omega arith) refl refl refl
 
--- all of them
-pub all_whole : two.TwoLevelsAreWhole
-all_whole = (
-  whole-so _ _ child-passes,
-  whole-so _ _ both-passes,
-  whole-so _ _ begun-passes,
-  whole-so _ _ parent-pinned-passes,
-  whole-so _ _ both-pinned-passes,
-  whole-so _ _ child-stored-passes,
-  whole-so _ _ child-keyed-passes,
-  whole-so _ _ child-released-passes,
-  whole-so _ _ parent-stored-passes,
-  whole-so _ _ parent-keyed-passes,
-  whole-so _ _ parent-released-passes,
-  whole-so _ _ answered-passes,
-  whole-so _ _ evicted-passes,
-  whole-so _ _ parent-loading-passes,
-  whole-so _ _ got-passes,
-  whole-so _ _ parent-loaded-passes,
-  whole-so _ _ child-cloned-passes,
-  whole-so _ _ child-loading-passes,
-  whole-so _ _ child-loaded-passes,
-)
+few-read-back : IsFew two.read_back
+unfolding is_named_by find_row is_in
+few-read-back =
+    few-fallen two.handed two.not_handed refl
+    (updated-past 3 3 None None two.key_loading.loads (omega arith) (updated-past 3 3 _ None two.child_loaded.loads (omega arith) (updated-past 3 2 None None two.child_loading.loads (omega arith) few-child-loading.loads)))
+    few-child-loading.workers
+
+pub key-loading-passes : Passes two.key_loading two.last_values
+unfolding value_at is_named_by find_row
+key-loading-passes =
+    let few = child-loaded-passes.few in
+    passes two.key_loading two.last_values (record { cells = few.cells; loads = updated-past 3 3 _ None two.child_loaded.loads (omega arith) few.loads; workers = few.workers }) (knows-third two.key_loading (λ kind key. refl) (omega arith)) (omega arith) refl refl refl
+
+pub child-known-passes : Passes two.child_known two.last_values
+unfolding value_at is_named_by find_row
+child-known-passes = passes two.child_known two.last_values (few-as two.key_loading two.child_known refl refl refl key-loading-passes.few) (knows-third two.child_known (λ kind key. refl) (omega arith)) (omega arith) refl refl refl
+
+pub read-back-passes : Passes two.read_back two.last_values
+unfolding value_at is_named_by find_row is_in
+read-back-passes = passes two.read_back two.last_values few-read-back (knows-third two.read_back (λ kind key. refl) (omega arith)) (omega arith) refl refl refl
 
 -- ---- the machine over it
 
@@ -194,8 +192,8 @@ only-at m x P holds n y is = part (n == m) refl
     part false e = let a : two.only m x n ≡ None = rw e refl in absurd (cc)
 
 -- nobody works
-pub idle-whole : (w : Core) (vs : List (Option two.Sample)) (shelf : Shelf) (last : ℕ) → Passes w vs → w.workers ≡ (λ v. false) → (shelves : ℕ → Shelf) → IsMachineWhole two.sample (two.machine w vs (record no_work { shelves = shelves; last_table = last }))
-idle-whole w vs shelf last p none shelves =
+pub idle-whole : (w : Core) (vs : List (Option two.Sample)) (shelves : ℕ → Shelf) (last : ℕ) → Passes w vs → w.workers ≡ (λ v. false) → IsMachineWhole two.sample (two.machine w vs (record no_work { shelves = shelves; last_table = last }))
+idle-whole w vs shelves last p none =
     record {
       pager = whole-so w vs p;
       readings = λ l r is. absurd (cc);

@@ -1,20 +1,21 @@
 -- Each event keeps trees: what it brings fits some trees afterwards, for which the machine stands then, with all that its loads read.
-use Rattle.std.proofs.Common.{◌≡◌, ℕ, ◌≤◌, List, [], ◌∷◌, inl, inr, sym, ap, ◌∙◌, subst}
+use Rattle.std.proofs.Common.{◌≡◌, ℕ, List, [], ◌∷◌, inl, inr, sym, ap, ◌∙◌, subst}
 use Rattle.std.specs.Prelude.{◌⊎◌}
 use Rattle.pagable_world.specs.declared.events.Event.{Event}
 use Rattle.pagable_world.specs.declared.events.Event.TheVariants as events
 use Rattle.pagable_world.specs.declared.events.EventReply.{EventReply}
 use Rattle.pagable_world.specs.Plain.{Tree, Among}
 use Rattle.pagable_world.specs.World.{Reading, Frame, to_load, Walking, Values, Seen, IsLawful}
-use Rattle.pagable_world.specs.Pager.{MachineState, PagerState, world_of, IsMachineWhole, StandsFor, FramesFit, ReadingFits, ReadingBrings, TodoBrings, EventBrings, IsReadingOf, of_worker}
+use Rattle.pagable_world.specs.Pager.{MachineState, PagerState, world_of, IsMachineWhole, StandsFor, FramesFit, ReadingFits, ReadingBrings, TodoBrings, EventBrings, IsReadingOf}
 use Rattle.pagable_world.specs.Runs.{HoldsSettled, ReadsItsTypes, TakesWell, TodoTakesWell, AsksWell, IsWellAsked}
 use Rattle.pagable_laws.specs.ReadLaws.{FramesGiven}
-use Rattle.pagable_laws.specs.TreeSteps.{Change, CoreGoes, IsSteppedReading, EventFeels, by-call, by-reading, by-key, by-nothing, KeysAreReady}
-use Rattle.pagable_laws.specs.TreeRuns.{ChangeFits, ReadingsGiven, EventsFit}
+use Rattle.pagable_laws.specs.TreeSteps.{Change, CoreGoes, IsSteppedReading, EventFeels, by-call, by-reading, by-key, by-nothing, KeysAreReady, IsFresh}
+use Rattle.pagable_laws.specs.TreeRuns.{ChangeFits, ReadingsGiven}
 use Rattle.pagable_laws.proofs.Trees.{same_some}
 use Rattle.pagable_laws.proofs.Fitting.{tree-stays}
-use Rattle.pagable_laws.proofs.Felt.{none-comes, fits-nothing, fits-key, calls_fit}
-use Rattle.pagable_laws.proofs.Brought.{readings_fit}
+use Rattle.pagable_laws.proofs.Felt.{none-comes, fits-nothing, fits-key, call-fits}
+use Rattle.pagable_laws.proofs.Brought.{reading-fits}
+use Rattle.pagable_laws.proofs.ReadingStepsMachine.{is-reading-of}
 
 module _ {N E : Type 0} {v : Values N} {c : Change} {s s' : PagerState N E} {trees trees' : ℕ → Tree} where
   -- what comes is said in other words
@@ -39,12 +40,6 @@ module _ {N E B W : Type 0} (m : Seen N B W) (s : MachineState N E) (trees : ℕ
   reading-takes (events.WorkerStep k) reply reading (walking, r, place, through, below, there, todo) well = subst (λ z. TodoTakesWell m.values s.pager z) todo (well walking there)
   reading-takes event reply reading stepped well = absurd stepped
 
-  -- it is one of the machine's, or has just begun
-  pub reading-is : (event : Event N B W) (reading : Reading) → IsSteppedReading (world_of s) event reading → IsReadingOf s.work reading ⊎ ((reading.frames ≡ []) × (reading.load.0 ≤ s.pager.core.last.load))
-  reading-is (events.LoadStep l) reading stepped = stepped.1
-  reading-is (events.WorkerStep k) reading (walking, r, place, through, below, there, todo) = inl (of_worker k.0 place walking r through below there todo)
-  reading-is event reading stepped = absurd stepped
-
   pub nothing-yet : (reading : Reading) → reading.frames ≡ [] → ReadingFits m.values s.pager trees reading
   unfolding FramesFit
   nothing-yet reading none load is = subst (λ fs. FramesFit m.values.types s.pager.core.stored trees load.key reading.node_type fs) (sym none) tt
@@ -53,11 +48,11 @@ module _ {N E B W : Type 0} (m : Seen N B W) (s : MachineState N E) (trees : ℕ
   none-given last frames none f r among got = let there = subst (λ fs. Among fs f) none among in absurd (let e = there.1 in cc)
 
   module _ (stands : StandsFor m.values s trees) (given : ReadingsGiven s) where
-    pub fits-of : (reading : Reading) → IsReadingOf s.work reading ⊎ ((reading.frames ≡ []) × (reading.load.0 ≤ s.pager.core.last.load)) → ReadingFits m.values s.pager trees reading
+    pub fits-of : (reading : Reading) → IsReadingOf s.work reading ⊎ IsFresh s.pager.core reading → ReadingFits m.values s.pager trees reading
     fits-of reading (inl is) = stands.readings reading is
     fits-of reading (inr is) = nothing-yet reading is.0
 
-    pub given-of : (reading : Reading) → IsReadingOf s.work reading ⊎ ((reading.frames ≡ []) × (reading.load.0 ≤ s.pager.core.last.load)) → FramesGiven s.pager.core.last.node reading.frames
+    pub given-of : (reading : Reading) → IsReadingOf s.work reading ⊎ IsFresh s.pager.core reading → FramesGiven s.pager.core.last.node reading.frames
     given-of reading (inl is) = (given reading is).1
     given-of reading (inr is) = none-given s.pager.core.last.node reading.frames is.0
 
@@ -67,11 +62,11 @@ module _ {N E B W : Type 0} (m : Seen N B W) (s : MachineState N E) (trees : ℕ
     event-fits lawful readable s' settled whole whole' ready event reply goes well (by-call c call answer called replied feels keeps) =
         let P : Event N B W → EventReply N B W → Type 0 = λ e r. IsWellAsked m.values s trees e r in
         let asked : AsksWell m.values s.pager trees call answer = subst (λ r. P (events.Call call) r) replied (subst (λ e. P e reply) called well) in
-        let f = calls_fit m lawful c call answer s.pager s'.pager trees settled whole.pager whole'.pager stands.pager goes asked feels in
-        (f.0, subst (λ e. ChangeFits m.values c (EventBrings m.values (world_of s) e) s.pager s'.pager trees f.0) (sym called) f.1)
+        let f = call-fits lawful settled whole.pager whole'.pager stands.pager c call answer goes asked feels in
+        (f.after, subst (λ e. ChangeFits m.values c (EventBrings m.values (world_of s) e) s.pager s'.pager trees f.after) (sym called) f.fits)
     event-fits lawful readable s' settled whole whole' ready event reply goes well (by-reading c reading answer frames stepped opens feels steps) =
-        let is = reading-is event reading stepped in
-        let f = readings_fit m lawful readable c reading answer frames s.pager s'.pager trees settled whole.pager whole'.pager stands.pager (fits-of reading is) (given-of reading is) goes (reading-takes event reply reading stepped well) opens feels in
+        let is = is-reading-of (world_of s) event reading stepped in
+        let f = reading-fits lawful readable settled whole.pager whole'.pager stands.pager reading (fits-of reading is) (given-of reading is) goes (reading-takes event reply reading stepped well) opens feels in
         (f.0, comes-from _ _ (λ n x brings. reading-brings event reading n x stepped brings) f.1)
     event-fits lawful readable s' settled whole whole' ready event reply goes well (by-key k key row is sets keeps) =
         (trees, fits-key lawful settled whole.pager whole'.pager stands.pager _ row.node.0 key (λ n x brings. no-value n x (subst (λ e. EventBrings m.values (world_of s) e n x) is brings)) (tree-stays goes.stored (ready k key row sets)))
@@ -82,6 +77,3 @@ module _ {N E B W : Type 0} (m : Seen N B W) (s : MachineState N E) (trees : ℕ
             subst (λ z. TodoBrings m.values s.pager.core z n x) (ap (λ (z : Walking). z.todo) same ∙ sets.sets) brings
     event-fits lawful readable s' settled whole whole' ready event reply goes well (by-nothing stays keeps) =
         (trees, fits-nothing lawful settled whole.pager whole'.pager stands.pager _ (λ n x brings none is. absurd (none-comes lawful settled whole.pager whole'.pager stands.pager n x goes none is (stays n x brings))))
-
-pub events_fit : {N B W E : Type 0} (m : Seen N B W) → EventsFit E m
-events_fit m lawful readable s s' trees event reply stands given settled whole whole' ready well feels = event-fits m s trees stands given lawful readable s' settled whole whole' ready event reply feels.core well feels.feels

@@ -158,7 +158,7 @@ module _ {N : Type 0} {v : Values N} {w w' : Core} {trees trees' : ℕ → Tree}
 
 -- ---- what is read
 
-adopted-over : (below : List Frame) (next : Next) → need_at below next ≡ to_adopt → (frame : Frame) × (rest : List Frame) × (below ≡ frame ∷ rest)
+pub adopted-over : (below : List Frame) (next : Next) → need_at below next ≡ to_adopt → (frame : Frame) × (rest : List Frame) × (below ≡ frame ∷ rest)
 adopted-over (frame ∷ rest) next is = (frame, rest, refl)
 adopted-over [] (asks kind key) is = absurd (of (is_eager kind.0) is)
   where

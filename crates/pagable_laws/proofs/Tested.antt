@@ -117,7 +117,7 @@ never n = false
 abbrev pub is_low : Core → Bool
 is_low w = all_pass row_low w.rows
 
-pub falls-so : (before w : Core) (given gone : ℕ → Bool) → is_low before ≡ true → nat_le w.last.handle 12 ≡ true → agree_below (lists_none before w gone) never 4 ≡ true → IsLeast w.rows (is_keyed w) [] given gone → Falls before w given (Ok tt) (fallen w gone [])
+pub falls-so : (before w : Core) (given gone : ℕ → Bool) → is_low before ≡ true → nat_le w.last.handle 13 ≡ true → agree_below (lists_none before w gone) never 4 ≡ true → IsLeast w.rows (is_keyed w) [] given gone → Falls before w given (Ok tt) (fallen w gone [])
 falls-so before w given gone low few none least =
     record {
       gone = gone;
@@ -127,7 +127,7 @@ falls-so before w given gone low few none least =
       only = λ n some. absurd (omega arith);
       each = λ n must. absurd (no-must n must);
       tells = record { all = λ n must. absurd (no-must n must); not_all = tt };
-      within = let b : w.last.handle ≤ 12 = grind (arith, nat_tests) in omega arith;
+      within = let b : w.last.handle ≤ 13 = grind (arith, nat_tests) in omega arith;
       leaves = alike-self (fallen w gone []);
     }
   where
@@ -137,7 +137,7 @@ falls-so before w given gone low few none least =
         let a = must.pinned in let b = must.unpinned in let c = must.unkeyed in grind (arith, nat_tests)
 
 -- the given handles fall alone, if no value that goes owns another
-pub falls-alone : (before w : Core) (given : ℕ → Bool) → is_low before ≡ true → is_low w ≡ true → nat_le w.last.handle 12 ≡ true → agree_below (lists_none before w given) never 4 ≡ true → agree_below (takes_more w given) never 4 ≡ true
+pub falls-alone : (before w : Core) (given : ℕ → Bool) → is_low before ≡ true → is_low w ≡ true → nat_le w.last.handle 13 ≡ true → agree_below (lists_none before w given) never 4 ≡ true → agree_below (takes_more w given) never 4 ≡ true
     → Falls before w given (Ok tt) (fallen w given [])
 falls-alone before w given low_before low few none ok =
     falls-so before w given given low_before few none (record {
@@ -156,10 +156,10 @@ falls-alone before w given low_before low few none ok =
 
 -- ---- what is whole
 
--- no row or value past the node 3, no load past 2, no worker past 1
+-- no row or value past the node 3, no load past 3, no worker past 1
 pub record IsFew (w : Core) : Type 0 where
   pub cells : (n : ℕ) → 3 < n → w.cells n ≡ None
-  pub loads : (l : ℕ) → 2 < l → w.loads l ≡ None
+  pub loads : (l : ℕ) → 3 < l → w.loads l ≡ None
   pub workers : (v : ℕ) → 1 < v → w.workers v ≡ false
 
 abbrev pub numbers_rise : ℕ → List HandleRow → Bool

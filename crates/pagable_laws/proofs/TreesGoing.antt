@@ -5,12 +5,12 @@ use Rattle.std.proofs.lemmas.Bool.Decides.{nat_tests}
 use Rattle.pagable_model.specs.declared.data_key.OptionalDataKey.TheVariants as optional
 use Rattle.pagable_world.specs.Plain.{NodeNumber, HandleNumber, Tree, ReadsTree, type_of}
 use Rattle.pagable_world.specs.Kinds.{held}
-use Rattle.pagable_world.specs.World.{OpenLoad, of_cell, Values, Seen, IsLawful, type_at}
+use Rattle.pagable_world.specs.World.{OpenLoad, of_cell, Values, IsLawful, type_at}
 use Rattle.pagable_world.specs.Pager.{PagerState, WellFormed, Moves, Represents, ReadsNodeTree, KeyFits}
 use Rattle.pagable_world.specs.Runs.{HoldsSettled}
 use Rattle.pagable_laws.specs.ReadLaws.{LeadsTo, ValueLeads}
 use Rattle.pagable_laws.specs.TreeSteps.{Change, Bears, CoreGoes, SameNode, NewNode, NodeLeads}
-use Rattle.pagable_laws.specs.TreeRuns.{IsKeptByGains, ChangeFits, TreesGoOn}
+use Rattle.pagable_laws.specs.TreeRuns.{IsKeptByGains, ChangeFits}
 use Rattle.pagable_laws.proofs.Trees.{same_some}
 use Rattle.pagable_laws.proofs.Following.{given-of, held-of, cell-of}
 use Rattle.pagable_laws.proofs.Fitting.{tree-stays}
@@ -93,8 +93,5 @@ module _ {N E : Type 0} {v : Values N} {c : Change} {comes : ℕ → N → Type 
   cache-again : (kind key n : ℕ) → s'.core.cache kind key ≡ Some n → ReadsNodeTree v.types s'.core.stored trees' key (type_of kind) n
   cache-again kind key n is = elim (goes.cache kind key n is) [ inl stays ↦ moved-node n (type_of kind) (well.whole.cache kind key n stays).given (stands.cache kind key n stays) | inr knows ↦ fits.knows kind key n knows ]
 
-  goes-on : Represents v s' trees'
-  goes-on = record { stands = stands-again lawful well' leads-again; typed = typed-again; loads = loads-again; cache = cache-again }
-
-pub trees_go_on : {N B W E : Type 0} (m : Seen N B W) → TreesGoOn E m
-trees_go_on m lawful u event c s s' trees trees' settled well well' stands moves goes fits = goes-on lawful settled well well' stands moves goes fits
+  pub trees-go-on : Represents v s' trees'
+  trees-go-on = record { stands = stands-again lawful well' leads-again; typed = typed-again; loads = loads-again; cache = cache-again }

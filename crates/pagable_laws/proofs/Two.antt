@@ -16,7 +16,7 @@ use Rattle.pagable_laws.specs.FallLaws.{OwnsNothing, TwoLevelsFall, LoneIsListed
 use Rattle.pagable_laws.proofs.Existing.{given-least}
 use Rattle.pagable_laws.proofs.Sums.{one-small}
 
-and-false : (b : Bool) → one (b && false) ≡ 0
+pub and-false : (b : Bool) → one (b && false) ≡ 0
 and-false true = refl
 and-false false = refl
 

@@ -1,81 +1,199 @@
--- What a worker's step does to the plain world, as trees feel it.
-use Rattle.std.proofs.Common.{ℕ, List, [], ◌∷◌, inl, inr}
-use Rattle.std.specs.Prelude.{Option, Some, None, Ok, Err}
+-- What a worker's step does to the plain world, as trees feel it, and which loads it begins.
+use Rattle.std.proofs.Common.{◌≡◌, ℕ, ◌+◌, ◌≤◌, true, List, [], ◌∷◌, ◌++◌, refl, sym, ap, subst, ◌∙◌, inl, inr, arith}
+use Rattle.std.specs.Prelude.{Option, Some, None, Ok, Err, Result}
 use Rattle.pagable_world.specs.Plain.{Error, ArcRef, HandleNumber, LoadNumber}
+use Rattle.pagable_world.specs.declared.handles.HandleRow.{HandleRow}
 use Rattle.pagable_world.specs.declared.answers.Pinning.TheVariants as pinnings
 use Rattle.pagable_world.specs.declared.answers.Beginning.TheVariants as beginnings
 use Rattle.pagable_world.specs.declared.events.Claim.TheVariants as claims
-use Rattle.pagable_world.specs.declared.events.LoadAnswer.TheVariants as ends
 use Rattle.pagable_world.specs.declared.events.PinStep.TheVariants as pinsteps
 use Rattle.pagable_world.specs.declared.events.Took.TheVariants as took
 use Rattle.pagable_world.specs.declared.events.Took.{Took}
-use Rattle.pagable_world.specs.Kinds.{owner_worker}
-use Rattle.pagable_world.specs.World.{Core, Todo, to_start, to_pin, to_load, to_write, to_finish, to_item, to_set, to_publish, to_release, to_fail, Seen}
-use Rattle.pagable_world.specs.Workers.{Site, Does, PinsAtOnce, PinsByLoad, PinRefused, GivesBack}
-use Rattle.pagable_laws.specs.TreeSteps.{nothing_felt}
-use Rattle.pagable_laws.proofs.Goes.{Goes, NotLoads, quiet-then, quiet-begins, alike, fell-anyhow}
+use Rattle.pagable_world.specs.Kinds.{owner_worker, is_loose}
+use Rattle.pagable_world.specs.World.{Core, Last, OpenLoad, Reading, Todo, to_start, to_pin, to_load, to_write, to_finish, to_item, to_set, to_publish, to_release, to_fail, row_at, Seen}
+use Rattle.pagable_world.specs.Calls.{SetKeyCall}
+use Rattle.pagable_world.specs.Workers.{Site, Does, PinsAtOnce, PinsByLoad, PinRefused, GivesBack, next_start, give, give_known, fresh}
+use Rattle.pagable_world.specs.Pager.{HandlesAreWhole, TodoBrings}
+use Rattle.pagable_laws.specs.TreeSteps.{Change, nothing_felt, sets_key, ReadingFeels, IsFresh}
+use Rattle.pagable_laws.proofs.Trees.{same_some}
+use Rattle.pagable_laws.proofs.Goes.{Quiet, Goes, NotLoads, quiet-then, quiet-goes, quiet-begins, goes-quiet, alike, fell, fell-anyhow, keyed}
 use Rattle.pagable_laws.proofs.Calling.{clones, pins, begins, stores}
-use Rattle.pagable_laws.proofs.Called.{schedules, sets}
-use Rattle.pagable_laws.proofs.LoadSteps.{Felt, quiet, reading-goes}
+use Rattle.pagable_laws.proofs.Called.{schedules}
+use Rattle.pagable_laws.proofs.ReadingSteps.{reading-feels}
+use Rattle.pagable_laws.proofs.ReadingStepsMachine.{LoadsTodo, loads-todo}
 
 pub works-free : (v : ℕ) → NotLoads (owner_worker v)
 works-free v l is = absurd (cc)
 
-begun : {w w' : Core} → Goes nothing_felt w w' → Felt w w'
-begun g = record { change = nothing_felt; goes = g }
+-- ---- what stands at the front afterwards
 
-gives-back : {w w' : Core} (v : ℕ) (back : Option HandleNumber) → GivesBack w v back w' → Felt w w'
-gives-back v None a = quiet (alike a)
-gives-back v (Some h) (told, scheduled) = quiet (schedules (works-free v) h told scheduled)
+-- a node or an item waits first, or nothing does
+abbrev pub NoLoad : List Todo → Type 0
+NoLoad [] = Unit {0}
+NoLoad (to_finish o ∷ below) = Unit {0}
+NoLoad (to_item written keys ∷ below) = Unit {0}
+NoLoad (x ∷ below) = ⊥
+
+-- no load comes to the front when what stands there is done
+abbrev pub WaitsWell : List Todo → Type 0
+WaitsWell (to_start r place ∷ below) = NoLoad below
+WaitsWell (to_release r key height ∷ below) = NoLoad below
+WaitsWell todo = Unit {0}
+
+-- the reading of a load at the front
+abbrev pub front_reading : List Todo → Option Reading
+front_reading (to_load r place through reading ∷ below) = Some reading
+front_reading todo = None
+
+abbrev pub LoadsAnew : Site → Type 0
+LoadsAnew s = (reading : Reading) → front_reading s.todo ≡ Some reading → IsFresh s.core reading
+
+no-load : (s : Site) (todo : List Todo) → s.todo ≡ todo → front_reading todo ≡ None → LoadsAnew s
+no-load s todo is none reading e = let f : front_reading todo ≡ Some reading = ap front_reading (sym is) ∙ e in absurd (cc)
+
+pub started : (place : ℕ) (rs : List ArcRef) (x : Todo) (below : List Todo) → front_reading (x ∷ below) ≡ None → front_reading (next_start place rs ++ x ∷ below) ≡ None
+started place [] x below none = none
+started place (r ∷ rs) x below none = refl
+
+given : (r : ArcRef) (key height : ℕ) (below : List Todo) → NoLoad below → front_reading (give r key height below) ≡ None
+given r key height [] well = refl
+given r key height (to_finish o ∷ below) well = started o.place _ _ below refl
+given r key height (to_item written keys ∷ below) well = started 0 _ _ below refl
+given r key height (to_start q place ∷ below) well = absurd well
+given r key height (to_pin q place ∷ below) well = absurd well
+given r key height (to_load q place through reading ∷ below) well = absurd well
+given r key height (to_write q place through ∷ below) well = absurd well
+given r key height (to_set q through k h ∷ below) well = absurd well
+given r key height (to_publish q k h ∷ below) well = absurd well
+given r key height (to_release q k h ∷ below) well = absurd well
+given r key height (to_fail fault back ∷ below) well = absurd well
+
+given-known : (r : ArcRef) (key height : ℕ) (below : List Todo) → NoLoad below → front_reading (give_known r key height below) ≡ None
+given-known r key height [] well = refl
+given-known r key height (x ∷ below) well = given r key height (x ∷ below) well
+
+-- ---- the step
+
+-- A load makes its step; the key is set through the worker's own loose handle; or nothing is felt. But for the first, a load at the front afterwards has just begun.
+pub data WalkFeels {N B W : Type 0} (m : Seen N B W) (v : ℕ) (s s' : Site) (todo : List Todo) : Change → Type 0 where
+  walk-loads : (c : Change) (r : ArcRef) (place : ℕ) (through : HandleNumber) (reading : Reading) (below : List Todo) → todo ≡ to_load r place through reading ∷ below
+      → (t : LoadsTodo m.values (owner_worker v) s s' reading)
+      → (t.answer ≡ None → (load : OpenLoad) × (s.core.loads reading.load.0 ≡ Some load))
+      → (HandlesAreWhole s.core → ReadingFeels m.values s.core reading t.answer t.frames s'.core c) → WalkFeels m v s s' todo c
+  walk-sets : (r : ArcRef) (through : HandleNumber) (key height : ℕ) (below : List Todo) (row : HandleRow)
+      → todo ≡ to_set r through key height ∷ below → row_at s.core through ≡ Some row → row.owner ≡ owner_worker v → is_loose row.mode ≡ true
+      → LoadsAnew s' → WalkFeels m v s s' todo (sets_key row.node.0 key)
+  walk-rests : ((n : ℕ) (x : N) → TodoBrings m.values s.core todo n x → ⊥) → LoadsAnew s' → WalkFeels m v s s' todo nothing_felt
+
+-- some change, what the step does to the world with it, and how it is felt
+pub record WalkFelt {N B W : Type 0} (m : Seen N B W) (v : ℕ) (s s' : Site) (todo : List Todo) : Type 0 where
+  pub change : Change
+  pub goes : Goes change s.core s'.core
+  pub feels : s.todo ≡ todo → WaitsWell todo → WalkFeels m v s s' todo change
+
+gives-back : {w w' : Core} (v : ℕ) (back : Option HandleNumber) → GivesBack w v back w' → Quiet w w'
+gives-back v None a = alike a
+gives-back v (Some h) (told, scheduled) = schedules (works-free v) h told scheduled
 
 module _ {w w' : Core} (v : ℕ) (r : ArcRef) where
-  at-once : (through k : HandleNumber) → PinsAtOnce w (owner_worker v) r through k w' → Felt w w'
+  at-once : (through k : HandleNumber) → PinsAtOnce w (owner_worker v) r through k w' → Quiet w w'
   at-once through k does = elim does [
-    | inl (row, is, clone) ↦ quiet (clones (Ok k) clone)
-    | inr (row, (mid, clone, pin)) ↦ quiet (quiet-then (clones (Ok through) clone) (pins (works-free v) (Ok (pinnings.Pinned k)) pin))
+    | inl (row, is, clone) ↦ clones (Ok k) clone
+    | inr (row, (mid, clone, pin)) ↦ quiet-then (clones (Ok through) clone) (pins (works-free v) (Ok (pinnings.Pinned k)) pin)
   ]
 
-  by-load : (through : HandleNumber) (l : LoadNumber) → PinsByLoad w (owner_worker v) r through l w' → Felt w w'
-  by-load through l (row, (mid, key, clone, begin)) = begun (quiet-begins (clones (Ok through) clone) (begins (Ok (beginnings.Load l key)) begin))
+  by-load : (through : HandleNumber) (l : LoadNumber) → PinsByLoad w (owner_worker v) r through l w' → Goes nothing_felt w w'
+  by-load through l (row, (mid, key, clone, begin)) = quiet-begins (clones (Ok through) clone) (begins (Ok (beginnings.Load l key)) begin)
 
-  pin-refused : (e : Error) → PinRefused w (owner_worker v) r e w' → Felt w w'
+  begun-number : (through : HandleNumber) (l : LoadNumber) → PinsByLoad w (owner_worker v) r through l w' → l.0 ≤ w'.last.load
+  begun-number through l (row, (mid, key, clone, begin)) =
+      let b = begin.begins.2 in
+      let n = b.2.above in
+      let e : w'.last.load ≡ mid.last.load + 1 = ap (λ (x : Last). x.load) b.4.2.last in
+      omega (arith, n, e)
+
+  pin-refused : (e : Error) → PinRefused w (owner_worker v) r e w' → Goes nothing_felt w w'
   pin-refused e does = elim does [
-    | inl clone ↦ quiet (clones (Err e) clone)
-    | inr (row, (mid, through, clone, inl pin)) ↦ quiet (quiet-then (clones (Ok through) clone) (pins (works-free v) (Err e) pin))
-    | inr (row, (mid, through, clone, inr begin)) ↦ begun (quiet-begins (clones (Ok through) clone) (begins (Err e) begin))
+    | inl clone ↦ quiet-goes nothing_felt (clones (Err e) clone)
+    | inr (row, (mid, through, clone, inl pin)) ↦ quiet-goes nothing_felt (quiet-then (clones (Ok through) clone) (pins (works-free v) (Err e) pin))
+    | inr (row, (mid, through, clone, inr begin)) ↦ quiet-begins (clones (Ok through) clone) (begins (Err e) begin)
   ]
 
 module _ {N B W : Type 0} (m : Seen N B W) (v : ℕ) (s s' : Site) where
-  pub walk-goes : (todo : List Todo) (step : Took W) → Does m v s todo step s' → Felt s.core s'.core
-  walk-goes (to_start r place ∷ below) (took.Claim i (Ok claims.Claimed)) (is, c) = quiet (alike c.finds.1.2.pager_stays)
-  walk-goes (to_start r place ∷ below) (took.Claim i (Ok (claims.Known key height))) (is, c) = quiet (alike c.finds.1.2.pager_stays)
-  walk-goes (to_start r place ∷ below) (took.Claim i (Ok claims.Waiting)) (is, c) = quiet (alike c.finds.1.2.pager_stays)
-  walk-goes (to_start r place ∷ below) (took.Claim i (Ok claims.AlreadyFailed)) (is, c) = quiet (alike c.finds.1.2.pager_stays)
-  walk-goes (to_start r place ∷ below) (took.Claim i (Err f)) (is, c) = quiet (alike c.refused.1.pager_stays)
+  abbrev WF : List Todo → Type 0
+  WF todo = WalkFelt m v s s' todo
+
+  -- nothing is felt, and this stands at the front afterwards
+  begun : {todo : List Todo} (next : List Todo) → ((n : ℕ) (x : N) → TodoBrings m.values s.core todo n x → ⊥)
+      → s'.todo ≡ next → (WaitsWell todo → front_reading next ≡ None) → Goes nothing_felt s.core s'.core → WF todo
+  begun next none is other g = record { change = nothing_felt; goes = g; feels = λ front well. walk-rests none (no-load s' next is (other well)) }
+
+  rests : {todo : List Todo} (next : List Todo) → ((n : ℕ) (x : N) → TodoBrings m.values s.core todo n x → ⊥)
+      → s'.todo ≡ next → (WaitsWell todo → front_reading next ≡ None) → Quiet s.core s'.core → WF todo
+  rests next none is other q = begun next none is other (quiet-goes nothing_felt q)
+
+  -- the load at the front makes its step
+  loads-on : (r : ArcRef) (place : ℕ) (through : HandleNumber) (reading : Reading) (below : List Todo) (step : Took W)
+      → Does m v s (to_load r place through reading ∷ below) step s' → WF (to_load r place through reading ∷ below)
+  loads-on r place through reading below step does =
+      let t = loads-todo m v s s' r place through reading below step does in
+      let f = reading-feels m s.core (owner_worker v) (works-free v) s'.core reading t.answer t.frames t.does in
+      record { change = f.change; goes = f.goes; feels = λ front well. walk-loads f.change r place through reading below refl t f.opens f.feels }
+
+  sets : (r : ArcRef) (through : HandleNumber) (key height : ℕ) (below next : List Todo) (told : Result (Unit {0}) Error)
+      → SetKeyCall s.core (owner_worker v) through key told s'.core → s'.todo ≡ next → front_reading next ≡ None → WF (to_set r through key height ∷ below)
+  sets r through key height below next told c is other = elim c.does [
+    | inl refused ↦ rests next (λ n x b. b) is (λ well. other) (alike refused.stays)
+    | inr (row, owns, inl (mode, done, a)) ↦ rests next (λ n x b. b) is (λ well. other) (alike a)
+    | inr (row, owns, inr (loose, f)) ↦ record {
+      change = sets_key row.node.0 key;
+      goes = goes-quiet (keyed s.core row.node key) (fell f);
+      feels = λ front well. walk-sets r through key height below row refl owns.live owns.own loose (no-load s' next is other);
+    }
+  ]
+
+  load-begins : (r : ArcRef) (place t : ℕ) (below : List Todo) (through : HandleNumber) (l : LoadNumber) → PinsByLoad s.core (owner_worker v) r through l s'.core
+      → s'.todo ≡ to_load r place through (fresh l t) ∷ below → WF (to_pin r place ∷ below)
+  load-begins r place t below through l does is =
+      record {
+        change = nothing_felt;
+        goes = by-load v r through l does;
+        feels = λ front well. walk-rests (λ n x b. b) (λ reading e.
+            let same : fresh l t ≡ reading = same_some _ _ (ap front_reading (sym is) ∙ e) in
+            subst (λ x. IsFresh s'.core x) same (refl, refl, begun-number v r through l does));
+      }
+
+  pub walk-goes : (todo : List Todo) (step : Took W) → Does m v s todo step s' → WF todo
+  walk-goes (to_start r place ∷ below) (took.Claim i (Ok claims.Claimed)) (is, c) = let t = c.finds.1.2 in rests _ (λ n x b. b) t.list_is (λ well. refl) (alike t.pager_stays)
+  walk-goes (to_start r place ∷ below) (took.Claim i (Ok (claims.Known key height))) (is, c) = let t = c.finds.1.2 in rests _ (λ n x b. b) t.list_is (given-known r key height below) (alike t.pager_stays)
+  walk-goes (to_start r place ∷ below) (took.Claim i (Ok claims.Waiting)) (is, c) =
+      let t = c.finds.1.2 in
+      record { change = nothing_felt; goes = quiet-goes nothing_felt (alike t.pager_stays); feels = λ front well. walk-rests (λ n x b. b) (no-load s' _ (t.list_is ∙ front) refl) }
+  walk-goes (to_start r place ∷ below) (took.Claim i (Ok claims.AlreadyFailed)) (is, c) = let t = c.finds.1.2 in rests _ (λ n x b. b) t.list_is (λ well. refl) (alike t.pager_stays)
+  walk-goes (to_start r place ∷ below) (took.Claim i (Err f)) (is, c) = let t = c.refused.1 in rests _ (λ n x b. b) t.list_is (λ well. refl) (alike t.pager_stays)
   walk-goes (to_start r place ∷ below) step does = absurd does
-  walk-goes (to_pin r place ∷ below) (took.Pin i (Ok (pinsteps.Held k))) (is, p) = at-once v r p.pins.0 k p.pins.1
-  walk-goes (to_pin r place ∷ below) (took.Pin i (Ok (pinsteps.LoadBegun l))) (is, p) = by-load v r p.pins.0 l p.pins.1
+  walk-goes (to_pin r place ∷ below) (took.Pin i (Ok (pinsteps.Held k))) (is, p) = rests _ (λ n x b. b) p.pins.2.list_is (λ well. refl) (at-once v r p.pins.0 k p.pins.1)
+  walk-goes (to_pin r place ∷ below) (took.Pin i (Ok (pinsteps.LoadBegun l))) (is, p) = load-begins r place _ below p.pins.0 l p.pins.1 p.pins.2.list_is
   walk-goes (to_pin r place ∷ below) (took.Pin i (Ok pinsteps.LoadWent)) (is, p) = absurd p.pins
-  walk-goes (to_pin r place ∷ below) (took.Pin i (Err f)) (is, p) = pin-refused v r f p.refused.0
+  walk-goes (to_pin r place ∷ below) (took.Pin i (Err f)) (is, p) = begun _ (λ n x b. b) p.refused.1.list_is (λ well. refl) (pin-refused v r f p.refused.0)
   walk-goes (to_pin r place ∷ below) step does = absurd does
-  walk-goes (to_load r place through reading ∷ below) (took.Pin i (Ok (pinsteps.Held k))) (is, p) = reading-goes m s.core (owner_worker v) (works-free v) s'.core reading (Some (ends.Pinned k)) [] p.goes.0.does
-  walk-goes (to_load r place through reading ∷ below) (took.Pin i (Ok (pinsteps.LoadBegun l))) (is, p) = absurd p.goes
-  walk-goes (to_load r place through reading ∷ below) (took.Pin i (Ok pinsteps.LoadWent)) (is, p) = reading-goes m s.core (owner_worker v) (works-free v) s'.core reading None p.goes.0 p.goes.1.does
-  walk-goes (to_load r place through reading ∷ below) (took.Pin i (Err f)) (is, p) = reading-goes m s.core (owner_worker v) (works-free v) s'.core reading (Some (ends.Refused f)) [] p.refused.0.does
-  walk-goes (to_load r place through reading ∷ below) step does = absurd does
-  walk-goes (to_write r place through ∷ below) (took.Write i (Ok out)) (is, p) = quiet (alike p.writes.pager_stays)
-  walk-goes (to_write r place through ∷ below) (took.Write i (Err f)) (is, p) = quiet (alike p.refused.1.pager_stays)
+  walk-goes (to_load r place through reading ∷ below) step does = loads-on r place through reading below step does
+  walk-goes (to_write r place through ∷ below) (took.Write i (Ok out)) (is, p) = rests _ (λ n x b. b) p.writes.list_is (λ well. started place _ _ below refl) (alike p.writes.pager_stays)
+  walk-goes (to_write r place through ∷ below) (took.Write i (Err f)) (is, p) = rests _ (λ n x b. b) p.refused.1.list_is (λ well. refl) (alike p.refused.1.pager_stays)
   walk-goes (to_write r place through ∷ below) step does = absurd does
-  walk-goes (to_finish o ∷ below) (took.Store i key) (is, p) = quiet (stores key p.stored)
+  walk-goes (to_finish o ∷ below) (took.Store i (Ok key)) (is, p) = rests _ (λ n x b. b) p.goes.list_is (λ well. refl) (stores (Ok key) p.stored)
+  walk-goes (to_finish o ∷ below) (took.Store i (Err f)) (is, p) = rests _ (λ n x b. b) p.refused.list_is (λ well. refl) (stores (Err f) p.stored)
   walk-goes (to_finish o ∷ below) step does = absurd does
-  walk-goes (to_item written keys ∷ below) (took.Store i key) (is, p) = quiet (stores key p.stored)
+  walk-goes (to_item written keys ∷ below) (took.Store i (Ok key)) (is, p) = rests _ (λ n x b. b) p.goes.list_is (λ well. refl) (stores (Ok key) p.stored)
+  walk-goes (to_item written keys ∷ below) (took.Store i (Err f)) (is, p) = rests _ (λ n x b. b) p.refused.list_is (λ well. refl) (stores (Err f) p.stored)
   walk-goes (to_item written keys ∷ below) step does = absurd does
-  walk-goes (to_set r through key height ∷ below) (took.SetKey i u) (is, p) = let g = sets m s.core (owner_worker v) (works-free v) s'.core through key u p.sets in record { change = g.change; goes = g.goes }
+  walk-goes (to_set r through key height ∷ below) (took.SetKey i (Ok u)) (is, p) = sets r through key height below _ (Ok u) p.sets p.goes.list_is refl
+  walk-goes (to_set r through key height ∷ below) (took.SetKey i (Err f)) (is, p) = sets r through key height below _ (Err f) p.sets p.refused.list_is refl
   walk-goes (to_set r through key height ∷ below) step does = absurd does
-  walk-goes (to_publish r key height ∷ below) (took.Publish i k h) (is, same_key, same_height, t) = quiet (alike t.pager_stays)
+  walk-goes (to_publish r key height ∷ below) (took.Publish i k h) (is, same_key, same_height, t) = rests _ (λ n x b. b) t.list_is (λ well. refl) (alike t.pager_stays)
   walk-goes (to_publish r key height ∷ below) step does = absurd does
-  walk-goes (to_release r key height ∷ below) (took.Release i) (is, falls, g) = quiet (fell-anyhow falls)
+  walk-goes (to_release r key height ∷ below) (took.Release i) (is, falls, g) = rests _ (λ n x b. b) g.list_is (given r key height below) (fell-anyhow falls)
   walk-goes (to_release r key height ∷ below) step does = absurd does
-  walk-goes (to_fail fault back ∷ below) took.Fail (gives, shelf, list_is) = gives-back v back gives
+  walk-goes (to_fail fault back ∷ below) took.Fail (gives, shelf, list_is) = rests _ (λ n x b. b) list_is (λ well. refl) (gives-back v back gives)
   walk-goes (to_fail fault back ∷ below) step does = absurd does
   walk-goes [] step does = absurd does

@@ -31,13 +31,13 @@ abbrev pub owns : Core → ℕ → ℕ → ℕ
 owns w n q = times (λ h. is_handle q h && is_owned_by (owner_value n) h) w.rows
 
 abbrev pub refers_to_own : Core → List (Option Sample) → ℕ → Bool
-refers_to_own w vs n = if_there (λ x. agree_below (λ q. nat_eq (refers x q) (owns w n q)) (λ q. true) 13) (nat_eq (times (is_owned_by (owner_value n)) w.rows) 0) (value_at vs n)
+refers_to_own w vs n = if_there (λ x. agree_below (λ q. nat_eq (refers x q) (owns w n q)) (λ q. true) 14) (nat_eq (times (is_owned_by (owner_value n)) w.rows) 0) (value_at vs n)
 
 abbrev pub row_refers : ℕ → ArcRef → HandleRow → Bool
 row_refers n r h = nat_eq h.node.0 r.node.0 && (is_owner (owner_value n) h.owner && fits_mode r.kind.0 h.mode)
 
 abbrev pub reference_stands : Core → ℕ → ArcRef → Bool
-reference_stands w n r = nat_le r.handle.0 12 && (if_there (row_refers n r) false (row_at w r.handle) && is_type (type_of r.kind.0) (type_at w r.node.0))
+reference_stands w n r = nat_le r.handle.0 13 && (if_there (row_refers n r) false (row_at w r.handle) && is_type (type_of r.kind.0) (type_at w r.node.0))
 
 abbrev pub references_stand : Core → List (Option Sample) → ℕ → Bool
 references_stand w vs n = if_there (λ x. all_pass (reference_stands w n) (sample_references x)) true (value_at vs n)
@@ -52,10 +52,10 @@ pub record Passes (w : Core) (vs : List (Option Sample)) : Type 0 where
   pub low : is_low w ≡ true
   pub rise : numbers_rise 0 w.rows ≡ true
   pub rows : all_pass (row_there w) w.rows ≡ true
-  pub room : (nat_le w.last.handle 12 ≡ true) × (nat_le w.last.node 3 ≡ true) × (nat_le w.last.load 2 ≡ true) × (nat_le (length w.rows) w.places.handles ≡ true)
+  pub room : (nat_le w.last.handle 13 ≡ true) × (nat_le w.last.node 3 ≡ true) × (nat_le w.last.load 3 ≡ true) × (nat_le (length w.rows) w.places.handles ≡ true)
   pub given : agree_below (node_given w) never 4 ≡ true
   pub live : agree_below (λ n. is_some (w.cells n)) (λ n. nat_lt 0 (held n w.rows)) 4 ≡ true
-  pub loads : agree_below (load_fits w) (λ l. true) 3 ≡ true
+  pub loads : agree_below (load_fits w) (λ l. true) 4 ≡ true
   pub workers : agree_below (λ v. w.workers v && not (nat_le v w.last.worker)) never 2 ≡ true
   pub valued : agree_below (λ n. is_some (value_at vs n)) (λ n. is_some (w.cells n) && is_here w n) 4 ≡ true
   pub typed : agree_below (value_typed w vs) (λ n. true) 4 ≡ true
@@ -112,7 +112,7 @@ module _ (w : Core) (vs : List (Option Sample)) (p : Passes w vs) where
 
   load-parts : (l : ℕ) (load : OpenLoad) → w.loads l ≡ Some load → (0 < l) × (l ≤ w.last.load) × (load.owner ≡ owners.Caller) × (root_fits w load.root ≡ true)
   load-parts l load is =
-      let test = by-number 2 (load_fits w) (λ l. true) p.loads (λ l lt. let e = p.few.loads l lt in rw e refl) l in
+      let test = by-number 3 (load_fits w) (λ l. true) p.loads (λ l lt. let e = p.few.loads l lt in rw e refl) l in
       let a = some-of (λ (load : OpenLoad). nat_lt 0 l && (nat_le l w.last.load && (is_owner owners.Caller load.owner && root_fits w load.root))) (w.loads l) load test is in
       let b = and_parts (nat_lt 0 l) (nat_le l w.last.load && (is_owner owners.Caller load.owner && root_fits w load.root)) a in
       let c = and_parts (nat_le l w.last.load) (is_owner owners.Caller load.owner && root_fits w load.root) b.1 in
@@ -143,31 +143,31 @@ module _ (w : Core) (vs : List (Option Sample)) (p : Passes w vs) where
   refers-to : (n : ℕ) (x : Sample) → value_at vs n ≡ Some x → all_pass (reference_stands w n) (sample_references x) ≡ true
   refers-to = of-value (λ n x. all_pass (reference_stands w n) (sample_references x)) p.references
 
-  own-test : (n : ℕ) (found : Option Sample) → value_at vs n ≡ found → if_there (λ x. agree_below (λ q. nat_eq (refers x q) (owns w n q)) (λ q. true) 13) (nat_eq (times (is_owned_by (owner_value n)) w.rows) 0) found ≡ true
-  own-test n found is = subst (λ f. if_there (λ x. agree_below (λ q. nat_eq (refers x q) (owns w n q)) (λ q. true) 13) (nat_eq (times (is_owned_by (owner_value n)) w.rows) 0) f ≡ true) is (by-number 3 (refers_to_own w vs) (λ n. true) p.inside past n)
+  own-test : (n : ℕ) (found : Option Sample) → value_at vs n ≡ found → if_there (λ x. agree_below (λ q. nat_eq (refers x q) (owns w n q)) (λ q. true) 14) (nat_eq (times (is_owned_by (owner_value n)) w.rows) 0) found ≡ true
+  own-test n found is = subst (λ f. if_there (λ x. agree_below (λ q. nat_eq (refers x q) (owns w n q)) (λ q. true) 14) (nat_eq (times (is_owned_by (owner_value n)) w.rows) 0) f ≡ true) is (by-number 3 (refers_to_own w vs) (λ n. true) p.inside past n)
     where
       past : (n : ℕ) → 3 < n → refers_to_own w vs n ≡ true
       past n lt = let e = p.short n lt in let f = owns-past w.rows p.low n lt in rw (e, f) refl
 
   inside : (n : ℕ) (x : Sample) (q : ℕ) → value_at vs n ≡ Some x → refers x q ≡ owns w n q
-  inside n x q is = let a = by-number 12 (λ q. nat_eq (refers x q) (owns w n q)) (λ q. true) (own-test n (Some x) is) past q in grind (arith, nat_tests)
+  inside n x q is = let a = by-number 13 (λ q. nat_eq (refers x q) (owns w n q)) (λ q. true) (own-test n (Some x) is) past q in grind (arith, nat_tests)
     where
       and-false : (a b : Bool) → a ≡ false → (a && b) ≡ false
       and-false true b e = absurd (cc)
       and-false false b e = refl
 
-      past : (q : ℕ) → 12 < q → nat_eq (refers x q) (owns w n q) ≡ true
+      past : (q : ℕ) → 13 < q → nat_eq (refers x q) (owns w n q) ≡ true
       past q lt =
           let few = p.room.0 in
           let a : refers x q ≡ 0 = none-pass (reference_stands w n) (λ (r : ArcRef). r.handle.0 == q) (sample_references x) (refers-to n x is)
-          (λ r ok. let b = (and_parts (nat_le r.handle.0 12) (if_there (row_refers n r) false (row_at w r.handle) && is_type (type_of r.kind.0) (type_at w r.node.0)) ok).0 in grind (arith, nat_tests)) in
+          (λ r ok. let b = (and_parts (nat_le r.handle.0 13) (if_there (row_refers n r) false (row_at w r.handle) && is_type (type_of r.kind.0) (type_at w r.node.0)) ok).0 in grind (arith, nat_tests)) in
           let c : owns w n q ≡ 0 = none-pass (row_there w) (λ h. is_handle q h && is_owned_by (owner_value n) h) w.rows p.rows
           (λ h ok. let b = and_parts (nat_lt 0 h.number.0) (nat_le h.number.0 w.last.handle && owner_there w h.owner) ok in let d = (and_parts (nat_le h.number.0 w.last.handle) (owner_there w h.owner) b.1).0 in and-false (is_handle q h) (is_owned_by (owner_value n) h) (grind (arith, nat_tests))) in
           rw (a, c) refl
 
   refers-well : (n : ℕ) (r : ArcRef) → reference_stands w n r ≡ true → IsReference w (owner_value n) r
   refers-well n r ok =
-      let a = and_parts (nat_le r.handle.0 12) (if_there (row_refers n r) false (row_at w r.handle) && is_type (type_of r.kind.0) (type_at w r.node.0)) ok in
+      let a = and_parts (nat_le r.handle.0 13) (if_there (row_refers n r) false (row_at w r.handle) && is_type (type_of r.kind.0) (type_at w r.node.0)) ok in
       let b = and_parts (if_there (row_refers n r) false (row_at w r.handle)) (is_type (type_of r.kind.0) (type_at w r.node.0)) a.1 in
       let found = found-of (row_refers n r) (row_at w r.handle) b.0 in
       let c = and_parts (nat_eq found.0.node.0 r.node.0) (is_owner (owner_value n) found.0.owner && fits_mode r.kind.0 found.0.mode) found.2 in
@@ -214,7 +214,7 @@ module _ (w : Core) (vs : List (Option Sample)) (p : Passes w vs) where
             ordered = (ordered 0 w.rows p.rise).0;
             numbered = λ h among. let a = row-parts h among in (a.0, a.1);
             nodes_numbered = node-given;
-            within = let a : w.last.handle ≤ 12 = grind (arith, nat_tests) in let b : w.last.node ≤ 3 = grind (arith, nat_tests) in let c : w.last.load ≤ 2 = grind (arith, nat_tests) in (omega arith, omega arith, omega arith);
+            within = let a : w.last.handle ≤ 13 = grind (arith, nat_tests) in let b : w.last.node ≤ 3 = grind (arith, nat_tests) in let c : w.last.load ≤ 3 = grind (arith, nat_tests) in (omega arith, omega arith, omega arith);
             live = live;
             uniform = λ n. inl (unshared w.rows p.low n);
             unkeyed = λ n some. let a = unshared w.rows p.low n in absurd (omega arith);
@@ -262,13 +262,13 @@ tests w vs =
     is_low w
     ∷ numbers_rise 0 w.rows
     ∷ all_pass (row_there w) w.rows
-    ∷ nat_le w.last.handle 12
+    ∷ nat_le w.last.handle 13
     ∷ nat_le w.last.node 3
-    ∷ nat_le w.last.load 2
+    ∷ nat_le w.last.load 3
     ∷ nat_le (length w.rows) w.places.handles
     ∷ agree_below (node_given w) never 4
     ∷ agree_below (λ n. is_some (w.cells n)) (λ n. nat_lt 0 (held n w.rows)) 4
-    ∷ agree_below (load_fits w) (λ l. true) 3
+    ∷ agree_below (load_fits w) (λ l. true) 4
     ∷ agree_below (λ v. w.workers v && not (nat_le v w.last.worker)) never 2
     ∷ agree_below (λ n. is_some (value_at vs n)) (λ n. is_some (w.cells n) && is_here w n) 4
     ∷ agree_below (value_typed w vs) (λ n. true) 4

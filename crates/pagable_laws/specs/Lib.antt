@@ -6,13 +6,11 @@ pub mod Rows
 pub mod SmallWorlds
 pub mod FallLaws
 pub mod RunLaws
-pub mod OrderLaws
-pub mod SmallMoments
-pub mod SmallWork
-pub mod MetLaws
-pub mod StepLaws
 pub mod TreeSteps
 pub mod TreeRuns
+pub mod ReadRuns
 pub mod ReadLaws
 pub mod PageOutLaws
+pub mod KeyRuns
 pub mod TwoLevels
+pub mod LevelLaws

@@ -1,13 +1,10 @@
--- The laws of new pagers, of what blobs ask for, of the order of a worker's steps, and of chains.
-use Rattle.std.specs.Prelude.{ℕ, ◌≡◌, ◌≤◌, ◌++◌, List, Option}
-use Rattle.pagable_world.specs.Plain.{Error, ArcRef, Identity, Kind, Blob, Meaning, Tree, Types, times}
-use Rattle.pagable_world.specs.declared.events.Took.{Took}
-use Rattle.pagable_world.specs.World.{Frame, Task, Places, Values, Seen}
+-- The laws of new pagers, of what blobs ask for, and of chains.
+use Rattle.std.specs.Prelude.{ℕ, ◌≡◌, ◌++◌, List, Option}
+use Rattle.pagable_world.specs.Plain.{Error, ArcRef, Kind, Blob, Meaning, Tree, Types}
+use Rattle.pagable_world.specs.World.{Frame, Places, Values, Seen}
 use Rattle.pagable_world.specs.Loads.{reads, asks, is_faulty, next_in}
-use Rattle.pagable_world.specs.Workers.{Site, WalkDoes}
 use Rattle.pagable_world.specs.Pager.{MachineState, IsNew, IsIdle, IsMachineWhole, StandsFor}
 use Rattle.pagable_world.specs.Runs.{Moment, AreMoments, state_after}
-use Rattle.pagable_world.specs.Order.{Follows, InOrder, is_claim_of, OnceEach}
 use Rattle.pagable_world.specs.OneWorker.{KeysTellTrees}
 use Rattle.pagable_laws.specs.SmallWorlds.{new_machine}
 
@@ -31,14 +28,6 @@ pub record NextIsOne (types : Types) (frame : Frame) : Type 0 where
 
 abbrev pub NextIsOneOf : Type 0
 NextIsOneOf = (types : Types) (frame : Frame) → NextIsOne types frame
-
--- Whatever a worker does is a step of the automaton of its order.
-abbrev pub StepsFollow : {N B W : Type 0} → Seen N B W → Type 0
-StepsFollow {N} {B} {W} m = (v : ℕ) (s s' : Site) (step : Took W) → WalkDoes m v s step s' → Follows m.written_of s.todo step s'.todo
-
--- What the automaton accepts, with no identity claimed twice, has each stage at most once after its claim.
-abbrev pub IsOnceEach : {N B W : Type 0} → Seen N B W → Type 0
-IsOnceEach {N} {B} {W} m = (task : Task) (steps : List (Took W)) → InOrder m.written_of task steps → ((i : Identity) → times (is_claim_of i) steps ≤ 1) → OnceEach steps
 
 -- In every store, keys tell stored trees of canonical types apart.
 abbrev pub KeysTellTheirTrees : {N : Type 0} → Values N → Type 0

@@ -1,20 +1,12 @@
 -- The laws of trees along runs.
-use Rattle.std.specs.Prelude.{List, [], ◌∷◌, ◌≤◌, ℕ, ◌≡◌, ◌+◌, Option, Some, None}
+use Rattle.std.specs.Prelude.{◌≤◌, ℕ, ◌≡◌, ◌+◌, Option, Some, None}
 use Rattle.pagable_world.specs.Plain.{Blob, Types, Tree, ReadsTree}
-use Rattle.pagable_world.specs.World.{World, Values, Seen, IsLawful, OpenLoad, Reading, Frame}
-use Rattle.pagable_world.specs.Pager.{MachineState, world_of, IsMachineWhole, StandsFor, IsReadingOf, PagerState, WellFormed, Moves, Represents, SameTrees, CallBrings, ReadingBrings, ReadingFits, EventBrings, ReadsNodeTree}
-use Rattle.pagable_world.specs.Runs.{HoldsSettled, ReadsItsTypes, AsksWell, TakesWell, IsWellAsked, Moment, AreMoments, TreesAlong}
-use Rattle.pagable_world.specs.Headline.{PinGives}
-use Rattle.pagable_world.specs.declared.events.Event.{Event}
-use Rattle.pagable_world.specs.declared.events.LoadAnswer.{LoadAnswer}
-use Rattle.pagable_world.specs.declared.events.EventReply.{EventReply}
-use Rattle.pagable_world.specs.declared.calls.Call.{Call}
-use Rattle.pagable_world.specs.declared.calls.Reply.{Reply}
-use Rattle.pagable_world.specs.declared.handles.Owner.TheVariants as owners
+use Rattle.pagable_world.specs.World.{Values, Reading}
+use Rattle.pagable_world.specs.Pager.{MachineState, StandsFor, IsReadingOf, PagerState, SameTrees, ReadsNodeTree}
 use Rattle.pagable_model.specs.declared.data_key.OptionalDataKey.TheVariants as optional
 use Rattle.pagable_world.specs.Plain.{OptionalDataKey, type_of}
 use Rattle.pagable_laws.specs.ReadLaws.{ValueLeads, FramesGiven}
-use Rattle.pagable_laws.specs.TreeSteps.{Change, Sets, Knows, Bears, CoreGoes, CallFeels, ReadingFeels, KeysAreReady, StepFeels, PinHolds}
+use Rattle.pagable_laws.specs.TreeSteps.{Change, Sets, Knows, Bears}
 
 -- A key reads as the same tree when the storage has gained blobs.
 abbrev pub IsKeptByGains : Type 0
@@ -29,32 +21,9 @@ pub record ChangeFits {N E : Type 0} (v : Values N) (c : Change) (comes : ℕ �
   pub knows : (kind key n : ℕ) → Knows c s.core kind key n → ReadsNodeTree v.types s'.core.stored trees' key (type_of kind) n
   pub comes_well : (n : ℕ) (x : N) → comes n x → s.values n ≡ None → s'.values n ≡ Some x → ValueLeads v trees' x (trees' n)
 
--- Each node keeps its tree in a step whose change fits.
-abbrev pub TreesGoOn : {N B W : Type 0} → (E : Type 0) → Seen N B W → Type 0
-TreesGoOn {N} {B} {W} E m = IsLawful m.values → (u : World) (event : Event N B W) (c : Change) (s s' : PagerState N E) (trees trees' : ℕ → Tree) → HoldsSettled m.values s → WellFormed m.values s → WellFormed m.values s' → Represents m.values s trees
-    → Moves (EventBrings m.values u event) s s' → CoreGoes c s.core s'.core → ChangeFits m.values c (EventBrings m.values u event) s s' trees trees' → Represents m.values s' trees'
-
--- What a call brings fits some trees afterwards, where what it asks is so.
-abbrev pub CallsFit : {N B W : Type 0} → (E : Type 0) → Seen N B W → Type 0
-CallsFit {N} {B} {W} E m = IsLawful m.values → (c : Change) (call : Call N B) (reply : Reply N B) (s s' : PagerState N E) (trees : ℕ → Tree) → HoldsSettled m.values s → WellFormed m.values s → WellFormed m.values s' → Represents m.values s trees
-    → CoreGoes c s.core s'.core → AsksWell m.values s trees call reply → CallFeels m.values s.core owners.Caller call reply s'.core c → (trees' : ℕ → Tree) × ChangeFits m.values c (CallBrings s.core call) s s' trees trees'
-
--- What a load's step brings fits some trees afterwards, where what was read fits, and what is taken unread reads as something.
-abbrev pub ReadingsFit : {N B W : Type 0} → (E : Type 0) → Seen N B W → Type 0
-ReadingsFit {N} E m = IsLawful m.values → ReadsItsTypes m.values.types → (c : Change) (reading : Reading) (answer : Option (LoadAnswer N)) (frames : List Frame) (s s' : PagerState N E) (trees : ℕ → Tree)
-    → HoldsSettled m.values s → WellFormed m.values s → WellFormed m.values s' → Represents m.values s trees → ReadingFits m.values s trees reading → FramesGiven s.core.last.node reading.frames
-    → CoreGoes c s.core s'.core → TakesWell m.values s reading → (answer ≡ None → (load : OpenLoad) × (s.core.loads reading.load.0 ≡ Some load)) → ReadingFeels m.values s.core reading answer frames s'.core c
-    → (trees' : ℕ → Tree) × ChangeFits m.values c (ReadingBrings m.values s.core reading) s s' trees trees'
-
 -- The load of each reading was given, and so were the nodes of what it got.
 abbrev pub ReadingsGiven : {N E : Type 0} → MachineState N E → Type 0
 ReadingsGiven s = (reading : Reading) → IsReadingOf s.work reading → (reading.load.0 ≤ s.pager.core.last.load) × FramesGiven s.pager.core.last.node reading.frames
-
--- What an event brings fits some trees afterwards, where what is asked of it is so, and a key that a worker sets is ready.
-abbrev pub EventsFit : {N B W : Type 0} → (E : Type 0) → Seen N B W → Type 0
-EventsFit {N} {B} {W} E m = IsLawful m.values → ReadsItsTypes m.values.types → (s s' : MachineState N E) (trees : ℕ → Tree) (event : Event N B W) (reply : EventReply N B W) → StandsFor m.values s trees → ReadingsGiven s → HoldsSettled m.values s.pager
-    → IsMachineWhole m.values s → IsMachineWhole m.values s' → KeysAreReady m.values s trees → IsWellAsked m.values s trees event reply → (feels : StepFeels m.values (world_of s) event reply (world_of s'))
-    → (trees' : ℕ → Tree) × ChangeFits m.values feels.change (EventBrings m.values (world_of s) event) s.pager s'.pager trees trees'
 
 -- trees after an event for which the machine stands, where each node that was made keeps its tree
 pub record TreesAfterEvent {N E : Type 0} (v : Values N) (s s' : MachineState N E) (trees : ℕ → Tree) : Type 0 where
@@ -62,23 +31,3 @@ pub record TreesAfterEvent {N E : Type 0} (v : Values N) (s s' : MachineState N 
   pub keeps : SameTrees s.pager.core.last.node trees after
   pub stands : StandsFor v s' after
   pub given : ReadingsGiven s'
-
--- A machine that stands for trees does so after each event, as trees feel it.
-abbrev pub EventsKeepTrees : {N B W : Type 0} → (E : Type 0) → Seen N B W → Type 0
-EventsKeepTrees {N} {B} {W} E m = IsLawful m.values → ReadsItsTypes m.values.types → (s s' : MachineState N E) (trees : ℕ → Tree) (event : Event N B W) (reply : EventReply N B W) → StandsFor m.values s trees → ReadingsGiven s → HoldsSettled m.values s.pager
-    → IsMachineWhole m.values s → IsMachineWhole m.values s' → KeysAreReady m.values s trees → IsWellAsked m.values s trees event reply → Moves (EventBrings m.values (world_of s) event) s.pager s'.pager
-    → StepFeels m.values (world_of s) event reply (world_of s') → TreesAfterEvent m.values s s' trees
-
--- Along a chain trees feel each step so, a key that a worker sets is ready, and what is answered as pinned is.
-abbrev pub FeltAlong : {N E B W : Type 0} → Seen N B W → MachineState N E → (ℕ → Tree) → List (Moment N E B W) → Type 0
-FeltAlong m s trees [] = Unit {0}
-FeltAlong m s trees (x ∷ xs) =
-    StepFeels m.values (world_of s) x.event x.reply (world_of x.after)
-    × KeysAreReady m.values s trees
-    × PinHolds x.event x.reply x.after.pager.core
-    × ((trees' : ℕ → Tree) → SameTrees s.pager.core.last.node trees trees' → StandsFor m.values x.after trees' → FeltAlong m x.after trees' xs)
-
--- Trees stay: along such a chain each node keeps its tree, and each pin that succeeds gives the tree that its handle's node was made with.
-abbrev pub TreesStay : {N B W : Type 0} → (E : Type 0) → Seen N B W → Type 0
-TreesStay {N} {B} {W} E m = IsLawful m.values → ReadsItsTypes m.values.types → (s : MachineState N E) (trees : ℕ → Tree) (moments : List (Moment N E B W)) → IsMachineWhole m.values s → HoldsSettled m.values s.pager → StandsFor m.values s trees
-    → ReadingsGiven s → AreMoments m s moments → FeltAlong m s trees moments → TreesAlong m (PinGives m.values) s trees moments

@@ -1,8 +1,9 @@
 -- A chain of moments of two levels. A value is a leaf, of the type 1, which has no byte; or a parent, of the type 0, which is a reference to a leaf
--- through a loose handle. Both are born, an item that refers to the parent is paged out, the parent is evicted with its child, and both are read again.
+-- through a loose handle. Both are born, an item that refers to the parent is paged out, the parent is evicted with its child, both are read again, and the
+-- parent's key is read.
 use Rattle.std.specs.Prelude.{ℕ, zero, suc, ◌≡◌, ◌+◌, ◌==◌, ◌&&◌, not, if◌then◌else◌, Bool, [], ◌∷◌, List, ◌++◌, length, Option, Some, None, Ok}
 use Rattle.pagable_model.specs.Meaning.{none, reference}
-use Rattle.pagable_world.specs.Plain.{ArcRef, HandleNumber, LoadNumber, NodeNumber, Identity, Blob, Meaning, Types, updated}
+use Rattle.pagable_world.specs.Plain.{ArcRef, HandleNumber, LoadNumber, NodeNumber, Identity, Blob, Meaning, Types, is_in, updated}
 use Rattle.pagable_world.specs.declared.handles.Owner.{Owner}
 use Rattle.pagable_world.specs.declared.events.Took.{Took}
 use Rattle.pagable_world.specs.declared.events.WorkerAnswer.{WorkerAnswer}
@@ -24,14 +25,14 @@ use Rattle.pagable_world.specs.declared.events.LoadAnswer.TheVariants as ends
 use Rattle.pagable_world.specs.declared.events.Event.TheVariants as events
 use Rattle.pagable_world.specs.declared.events.EventReply.TheVariants as answers
 use Rattle.pagable_world.specs.Kinds.{pins, identity_of}
-use Rattle.pagable_world.specs.World.{Core, Written, Values, Seen, Shelf, no_result, published, Todo, to_start, to_pin, to_write, to_finish, to_item, to_set, to_publish, to_release, of_item, of_cell, Walking, Work, Reading}
+use Rattle.pagable_world.specs.World.{Core, Written, Values, Seen, Shelf, no_result, published, Todo, to_start, to_pin, to_write, to_finish, to_item, to_set, to_publish, to_release, of_item, of_cell, of_key, Walking, Work, Reading}
 use Rattle.pagable_world.specs.Cascade.{fallen, nobody}
 use Rattle.pagable_world.specs.Calls.{with_handle, with_mode, with_key, with_node, next_node, moved, is_named_by}
 use Rattle.pagable_world.specs.LoadCalls.{with_load, without_load, with_pin, is_owned_in, adopted}
 use Rattle.pagable_world.specs.Loads.{root_frame, gone_on}
 use Rattle.pagable_world.specs.Workers.{with_slot, with_wait, with_changed_slot, with_outcome, without_worker, is_workers, is_workers_at, fresh}
 use Rattle.pagable_world.specs.Events.{no_shelf, with_worker}
-use Rattle.pagable_world.specs.Pager.{MachineState, WellFormed}
+use Rattle.pagable_world.specs.Pager.{MachineState}
 use Rattle.pagable_world.specs.Runs.{Moment}
 use Rattle.pagable_laws.specs.SmallWorlds.{empty, no_work}
 
@@ -208,6 +209,22 @@ child_loading = load_of child_cloned 3 1 10 8
 abbrev pub child_loaded : Core
 child_loaded = end_of child_loading 2 3 10 []
 
+-- the caller reads the parent's key: its child is known, and the caller gets a handle of it
+abbrev pub key_loading : Core
+key_loading = with_load child_loaded 24 of_key owners.Caller
+
+abbrev pub child_known : Core
+child_known = with_handle key_loading (node 3) modes.LooseUnpinned (owners.Load (load_number 3))
+
+abbrev pub handed : Core
+handed = record (without_load child_known (load_number 3)) { rows = moved (is_in (13 ∷ [])) owners.Caller child_known.rows }
+
+abbrev pub not_handed : ℕ → Bool
+not_handed q = is_owned_in child_known (owners.Load (load_number 3)) q && not (is_in (13 ∷ []) q)
+
+abbrev pub read_back : Core
+read_back = fallen handed not_handed []
+
 -- ---- the table and the worker
 
 abbrev pub claimed : Shelf → ArcRef → Shelf
@@ -277,6 +294,15 @@ parent_read = gone_on parent_fetched (record (root_frame 24 0 parent_blob) { got
 
 abbrev pub child_fetched : Reading
 child_fetched = gone_on (fresh (load_number 2) 1) (root_frame 8 1 leaf_blob ∷ [])
+
+abbrev pub key_begun : Reading
+key_begun = fresh (load_number 3) 0
+
+abbrev pub key_fetched : Reading
+key_fetched = gone_on key_begun (root_frame 24 0 parent_blob ∷ [])
+
+abbrev pub key_read : Reading
+key_read = gone_on key_fetched (record (root_frame 24 0 parent_blob) { got = to_leaf 3 13 ∷ [] } ∷ [])
 
 -- ---- the machine
 
@@ -355,45 +381,35 @@ page_out =
     ∷ took_step (took.Store None (Ok 25)) answered both_shown [] 15 (Some (finals.Key 25))
     ∷ []
 
-abbrev pub loads : List Happening
-loads =
+-- the eviction, and the load of the parent; a handle of its child, and the load of this
+abbrev pub parent_loads : List Happening
+parent_loads =
     moment (events.Call (calls.Unpin (handle 2))) (answers.CallReply (replies.Done (Ok tt))) (machine evicted [] done_work)
     ∷ load_begun 2 1 24 (machine parent_loading [] done_work)
     ∷ read_step 1 None 1 (machine parent_loading [] (read_work 1 parent_fetched))
     ∷ read_step 1 None 2 (machine child_got [] (read_work 1 parent_read))
     ∷ read_step 1 (Some (ends.Pinned (handle 9))) 3 (machine parent_loaded parent_value done_work)
-    ∷ moment (events.Call (calls.Clone (handle 8))) (answers.CallReply (replies.Handle (Ok (handle 10)))) (machine child_cloned parent_value done_work)
+    ∷ []
+
+abbrev pub child_loads : List Happening
+child_loads =
+    moment (events.Call (calls.Clone (handle 8))) (answers.CallReply (replies.Handle (Ok (handle 10)))) (machine child_cloned parent_value done_work)
     ∷ load_begun 10 2 8 (machine child_loading parent_value done_work)
     ∷ read_step 2 None 1 (machine child_loading parent_value (read_work 2 child_fetched))
     ∷ read_step 2 (Some (ends.Pinned (handle 12))) 2 (machine child_loaded last_values done_work)
     ∷ []
 
-abbrev pub moments : List Happening
-moments = births ++ page_out ++ loads
+-- the caller's load of a key; and how many pin the child
+abbrev pub key_loads : List Happening
+key_loads =
+    moment (events.LoadKey 24 0) (answers.Started (Ok (beginnings.Load (load_number 3) 24))) (machine key_loading last_values (read_work 3 key_begun))
+    ∷ read_step 3 None 1 (machine key_loading last_values (read_work 3 key_fetched))
+    ∷ read_step 3 None 2 (machine child_known last_values (read_work 3 key_read))
+    ∷ read_step 3 (Some (ends.Read (parent (to_leaf 3 13)))) 3 (machine read_back last_values done_work)
+    ∷ []
 
--- the pager over this with these values is whole
-abbrev pub IsWholeWith : Core → List (Option Sample) → Type 0
-IsWholeWith core values = WellFormed sample (machine core values no_work).pager
+abbrev pub counts : ℕ → List Happening
+counts n = moment (events.Call (calls.Count (handle 10))) (answers.CallReply (replies.Count (Ok n))) (machine read_back last_values done_work) ∷ []
 
--- Each pager that the chain goes through is whole: with a value that refers, a worker's handles, an open load, a cell of which nothing was read and an entry of the cache.
-abbrev pub TwoLevelsAreWhole : Type 0
-TwoLevelsAreWhole =
-    IsWholeWith child_born one_value
-    × IsWholeWith both_born two_values
-    × IsWholeWith begun two_values
-    × IsWholeWith parent_pinned two_values
-    × IsWholeWith both_pinned two_values
-    × IsWholeWith child_stored two_values
-    × IsWholeWith child_keyed two_values
-    × IsWholeWith child_released two_values
-    × IsWholeWith parent_stored two_values
-    × IsWholeWith parent_keyed two_values
-    × IsWholeWith parent_released two_values
-    × IsWholeWith answered two_values
-    × IsWholeWith evicted []
-    × IsWholeWith parent_loading []
-    × IsWholeWith child_got []
-    × IsWholeWith parent_loaded parent_value
-    × IsWholeWith child_cloned parent_value
-    × IsWholeWith child_loading parent_value
-    × IsWholeWith child_loaded last_values
+abbrev pub moments : ℕ → List Happening
+moments n = births ++ page_out ++ parent_loads ++ child_loads ++ key_loads ++ counts n

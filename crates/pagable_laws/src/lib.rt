@@ -2,10 +2,7 @@
 //! Of the product only a law of `pagable` for carried types stands on this crate.
 #![tactic(auto)]
 
-pub mod keys;
-pub mod order;
 pub mod runs;
-pub mod steps;
 pub mod values;
 pub mod worked;
 pub mod world;

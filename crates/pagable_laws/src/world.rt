@@ -2,10 +2,9 @@
 
 ghost use Rattle.pagable_world.specs.World.{Seen};
 ghost use Rattle.pagable_laws.specs.FallLaws.{IsThere, IsOne, IsGivenAlone, PinsAreAFilter, TwoLevelsFall, LoneIsListed};
-ghost use Rattle.pagable_laws.specs.MetLaws.{HeadlineIsMet, WorkMeetsHeadline};
 ghost use Rattle.pagable_laws.specs.ReadLaws.{AllGoOn, AsksNext, DecodesWell, PinStands, ReadStands};
-ghost use Rattle.pagable_laws.specs.TwoLevels.{TwoLevelsAreWhole};
-ghost use Rattle.pagable_laws.specs.RunLaws.{ChainsJoin, NewIsWhole, NextIsOneOf, StepsFollow, IsOnceEach, KeysTellTheirTrees};
+ghost use Rattle.pagable_laws.specs.LevelLaws.{TwoLevelsMeetTheHeadline};
+ghost use Rattle.pagable_laws.specs.RunLaws.{ChainsJoin, NewIsWhole, NextIsOneOf, KeysTellTheirTrees};
 
 use crate::values::is_key_of_one_tree;
 
@@ -67,33 +66,12 @@ pub fn next_is_one()
     ensures { NextIsOneOf }
 {}
 
-/// Whatever a worker does is a step of the automaton of its order.
-#[tactic(auto, using(crate::proofs::Nexts::steps_follow))]
-pub fn steps_follow<N: SeenAs<B, W>, B, W>()
-    ensures { StepsFollow N.seen }
-{}
-
-/// What that automaton accepts, with no identity claimed twice, has each stage at most once after its claim.
-pub fn is_once_each<N: SeenAs<B, W>, B, W>()
-    ensures { IsOnceEach N.seen }
-{}
-
 /// Of stored trees of canonical types the keys are equal exactly if the trees are: the law of values, in every store.
 pub fn keys_tell_trees<N: SeenAs<B, W>, B, W>()
     ensures { KeysTellTheirTrees N.seen.values }
 {
     is_key_of_one_tree()
 }
-
-/// The headline is met with all that it asks: by a child, a parent that refers to it, and a count.
-pub fn headline_is_met<E>()
-    ensures { HeadlineIsMet E }
-{}
-
-/// The headline is met with all that it asks: by an item that a worker pages out, and a load that reads its key back.
-pub fn work_meets_headline<E>()
-    ensures { WorkMeetsHeadline E }
-{}
 
 /// The key that a blob asks for is the next of its keys.
 #[tactic(auto, using(crate::proofs::Decoding::asks_next))]
@@ -123,8 +101,8 @@ pub fn what_is_pinned_stands<N: SeenAs<B, W>, B, W, E>()
     ensures { PinStands E N.seen.values }
 {}
 
-/// Each pager is whole that a chain of two levels goes through: births, a page-out, an eviction, and loads of parent and child.
-#[tactic(auto, using(crate::proofs::States::all_whole))]
-pub fn two_levels_are_whole()
-    ensures { TwoLevelsAreWhole }
+/// The headline is met with all that it asks by a chain of two levels: births, a page-out, an eviction, and loads of cells and of a key.
+#[tactic(auto, using(crate::proofs::Level::headline_met))]
+pub fn two_levels_meet_the_headline()
+    ensures { TwoLevelsMeetTheHeadline }
 {}

@@ -1,0 +1,138 @@
+-- A handle that stands for a reference goes on to stand for it, and so does a clone of it; a key that was set stays.
+use Rattle.std.proofs.Common.{◌≡◌, ℕ, ◌+◌, ◌≤◌, ◌==◌, Bool, true, false, List, [], ◌∷◌, ◌++◌, inl, inr, Option, Some, None, Ok, refl, sym, ap, subst, ◌∙◌, if◌then◌else◌, arith}
+use Rattle.std.specs.Prelude.{not}
+use Rattle.std.proofs.lemmas.Bool.Decides.{nat_tests}
+use Rattle.pagable_model.specs.declared.error.Error.TheVariants as errors
+use Rattle.pagable_world.specs.Plain.{ArcRef, HandleNumber, type_of, is_loose_kind, if_there, or_else}
+use Rattle.pagable_world.specs.declared.handles.HandleRow.{HandleRow}
+use Rattle.pagable_world.specs.declared.handles.Owner.{Owner}
+use Rattle.pagable_world.specs.declared.rows.Mode.{Mode}
+use Rattle.pagable_world.specs.declared.rows.Mode.TheVariants as modes
+use Rattle.pagable_world.specs.Kinds.{find_row, is_loose, fits_mode, has_key}
+use Rattle.pagable_world.specs.World.{Core, Cell, Todo, to_start, to_pin, to_load, to_write, to_finish, to_item, to_set, to_publish, to_release, to_fail, row_at, type_at}
+use Rattle.pagable_world.specs.Refusals.{refused_if, is_type, row_fault}
+use Rattle.pagable_world.specs.Calls.{row_of, CloneCall}
+use Rattle.pagable_world.specs.Workers.{claim_fault}
+use Rattle.pagable_world.specs.Pager.{HandlesAreWhole}
+use Rattle.pagable_laws.specs.TreeSteps.{Change}
+use Rattle.pagable_laws.specs.KeyRuns.{StandsAt, KeyIsSet, Holds, AllHold}
+use Rattle.pagable_laws.proofs.Trees.{same_some}
+use Rattle.pagable_laws.proofs.Goes.{Goes, Kept, found-number}
+use Rattle.pagable_laws.proofs.Outlasting.{stands-new}
+use Rattle.pagable_laws.proofs.Taking.{found-among}
+use Rattle.pagable_laws.proofs.Following.{given-of}
+
+-- ---- what stays
+
+module _ {c : Change} {w w' : Core} (goes : Goes c w w') where
+  pub stands-on : {r : ArcRef} {h : HandleNumber} → StandsAt w r h → StandsAt w' r h
+  stands-on {r} {h} s =
+      record {
+        node_given = let a = s.node_given in let b = goes.nodes in omega arith;
+        given = let a = s.given in let b = goes.handles in omega arith;
+        is = λ row live. let was = goes.rows h.0 row live s.given in let old = s.is was.was was.live in (sym was.at ∙ old.0, λ kind. was.loose (old.1 kind));
+      }
+
+  pub key-on : {n : ℕ} → KeyIsSet w n → KeyIsSet w' n
+  key-on {n} s =
+      record {
+        given = let a = s.given in let b = goes.nodes in omega arith;
+        keyed = λ cell live. elim (goes.cells n cell live) [
+          | inl k ↦ kept cell k (s.keyed k.was k.live)
+          | inr (next, bears) ↦ let a = s.given in absurd (omega arith)
+        ];
+      }
+    where
+      kept : (cell : Cell) (k : Kept c w n cell) → has_key k.was.key ≡ true → has_key cell.key ≡ true
+      kept cell k had = elim k.key [ inl same ↦ ap has_key same ∙ had | inr (key, sets, is) ↦ ap has_key is ]
+
+  holds-on : (x : Todo) → Holds w x → Holds w' x
+  holds-on (to_start r place) h = tt
+  holds-on (to_pin r place) h = stands-on h
+  holds-on (to_load r place through reading) h = stands-on h
+  holds-on (to_write r place through) h = stands-on h
+  holds-on (to_finish o) h = stands-on h
+  holds-on (to_item written keys) h = tt
+  holds-on (to_set r through key height) h = stands-on h
+  holds-on (to_publish r key height) h = λ kind. key-on (h kind)
+  holds-on (to_release r key height) h = tt
+  holds-on (to_fail fault back) h = tt
+
+  pub all-on : (todo : List Todo) → AllHold w todo → AllHold w' todo
+  unfolding AllHold
+  all-on [] all = tt
+  all-on (x ∷ below) (h, quiet, all) = (holds-on x h, quiet, all-on below all)
+
+-- ---- what is claimed
+
+loose-by : (kind : ℕ) (mode : Mode) → fits_mode kind mode ≡ true → is_loose_kind kind ≡ true → is_loose mode ≡ true
+loose-by kind modes.Pinned fits is = absurd (grind (arith, nat_tests))
+loose-by kind modes.Shared fits is = absurd (grind (arith, nat_tests))
+loose-by kind modes.LoosePinned fits is = refl
+loose-by kind modes.LooseUnpinned fits is = refl
+
+-- nothing is to be said against a claim: the reference's handle is of its node and fits its kind, and the node is there
+pub record IsClaimable (w : Core) (r : ArcRef) : Type 0 where
+  pub row : HandleRow
+  pub live : row_at w r.handle ≡ Some row
+  pub at : row.node ≡ r.node
+  pub fits : fits_mode r.kind.0 row.mode ≡ true
+  pub typed : type_at w r.node.0 ≡ Some (type_of r.kind.0)
+
+pub may-claim : (w : Core) (r : ArcRef) → claim_fault w r ≡ None → IsClaimable w r
+may-claim w r may = by-row (row_at w r.handle) refl may
+  where
+    of-type : (t : ℕ) (found : Option ℕ) → is_type t found ≡ true → found ≡ Some t
+    of-type t None e = absurd (cc)
+    of-type t (Some u) e = let f : (u == t) ≡ true = e in let same : u ≡ t = grind (arith, nat_tests) in ap (λ z. Some z) same
+
+    all-so : (a b c : Bool) → (if not a then Some errors.NoSuchHandle else or_else None (if not b then Some errors.WrongMode else refused_if (not c) errors.WrongKind)) ≡ None → (a ≡ true) × (b ≡ true) × (c ≡ true)
+    all-so true true true e = (refl, refl, refl)
+    all-so true true false e = absurd (cc)
+    all-so true false c e = absurd (cc)
+    all-so false b c e = absurd (cc)
+
+    by-row : (found : Option HandleRow) → row_at w r.handle ≡ found → if_there (row_fault w r None) (Some errors.NoSuchHandle) found ≡ None → IsClaimable w r
+    by-row None live e = absurd (cc)
+    by-row (Some row) live e =
+        let so = all-so (row.node.0 == r.node.0) (fits_mode r.kind.0 row.mode) (is_type (type_of r.kind.0) (type_at w r.node.0)) e in
+        let first : (row.node.0 == r.node.0) ≡ true = so.0 in
+        let same : row.node.0 ≡ r.node.0 = grind (arith, nat_tests) in
+        record { row = row; live = live; at = ap (λ x. record { 0 = x }) same; fits = so.1; typed = of-type _ _ so.2 }
+
+module _ {w : Core} (whole : HandlesAreWhole w) where
+  pub handle-given : (h : HandleNumber) (row : HandleRow) → row_at w h ≡ Some row → h.0 ≤ w.last.handle
+  handle-given h row live =
+      let a = (whole.numbered row (found-among h.0 w.rows row live)).1 in
+      let b = found-number h.0 w.rows row live in
+      omega arith
+
+  pub claimed-stands : (r : ArcRef) → claim_fault w r ≡ None → StandsAt w r r.handle
+  claimed-stands r may =
+      let c = may-claim w r may in
+      record {
+        node_given = (given-of whole r.node.0 c.typed).1;
+        given = handle-given r.handle c.row c.live;
+        is = λ row live. let same : c.row ≡ row = same_some _ _ (sym c.live ∙ live) in
+            (ap (λ (x : HandleRow). x.node) (sym same) ∙ c.at, λ kind. loose-by r.kind.0 row.mode (ap (λ (x : HandleRow). fits_mode r.kind.0 x.mode) (sym same) ∙ c.fits) kind);
+      }
+
+  -- a clone stands for what its handle stands for
+  pub clone-stands : {w' : Core} {me : Owner} (r : ArcRef) (k : HandleNumber) → StandsAt w r r.handle → CloneCall w me r.handle (Ok k) w' → StandsAt w' r k
+  clone-stands {w'} {me} r k s call =
+      let row : HandleRow = call.made.0 in
+      let next = call.made.2 in
+      let a = call.made.3 in
+      let old = s.is row call.made.1 in
+      let same : w'.last.handle ≡ w.last.handle + 1 = ap (λ l. l.handle) a.last in
+      let above : k.0 ≡ w.last.handle + 1 = next.above in
+      let made : HandleRow = row_of (w.last.handle + 1) row.node row.mode me in
+      let s_made = stands-new w.last.handle w.rows made (λ h among. (whole.numbered h among).1) refl in
+      record {
+        node_given = let b = s.node_given in let c : w'.last.node ≡ w.last.node = ap (λ l. l.node) a.last in omega arith;
+        given = omega arith;
+        is = λ x live.
+            let found : find_row k.0 (w.rows ++ made ∷ []) ≡ Some x = subst (λ rows. find_row k.0 rows ≡ Some x) a.rows live in
+            let new : x ≡ made = s_made.only x (found-among k.0 (w.rows ++ made ∷ []) x found) (found-number k.0 (w.rows ++ made ∷ []) x found ∙ above) in
+            (ap (λ (y : HandleRow). y.node) new ∙ old.0, λ kind. ap (λ (y : HandleRow). is_loose y.mode) new ∙ old.1 kind);
+      }

@@ -1,0 +1,149 @@
+-- A load's step, as trees feel it: one change, what it does to the plain world with it, and how the load's own blobs grow.
+use Rattle.std.proofs.Common.{◌≡◌, List, [], refl, sym, subst, ◌∙◌, inl, inr}
+use Rattle.std.specs.Prelude.{Option, Some, None, ◌⊎◌, Ok, Err}
+use Rattle.pagable_model.specs.declared.data_key.OptionalDataKey.TheVariants as optional
+use Rattle.pagable_world.specs.Plain.{Error}
+use Rattle.pagable_world.specs.declared.handles.Owner.{Owner}
+use Rattle.pagable_world.specs.declared.handles.Owner.TheVariants as owners
+use Rattle.pagable_world.specs.declared.events.LoadAnswer.{LoadAnswer}
+use Rattle.pagable_world.specs.declared.events.LoadAnswer.TheVariants as ends
+use Rattle.pagable_world.specs.World.{Core, OpenLoad, Frame, Reading, Alike, Seen, Values}
+use Rattle.pagable_world.specs.LoadCalls.{EndCall, HandOverCall, first_key}
+use Rattle.pagable_world.specs.Loads.{Does, Meets, Fails, RefusesRoot, LoadIs, IsOfCell, IsOfKey, handles_of, GetsRoot, GetsCached, GetsBlob, GetsLazy, MakesNode, ReadingDoes}
+use Rattle.pagable_world.specs.Pager.{HandlesAreWhole}
+use Rattle.pagable_laws.specs.TreeSteps.{Change, nothing_felt, bears_known, ReadingFeels, reads-root, reads-blob, gets-known, gets-lazy, makes-known, makes-node, reading-ends}
+use Rattle.pagable_laws.proofs.Trees.{same_some}
+use Rattle.pagable_laws.proofs.Goes.{Quiet, Goes, NotLoads, quiet-then, quiet-goes, goes-quiet, alike, a-handle, fell-anyhow, adopts}
+use Rattle.pagable_laws.proofs.Calling.{asks, closes, gets-known as was-known}
+use Rattle.pagable_laws.proofs.Called.{hands-over, ends-quiet}
+use Rattle.pagable_laws.proofs.ReadingStepsRows.{got-known, got-fallen, got-born, gets-alike, is-cached}
+
+-- some change, what the step does to the world with it, and how it is felt; a load that goes on is open
+pub record ReadingFelt {N : Type 0} (v : Values N) (w : Core) (reading : Reading) (answer : Option (LoadAnswer N)) (frames : List Frame) (w' : Core) : Type 0 where
+  pub change : Change
+  pub goes : Goes change w w'
+  pub opens : answer ≡ None → (load : OpenLoad) × (w.loads reading.load.0 ≡ Some load)
+  pub feels : HandlesAreWhole w → ReadingFeels v w reading answer frames w' change
+
+pub caller-free : NotLoads owners.Caller
+caller-free l is = absurd (cc)
+
+module _ {N B W : Type 0} (m : Seen N B W) (w : Core) (me : Owner) (free : NotLoads me) (w' : Core) (reading : Reading) where
+  abbrev RF : Option (LoadAnswer N) → List Frame → Type 0
+  RF answer frames = ReadingFelt m.values w reading answer frames w'
+
+  gets-root : (frames : List Frame) → GetsRoot w me reading frames w' → RF None frames
+  gets-root frames g =
+      let load : OpenLoad = g.asked.gives.0 in
+      let same : load ≡ g.load = same_some _ _ (sym g.asked.gives.1.stands_open ∙ g.open_load) in
+      record {
+        change = nothing_felt;
+        goes = quiet-goes nothing_felt (asks _ g.asked);
+        opens = λ none. (g.load, g.open_load);
+        feels = λ whole. reads-root g.load g.blob g.first g.open_load (subst (λ (x : OpenLoad). w.stored x.key ≡ Some g.blob) same g.asked.gives.2.found) refl g.goes;
+      }
+
+  gets-cached : (frames : List Frame) → GetsCached m.values.types w me reading frames w' → RF None frames
+  gets-cached frames g =
+      let k = g.asked.gives.2 in
+      record {
+        change = nothing_felt;
+        goes = quiet-goes nothing_felt (asks _ g.asked);
+        opens = λ none. (g.asked.gives.0, g.asked.gives.1.stands_open);
+        feels = λ whole. gets-known g.kind g.key k.n g.row (inl g.needs) (is-cached w g.kind.0 g.key k.n k.known) (got-known whole g.kind g.k g.row g.made k.next.above k.n (owners.Load reading.load) k.leaves) refl g.goes;
+      }
+
+  gets-blob : (frames : List Frame) → GetsBlob m.values.types w me reading frames w' → RF None frames
+  gets-blob frames g =
+      record {
+        change = nothing_felt;
+        goes = quiet-goes nothing_felt (asks _ g.asked);
+        opens = λ none. (g.asked.gives.0, g.asked.gives.1.stands_open);
+        feels = λ whole. reads-blob g.kind g.key g.blob g.needs g.asked.gives.2.1.found refl g.goes;
+      }
+
+  gets-unread : (frames : List Frame) → GetsLazy m.values.types w me reading frames w' → RF None frames
+  gets-unread frames g = elim g.asked.makes.3 [
+    | inl k ↦ record {
+      change = nothing_felt;
+      goes = quiet-goes nothing_felt (was-known k);
+      opens = λ none. (g.asked.makes.0, g.asked.makes.1.stands_open);
+      feels = λ whole. gets-known g.kind g.key k.n g.row (inr g.needs) (is-cached w g.kind.0 g.key k.n k.known) (got-known whole g.kind g.k g.row g.made k.next.above k.n (owners.Load reading.load) k.leaves) refl g.goes;
+    }
+    | inr (none, few, next, a) ↦ record {
+      change = bears_known g.kind.0 g.key (optional.Some g.key);
+      goes = goes-quiet (adopts w reading.load g.kind g.key (optional.Some g.key) []) (alike a);
+      opens = λ none. (g.asked.makes.0, g.asked.makes.1.stands_open);
+      feels = λ whole. gets-lazy g.kind g.key g.row g.needs (got-born whole g.kind g.k g.row g.made next.above reading.load g.key (optional.Some g.key) [] a) refl g.goes;
+    }
+  ]
+
+  makes : (frames : List Frame) → MakesNode m.values w me reading frames w' → RF None frames
+  makes frames g = elim c.makes [
+    | inl (n, usable, f) ↦ record {
+      change = nothing_felt;
+      goes = quiet-goes nothing_felt (quiet-then (a-handle w _ _ (owners.Load reading.load)) (fell-anyhow f));
+      opens = λ none. (c.load, c.owned.stands_open);
+      feels = λ whole. makes-known g.x r n g.row (is-cached w r.top.kind.0 r.top.key n usable) (got-fallen whole r.top.kind g.k g.row g.made c.next.above n (owners.Load reading.load) f) refl g.goes;
+    }
+    | inr (none, few, a) ↦ record {
+      change = bears_known r.top.kind.0 r.top.key (first_key r.top.kind.0 r.top.key);
+      goes = goes-quiet (adopts w reading.load r.top.kind r.top.key (first_key r.top.kind.0 r.top.key) (m.values.references g.x)) (alike a);
+      opens = λ none. (c.load, c.owned.stands_open);
+      feels = λ whole. makes-node g.x r g.row (got-born whole r.top.kind g.k g.row g.made c.next.above reading.load r.top.key (first_key r.top.kind.0 r.top.key) (m.values.references g.x) a) refl g.goes;
+    }
+  ]
+    where
+      open g use {reads_node as r}
+      open g.adopted use {adopts as c}
+
+  meets : (u : Core) (e : Error) → Meets m.values w me reading e u → Quiet w u
+  meets u e does = elim does [
+    | inl (refuses, a) ↦ alike a
+    | inr (inl (first, asked)) ↦ asks _ asked
+    | inr (inr (inl (kind, key, needs, inl asked))) ↦ asks _ asked
+    | inr (inr (inl (kind, key, needs, inr (blob, is, deep, asked)))) ↦ asks _ asked
+    | inr (inr (inr (inl (kind, key, needs, asked)))) ↦ alike asked.refused.stays
+    | inr (inr (inr (inr (inl node)))) ↦ alike node.adopted.refused.1.stays
+    | inr (inr (inr (inr (inr root)))) ↦ refused-root root root.refuses
+  ]
+    where
+      refused-root : (root : RefusesRoot m.values w me reading e u)
+          → (LoadIs w reading IsOfCell × EndCall w me reading.load root.x (m.values.node_type root.x) (m.values.references root.x) (Err (e, Some root.x)) u)
+          ⊎ (LoadIs w reading IsOfKey × HandOverCall w me reading.load (handles_of (m.values.references root.x)) (Err e) u) → Quiet w u
+      refused-root root (inl (is, ended)) = ends-quiet m w me free u reading.load root.x (Err (e, Some root.x)) ended
+      refused-root root (inr (is, handed)) = hands-over free reading.load _ (Err e) handed
+
+  fails : (e : Error) → Fails m.values w me reading e w' → Quiet w w'
+  fails e does = elim does [
+    | inl gives ↦ quiet-then (meets gives.mid e gives.meets) (closes reading.load gives.closes)
+    | inr ended ↦ ends-quiet m w me free w' reading.load ended.x (Err (e, None)) ended.ended
+  ]
+
+  ended : (end : LoadAnswer N) (frames : List Frame) → frames ≡ [] → Quiet w w' → RF (Some end) frames
+  ended end frames none q = record { change = nothing_felt; goes = quiet-goes nothing_felt q; opens = λ is. absurd (cc); feels = λ whole. reading-ends end refl none }
+
+  by-does : (answer : Option (LoadAnswer N)) (frames : List Frame) → Does m.values w me reading answer frames w' → RF answer frames
+  by-does None frames does = elim does [
+    | inl root ↦ gets-root frames root
+    | inr (inl cached) ↦ gets-cached frames cached
+    | inr (inr (inl blob)) ↦ gets-blob frames blob
+    | inr (inr (inr (inl lazy))) ↦ gets-unread frames lazy
+    | inr (inr (inr (inr made))) ↦ makes frames made
+  ]
+  by-does (Some (ends.Pinned k)) frames does = ended (ends.Pinned k) frames does.1 (ends-quiet m w me free w' reading.load does.0.x (Ok k) does.0.ended)
+  by-does (Some (ends.Read x)) frames does = ended (ends.Read x) frames does.1 (hands-over free reading.load _ (Ok tt) does.0.handed)
+  by-does (Some (ends.Refused e)) frames does = ended (ends.Refused e) frames does.1 (fails e does.0)
+
+  pub reading-feels : (answer : Option (LoadAnswer N)) (frames : List Frame) → ReadingDoes m.values w me reading answer frames w' → RF answer frames
+  reading-feels answer frames does = by-does answer frames does.does
+
+-- it is felt so in a world that is alike
+pub feels-alike : {N : Type 0} {v : Values N} {w u w' : Core} {reading : Reading} {answer : Option (LoadAnswer N)} {frames : List Frame} {c : Change} → ReadingFeels v w reading answer frames u c → Alike u w' → ReadingFeels v w reading answer frames w' c
+feels-alike (reads-root load blob none_read at stored answer is) a = reads-root load blob none_read at stored answer is
+feels-alike (reads-blob kind key blob needs stored answer is) a = reads-blob kind key blob needs stored answer is
+feels-alike (gets-known kind key n row needs known got answer is) a = gets-known kind key n row needs known (gets-alike got a) answer is
+feels-alike (gets-lazy kind key row needs got answer is) a = gets-lazy kind key row needs (gets-alike got a) answer is
+feels-alike (makes-known x reads n row known got answer is) a = makes-known x reads n row known (gets-alike got a) answer is
+feels-alike (makes-node x reads row got answer is) a = makes-node x reads row (gets-alike got a) answer is
+feels-alike (reading-ends end answer is) a = reading-ends end answer is

@@ -1,0 +1,165 @@
+-- How many steps an open load still needs: at most two for each reference that its blobs still take, with all that it leads to, and one for each of its blobs.
+use Rattle.std.proofs.Common.{◌≡◌, ℕ, ◌+◌, ◌*◌, ◌≤◌, ◌⊎◌, Bool, true, false, List, [], ◌∷◌, ◌++◌, refl, sym, ap, subst, ◌∙◌, inl, inr, arith, if◌then◌else◌}
+use Rattle.std.specs.Prelude.{Option, Some, None}
+use Rattle.pagable_world.specs.Plain.{Kind, Blob, Types, type_of, is_eager}
+use Rattle.pagable_world.specs.declared.handles.HandleRow.{HandleRow}
+use Rattle.pagable_world.specs.World.{Core, OpenLoad, Frame, Reading, Values}
+use Rattle.pagable_world.specs.Loads.{Next, reads, asks, is_faulty, next_in, need_at, need_of, needs_nested, needs_lazy, to_adopt, root_frame, nested_frame, with_got}
+use Rattle.pagable_world.specs.Order.{after_kinds, Unfolds, unfolds, UnfoldsFrom, ends-here, takes-next, leaves-next}
+use Rattle.pagable_laws.specs.ReadLaws.{KeepsStored}
+use Rattle.pagable_laws.specs.TreeSteps.{Change, ReadingFeels, reads-root, reads-blob, gets-known, gets-lazy, makes-known, makes-node, reading-ends}
+use Rattle.pagable_laws.proofs.Trees.{same_some}
+use Rattle.pagable_laws.proofs.Fitting.{asked}
+use Rattle.pagable_laws.proofs.Taking.{adopted-over}
+use Rattle.pagable_laws.proofs.ReadingStepsKinds.{kinds_of, asks-by-kinds, kinds-pushed}
+
+-- ---- what a blob still takes
+
+root-unfolds : {types : Types} {store : ℕ → Option Blob} {t key many longest : ℕ} → Unfolds types store t key many longest → (blob : Blob) → store key ≡ Some blob → UnfoldsFrom types store t blob [] many longest
+root-unfolds {types} {store} (unfolds t key many longest other there from) blob is = subst (λ b. UnfoldsFrom types store t b [] many longest) (same_some _ _ (sym there ∙ is)) from
+
+-- it takes a reference of this kind under this key, and then the rest
+record Takes (types : Types) (store : ℕ → Option Blob) (t : ℕ) (blob : Blob) (kinds : List ℕ) (many : ℕ) (kind : Kind) (key : ℕ) : Type 0 where
+  rest : ℕ
+  longest : ℕ
+  from : UnfoldsFrom types store t blob (kinds ++ kind.0 ∷ []) rest longest
+  fewer : rest + 1 ≤ many
+  all : is_eager kind.0 ≡ true → (below deep : ℕ) × Unfolds types store (type_of kind.0) key below deep × (many ≡ 1 + below + rest)
+
+more-rest : (below rest : ℕ) → rest + 1 ≤ 1 + below + rest
+more-rest below rest = omega arith
+
+one-rest : (rest : ℕ) → rest + 1 ≤ 1 + rest
+one-rest rest = omega arith
+
+takes : {types : Types} {store : ℕ → Option Blob} {t many longest : ℕ} {blob : Blob} {kinds : List ℕ} → UnfoldsFrom types store t blob kinds many longest → (kind : Kind) (key : ℕ) → after_kinds types t blob kinds ≡ asks kind key → Takes types store t blob kinds many kind key
+takes (ends-here t blob kinds own is) kind key asked_is = absurd (cc)
+takes {types} {store} (takes-next t child below rest deep longest blob kinds k is eager under from) kind key asked_is =
+    let both : asks k child ≡ asks kind key = sym is ∙ asked_is in
+    let same : k ≡ kind = cc in
+    let at : child ≡ key = cc in
+    record {
+      rest = rest;
+      longest = longest;
+      from = subst (λ (q : Kind). UnfoldsFrom types store t blob (kinds ++ q.0 ∷ []) rest longest) same from;
+      fewer = more-rest below rest;
+      all = λ e. (below, deep, subst (λ (q : Kind). Unfolds types store (type_of q.0) key below deep) same (subst (λ n. Unfolds types store (type_of k.0) n below deep) at under), refl);
+    }
+takes {types} {store} (leaves-next t child rest longest blob kinds k is lazy from) kind key asked_is =
+    let both : asks k child ≡ asks kind key = sym is ∙ asked_is in
+    let same : k ≡ kind = cc in
+    record {
+      rest = rest;
+      longest = longest;
+      from = subst (λ (q : Kind). UnfoldsFrom types store t blob (kinds ++ q.0 ∷ []) rest longest) same from;
+      fewer = one-rest rest;
+      all = λ e. let f : is_eager kind.0 ≡ false = subst (λ (q : Kind). is_eager q.0 ≡ false) same lazy in absurd (cc);
+    }
+
+-- ---- what the open blobs still need
+
+-- a blob of which references of these kinds were got, and what waits below it
+record Owing (types : Types) (store : ℕ → Option Blob) (frame : Frame) (kinds : List ℕ) (Below : ℕ → Type 0) (owed : ℕ) : Type 0 where
+  many : ℕ
+  longest : ℕ
+  more : ℕ
+  from : UnfoldsFrom types store frame.node_type frame.blob kinds many longest
+  below : Below more
+  sum : owed ≡ 2 * many + 1 + more
+
+-- blobs that wait for a reference of this kind, which is being read
+Waits : Types → (ℕ → Option Blob) → Kind → List Frame → ℕ → Type 0
+Waits types store kind [] owed = owed ≡ 0
+Waits types store kind (frame ∷ below) owed = Owing types store frame (kinds_of frame.got ++ kind.0 ∷ []) (λ more. Waits types store frame.kind below more) owed
+
+-- all of them; and where none is open yet, a root that takes so many references
+pub Owes : Types → (ℕ → Option Blob) → ℕ → List Frame → ℕ → Type 0
+Owes types store many [] owed = owed ≡ 2 * many + 2
+Owes types store many (frame ∷ below) owed = Owing types store frame (kinds_of frame.got) (λ more. Waits types store frame.kind below more) owed
+
+pub owes-first : (types : Types) (store : ℕ → Option Blob) (many : ℕ) (frames : List Frame) → frames ≡ [] → Owes types store many frames (2 * many + 2)
+unfolding Owes
+owes-first types store many frames none = subst (λ fs. Owes types store many fs (2 * many + 2)) (sym none) refl
+
+pub owes-some : (types : Types) (store : ℕ → Option Blob) (many : ℕ) (frames : List Frame) (owed : ℕ) → Owes types store many frames owed → 1 ≤ owed
+unfolding Owes
+owes-some types store many [] owed is = omega arith
+owes-some types store many (frame ∷ below) owed o = let e = o.sum in omega (arith, e)
+
+eager-of : (below : List Frame) (next : Next) (kind : Kind) (key : ℕ) → need_at below next ≡ needs_nested kind key → is_eager kind.0 ≡ true
+eager-of below (asks k q) kind key is = by (is_eager k.0) refl is
+  where
+    by : (b : Bool) → is_eager k.0 ≡ b → (if b then needs_nested k q else needs_lazy k q) ≡ needs_nested kind key → is_eager kind.0 ≡ true
+    by true e f = let same : k ≡ kind = cc in subst (λ (z : Kind). is_eager z.0 ≡ true) same e
+    by false e f = absurd (cc)
+eager-of [] (reads own) kind key is = absurd (cc)
+eager-of (frame ∷ below) (reads own) kind key is = absurd (cc)
+eager-of below (is_faulty e) kind key is = absurd (cc)
+
+-- it needs less afterwards
+pub record OwesLess (types : Types) (store : ℕ → Option Blob) (many : ℕ) (frames : List Frame) (owed : ℕ) : Type 0 where
+  pub now : ℕ
+  pub owes : Owes types store many frames now
+  pub less : now + 1 ≤ owed
+
+module _ (types : Types) (store : ℕ → Option Blob) (many : ℕ) where
+  owes-root : (t key longest owed : ℕ) (blob : Blob) → Unfolds types store t key many longest → store key ≡ Some blob → Owes types store many [] owed → OwesLess types store many (root_frame key t blob ∷ []) owed
+  unfolding Owes Waits
+  owes-root t key longest owed blob under is o = record { now = 2 * many + 1 + 0; owes = record { many = many; longest = longest; more = 0; from = root-unfolds under blob is; below = refl; sum = refl }; less = omega arith }
+
+  owes-blob : (frames : List Frame) (kind : Kind) (key owed : ℕ) (blob : Blob) → need_of types frames ≡ needs_nested kind key → store key ≡ Some blob → Owes types store many frames owed → OwesLess types store many (nested_frame kind key blob ∷ frames) owed
+  unfolding Owes Waits
+  owes-blob [] kind key owed blob needs is o = absurd (cc)
+  owes-blob (top ∷ below) kind key owed blob needs is o =
+      let t = takes o.from kind key (asks-by-kinds types top.node_type top.blob top.got kind key (asked below (next_in types top) kind key (inl needs))) in
+      let a = t.all (eager-of below (next_in types top) kind key needs) in
+      let under : Waits types store kind (top ∷ below) (2 * t.rest + 1 + o.more) = record { many = t.rest; longest = t.longest; more = o.more; from = t.from; below = o.below; sum = refl } in
+      let s = o.sum in
+      let e = a.3 in
+      record { now = 2 * a.0 + 1 + (2 * t.rest + 1 + o.more); owes = record { many = a.0; longest = a.1; more = 2 * t.rest + 1 + o.more; from = root-unfolds a.2 blob is; below = under; sum = refl }; less = omega (arith, s, e) }
+
+  owes-got : (frames : List Frame) (kind : Kind) (key owed : ℕ) (row : HandleRow) → (need_of types frames ≡ needs_nested kind key) ⊎ (need_of types frames ≡ needs_lazy kind key) → Owes types store many frames owed → OwesLess types store many (with_got kind row frames) owed
+  unfolding Owes Waits
+  owes-got [] kind key owed row (inl needs) o = absurd (cc)
+  owes-got [] kind key owed row (inr needs) o = absurd (cc)
+  owes-got (top ∷ below) kind key owed row needs o =
+      let t = takes o.from kind key (asks-by-kinds types top.node_type top.blob top.got kind key (asked below (next_in types top) kind key needs)) in
+      let s = o.sum in
+      let f = t.fewer in
+      record {
+        now = 2 * t.rest + 1 + o.more;
+        owes = record { many = t.rest; longest = t.longest; more = o.more; from = subst (λ ks. UnfoldsFrom types store top.node_type top.blob ks t.rest t.longest) (sym (kinds-pushed top.got (record { kind = kind; node = row.node; handle = row.number }))) t.from; below = o.below; sum = refl };
+        less = omega (arith, s, f);
+      }
+
+  owes-made : (top : Frame) (below : List Frame) (owed : ℕ) (row : HandleRow) → need_of types (top ∷ below) ≡ to_adopt → Owes types store many (top ∷ below) owed → OwesLess types store many (with_got top.kind row below) owed
+  unfolding Owes Waits
+  owes-made top [] owed row needs o = let over = adopted-over [] (next_in types top) needs in absurd (let e = over.2 in cc)
+  owes-made top (frame ∷ below) owed row needs o =
+      let s = o.sum in
+      let b = o.below in
+      record {
+        now = o.more;
+        owes = record { many = b.many; longest = b.longest; more = b.more; from = subst (λ ks. UnfoldsFrom types store frame.node_type frame.blob ks b.many b.longest) (sym (kinds-pushed frame.got (record { kind = top.kind; node = row.node; handle = row.number }))) b.from; below = b.below; sum = b.sum };
+        less = omega (arith, s);
+      }
+
+-- a load's step, where what was stored is still
+pub owes-less : {N : Type 0} {v : Values N} {w w' : Core} (store : ℕ → Option Blob) → KeepsStored w.stored store → (reading : Reading) (load : OpenLoad) (frames : List Frame) (many longest owed : ℕ) {c : Change} → w.loads reading.load.0 ≡ Some load
+    → Unfolds v.types store reading.node_type load.key many longest → Owes v.types store many reading.frames owed → ReadingFeels v w reading None frames w' c → OwesLess v.types store many frames owed
+owes-less {v = v} {w} store kept reading load frames many longest owed open_load under o (reads-root l blob none_read at stored answer is) =
+    let same : l ≡ load = same_some _ _ (sym at ∙ open_load) in
+    let there : store load.key ≡ Some blob = kept load.key blob (subst (λ (z : OpenLoad). w.stored z.key ≡ Some blob) same stored) in
+    let step = owes-root v.types store many reading.node_type load.key longest owed blob under there (subst (λ fs. Owes v.types store many fs owed) none_read o) in
+    subst (λ fs. OwesLess v.types store many fs owed) (sym (is ∙ ap (λ (z : OpenLoad). root_frame z.key reading.node_type blob ∷ []) same)) step
+owes-less {v = v} store kept reading load frames many longest owed open_load under o (reads-blob kind key blob needs stored answer is) =
+    subst (λ fs. OwesLess v.types store many fs owed) (sym is) (owes-blob v.types store many reading.frames kind key owed blob needs (kept key blob stored) o)
+owes-less {v = v} store kept reading load frames many longest owed open_load under o (gets-known kind key n row needs known got answer is) =
+    subst (λ fs. OwesLess v.types store many fs owed) (sym is) (owes-got v.types store many reading.frames kind key owed row needs o)
+owes-less {v = v} store kept reading load frames many longest owed open_load under o (gets-lazy kind key row needs got answer is) =
+    subst (λ fs. OwesLess v.types store many fs owed) (sym is) (owes-got v.types store many reading.frames kind key owed row (inr needs) o)
+owes-less {v = v} store kept reading load frames many longest owed open_load under o (makes-known x r n row known got answer is) =
+    subst (λ fs. OwesLess v.types store many fs owed) (sym is) (owes-made v.types store many r.top r.below owed row (sym (ap (need_of v.types) r.frames) ∙ r.needs) (subst (λ fs. Owes v.types store many fs owed) r.frames o))
+owes-less {v = v} store kept reading load frames many longest owed open_load under o (makes-node x r row got answer is) =
+    subst (λ fs. OwesLess v.types store many fs owed) (sym is) (owes-made v.types store many r.top r.below owed row (sym (ap (need_of v.types) r.frames) ∙ r.needs) (subst (λ fs. Owes v.types store many fs owed) r.frames o))
+owes-less store kept reading load frames many longest owed open_load under o (reading-ends end answer is) = absurd (cc)

@@ -1,0 +1,5 @@
+use Rattle.pagable_laws.proofs.Arriving.{headline_law}
+use Rattle.pagable_laws.proofs.runs.headline.Goals as goal
+
+pub returns : goal.returns
+returns g c = headline_law g.row.E.Denot g.N.SeenAs.seen
