@@ -6,7 +6,7 @@ use Rattle.pagable_model.specs.declared.data_key.OptionalDataKey.TheVariants as 
 use Rattle.pagable_model.specs.Meaning.{number, integer, text, pattern, none, pair, variant, reference, followed}
 use Rattle.pagable_model.specs.Canonical.{EachType}
 use Rattle.pagable_model.specs.Merkle.{blob_of, KeyOf, KeyOfItem}
-use Rattle.pagable_world.specs.Plain.{OptionalDataKey, ArcRef, Identity, is_loose_kind, Meaning, Tree, WorkerNumber, type_of, updated, if_there}
+use Rattle.pagable_world.specs.Plain.{OptionalDataKey, ArcRef, Identity, is_loose_kind, Meaning, Tree, HandleNumber, ReadsTree, WorkerNumber, type_of, updated, if_there}
 use Rattle.pagable_world.specs.declared.events.Event.TheVariants as events
 use Rattle.pagable_world.specs.declared.events.Event.{Event}
 use Rattle.pagable_world.specs.declared.events.EventReply.TheVariants as answers
@@ -16,13 +16,14 @@ use Rattle.pagable_world.specs.declared.events.Took.{Took}
 use Rattle.pagable_world.specs.declared.events.WorkerAnswer.TheVariants as finals
 use Rattle.pagable_world.specs.declared.events.WorkerReply.{WorkerReply}
 use Rattle.pagable_world.specs.Kinds.{identity_of, has_key}
-use Rattle.pagable_world.specs.World.{Core, Cell, key_at, Shelf, Slot, Written, Fault, was_refused, was_failed, Todo, to_item, to_publish, to_release, to_fail, Task, of_item, of_entry, Walking, Values, Seen}
+use Rattle.pagable_world.specs.World.{Core, Cell, key_at, Shelf, Slot, Written, Fault, was_refused, was_failed, Todo, to_item, to_set, to_publish, to_release, to_fail, Task, of_item, of_entry, Walking, Values, Seen}
 use Rattle.pagable_world.specs.Workers.{Site, Does, IsPublished, answer_after}
 use Rattle.pagable_world.specs.Events.{WorkerSteps, Happens}
 use Rattle.pagable_world.specs.Pager.{PagerState, MachineState, world_of, kids_of, HandlesAreWhole, IsMachineWhole, KeyFits, NodeStands, here, away, Represents, StandsFor}
+use Rattle.pagable_world.specs.Runs.{ReadsItsTypes}
 use Rattle.pagable_world.specs.Headline.{Meets, meets-of-item, meets-entry, meets-below, AreKeysOf, IsLeftPagedOut, HasKeyOf, LeavesAll, IsKeyOfTask}
-use Rattle.pagable_laws.specs.PageOutLaws.{Ground, ground_of, IsOfEntry, Waits, Walks, WorkFits, IsDone, SetsReadKeys}
-use Rattle.pagable_laws.specs.KeyRuns.{KeyIsSet, AllHold, HasHandle, KeysHeld, KeysAreRight, FitsGiveKeys}
+use Rattle.pagable_laws.specs.PageOutLaws.{Ground, ground_of, IsOfEntry, Waits, Walks, WorkFits, IsDone}
+use Rattle.pagable_laws.specs.KeyRuns.{KeyIsSet, AllHold, HasHandle, KeysHeld, KeysAreRight}
 use Rattle.pagable_laws.proofs.Merkle.{one_key, one_item_key, tree_readable}
 use Rattle.pagable_laws.proofs.Trees.{same_some}
 use Rattle.pagable_laws.proofs.Following.{IdentityStands, known-of, keys-of, tree-form, held-of, cell-of}
@@ -118,7 +119,7 @@ module _ {N E : Type 0} (v : Values N) (s : MachineState N E) (trees : ℕ → T
 
 -- ---- an event
 
-at-self : {X : Type 0} (k : ℕ) (x : X) (f : ℕ → X) → updated k x f k ≡ x
+pub at-self : {X : Type 0} (k : ℕ) (x : X) (f : ℕ → X) → updated k x f k ≡ x
 at-self k x f = let e : (k == k) ≡ true = grind (arith, nat_tests) in ap (λ b. if b then x else f k) e
 
 done-on : {N : Type 0} (v : Values N) {shelf shelf' : Shelf} → KeepsKeys shelf shelf' → (task : Task) (key : ℕ) → IsDone v shelf task key → IsDone v shelf' task key
@@ -181,7 +182,7 @@ module _ {N B W E : Type 0} (m : Seen N B W) (s s' : MachineState N E) (trees tr
   lives : {n k : ℕ} → HasHandle s.pager.core n k → is_some (s.pager.core.cells k) ≡ true
   lives h = subst (λ k. is_some (s.pager.core.cells k) ≡ true) h.at (cell-of earlier.pager.whole.handles h.row.node.0 (row-held s.pager.core h.h h.row h.live))
 
-  keys-right : (event : Event N B W) (reply : EventReply N B W) → Happens m (world_of s) event reply (world_of s') → KeysAreRight m.values s trees event reply s' trees'
+  pub keys-right : (event : Event N B W) (reply : EventReply N B W) → Happens m (world_of s) event reply (world_of s') → KeysAreRight m.values s trees event reply s' trees'
   keys-right (events.WorkerStep n) (answers.WorkerMoved (Ok reply)) is =
       let w = is.moves in
       record {
@@ -204,9 +205,6 @@ module _ {N B W E : Type 0} (m : Seen N B W) (s s' : MachineState N E) (trees tr
   keys-right (events.WorkerItem t item) reply is = record { publishes = tt; key = tt; leaves = tt }
   keys-right (events.WorkerListed t i) reply is = record { publishes = tt; key = tt; leaves = tt }
 
-pub fits_give_keys : {N B W : Type 0} (E : Type 0) (m : Seen N B W) → FitsGiveKeys E m
-fits_give_keys E m s s' event reply trees trees' whole does stands before after held_before held = keys-right m s s' trees trees' before after whole does.whole stands held_before held event reply does.step.happens
-
 -- ---- what a worker is about to set
 
 each-type : {P : ℕ → Type 0} → ((t : ℕ) → P t) → (m : Meaning ⊥) → EachType P m
@@ -222,7 +220,8 @@ each-type all (reference a) = absurd a
 each-type all (followed kind a) = (all (type_of kind), each-type all a)
 
 -- a key that a worker is about to set reads as its node's tree
-pub sets_key : {N B W : Type 0} (E : Type 0) (m : Seen N B W) → SetsReadKeys E m
-sets_key E m s trees reads fit n walking r through key height below there is =
-    let walks = subst (λ t. Walks m.values (ground_of s trees) (s.work.shelves walking.table) n walking.task t) is (fit.walks n walking there) in
-    tree_readable s.pager.core.stored m.values.types (trees r.node.0) key (reads (trees r.node.0).type, each-type reads (trees r.node.0).meaning) walks.0.stands.right.stands
+pub sets-key : {N E : Type 0} (v : Values N) (s : MachineState N E) (trees : ℕ → Tree) → ReadsItsTypes v.types → WorkFits v s trees → (n : ℕ) (walking : Walking) (r : ArcRef) (through : HandleNumber) (key height : ℕ) (below : List Todo)
+    → s.work.walkings n ≡ Some walking → walking.todo ≡ to_set r through key height ∷ below → ReadsTree s.pager.core.stored v.types key (trees r.node.0)
+sets-key v s trees reads fit n walking r through key height below there is =
+    let walks = subst (λ t. Walks v (ground_of s trees) (s.work.shelves walking.table) n walking.task t) is (fit.walks n walking there) in
+    tree_readable s.pager.core.stored v.types (trees r.node.0) key (reads (trees r.node.0).type, each-type reads (trees r.node.0).meaning) walks.0.stands.right.stands

@@ -1,5 +1,5 @@
 -- What trees feel of each call that doesn't close the storage, by the call and its reply.
-use Rattle.std.proofs.Common.{◌≡◌, ℕ, ◌≤◌, Bool, true, false, List, [], refl, ap, sym, ◌∙◌, inl, inr, arith}
+use Rattle.std.proofs.Common.{◌≡◌, ℕ, Bool, true, false, List, [], refl, ap, sym, ◌∙◌, inl, inr}
 use Rattle.std.specs.Prelude.{Option, Some, None, ◌⊎◌, Result, Ok, Err}
 use Rattle.pagable_world.specs.Plain.{Error, Kind, ArcRef, HandleNumber, LoadNumber, NodeNumber}
 use Rattle.pagable_world.specs.declared.handles.Owner.{Owner}
@@ -23,15 +23,10 @@ use Rattle.pagable_world.specs.Events.{Does}
 use Rattle.pagable_world.specs.Pager.{CallBrings, IsNewNode}
 use Rattle.pagable_world.specs.Runs.{KeepsOpen}
 use Rattle.pagable_laws.specs.TreeSteps.{Change, nothing_felt, sets_key, knows_node, bears_node, bears_known, CallFeels, feels-nothing, feels-birth, feels-away, feels-key, feels-known, feels-adopted, feels-lazy, feels-end, StaysAway}
-use Rattle.pagable_laws.proofs.Goes.{Quiet, Goes, NotLoads, rows-self, rows-mode, Changed, found-changed, quiet-then, alike, only-rows, fell, fell-anyhow, a-handle, quiet-goes, goes-quiet, born, keyed, goes-known, adopts}
+use Rattle.pagable_laws.proofs.Trees.{same_some}
+use Rattle.pagable_laws.proofs.Goes.{le-self, Quiet, Goes, NotLoads, rows-self, rows-mode, Changed, found-changed, quiet-then, alike, only-rows, fell, fell-anyhow, a-handle, quiet-goes, goes-quiet, born, keyed, goes-known, adopts}
 use Rattle.pagable_laws.proofs.GoodReferences.{good, alike-away, fell-away}
 use Rattle.pagable_laws.proofs.Calling.{own-mode, made-handle, some-moved, closed-load, was-asked, stores, clones, pins, begins, begins-key, gets-known, asks, closes}
-
-le-self : (n : ℕ) → n ≤ n
-le-self n = omega arith
-
-some-is : {x y : HandleRow} → Some x ≡ Some y → x ≡ y
-some-is is = cc
 
 pub refused-call : {cause : Option Error} {w w' : Core} (r : Result (Unit {0}) Error) → IsRefused cause w r w' → Quiet w w'
 refused-call r c = alike c.stays
@@ -180,7 +175,7 @@ module _ {N B W : Type 0} (m : Seen N B W) (w : Core) (me : Owner) (free : NotLo
       at c true e = let f : r ≡ record c.was { owner = owner_value n } = rw e at c.is in let g : r.owner ≡ owner_value n = ap (λ (x : HandleRow). x.owner) f in absurd (cc)
       at c false e =
           let f : r ≡ c.was = rw e at c.is in
-          let g : row ≡ c.was = some-is (sym owns.live ∙ c.live) in
+          let g : row ≡ c.was = same_some _ _ (sym owns.live ∙ c.live) in
           free l (sym owns.own ∙ (ap (λ (x : HandleRow). x.owner) g ∙ (sym (ap (λ (x : HandleRow). x.owner) f) ∙ is)))
 
   pub ends-quiet : (l : LoadNumber) (x : N) (r : Result HandleNumber (Error × Option N)) → EndCall w me l x (m.values.node_type x) (m.values.references x) r w' → Quiet w w'

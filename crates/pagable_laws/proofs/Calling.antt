@@ -1,7 +1,6 @@
 -- What trees feel of each call, by the call and its reply.
-use Rattle.std.proofs.Common.{◌≡◌, ℕ, ◌≤◌, ◌==◌, Bool, true, false, List, refl, ap, sym, subst, ◌∙◌, inl, inr, arith}
+use Rattle.std.proofs.Common.{◌≡◌, ℕ, ◌==◌, Bool, true, false, List, refl, ap, sym, subst, ◌∙◌, inl, inr}
 use Rattle.std.specs.Prelude.{Option, Some, None, Result, Ok, Err, if◌then◌else◌}
-use Rattle.std.proofs.lemmas.Bool.Decides.{nat_tests}
 use Rattle.pagable_model.specs.Stored.{Adds}
 use Rattle.pagable_world.specs.Plain.{Error, Kind, Blob, HandleNumber, LoadNumber, NodeNumber}
 use Rattle.pagable_world.specs.declared.handles.Owner.{Owner}
@@ -22,19 +21,15 @@ use Rattle.pagable_world.specs.Refusals.{Owns}
 use Rattle.pagable_world.specs.Calls.{with_handle, with_mode, moved, CloneCall, PinCall, Asked, StoreCall}
 use Rattle.pagable_world.specs.LoadCalls.{without_load, BeginCall, BeginKeyCall, Given, from_cache, from_store, AskCall, AsksInVain, GetsKnown, LoadCloses}
 use Rattle.pagable_laws.specs.TreeSteps.{nothing_felt, BeginsWell}
-use Rattle.pagable_laws.proofs.Goes.{Quiet, Goes, NotLoads, rows-self, rows-mode, rows-moved, quiet-then, alike, only-rows, fell, a-handle, quiet-goes, quiet-begins, goes-quiet, begun}
-
-le-self : (n : ℕ) → n ≤ n
-le-self n = omega arith
+use Rattle.pagable_laws.proofs.Trees.{same_some}
+use Rattle.pagable_laws.proofs.Sums.{same-number}
+use Rattle.pagable_laws.proofs.Goes.{le-self, Quiet, Goes, NotLoads, rows-self, rows-mode, rows-moved, quiet-then, alike, only-rows, fell, a-handle, quiet-goes, quiet-begins, goes-quiet, begun}
 
 -- ---- what is done to an own handle
 
 pub own-mode : (w : Core) (me : Owner) (h : HandleNumber) (fits : Mode → Bool) (row : HandleRow) (mode : Mode) → is_loose mode ≡ true → NotLoads me → Owns w me h fits row → Quiet w (with_mode w h mode)
 own-mode w me h fits row mode is_so free owns =
-    only-rows (rows-mode w.last.handle w.rows h mode is_so (λ r live l is. let e : row ≡ r = some-is (sym owns.live ∙ live) in free l (sym owns.own ∙ (ap (λ (x : HandleRow). x.owner) e ∙ is)))) (le-self _)
-  where
-    some-is : {x y : HandleRow} → Some x ≡ Some y → x ≡ y
-    some-is is = cc
+    only-rows (rows-mode w.last.handle w.rows h mode is_so (λ r live l is. let e : row ≡ r = same_some _ _ (sym owns.live ∙ live) in free l (sym owns.own ∙ (ap (λ (x : HandleRow). x.owner) e ∙ is)))) (le-self _)
 
 pub made-handle : {w w' : Core} (node : NodeNumber) (mode : Mode) (owner : Owner) → Alike (with_handle w node mode owner) w' → Quiet w w'
 made-handle {w} {w'} node mode owner a = quiet-then (a-handle w node mode owner) (alike a)
@@ -71,9 +66,6 @@ was-asked {w} {w'} a =
 was-stored : (key : ℕ) (blob : Blob) (old : ℕ → Option Blob) (new : ℕ → Option Blob) → Adds key blob old new → (q : ℕ) (b : Blob) → old q ≡ Some b → new q ≡ Some b
 was-stored key blob old new adds q b is = at (q == key) refl
   where
-    same-number : (x y : ℕ) → (x == y) ≡ true → x ≡ y
-    same-number x y e = grind (arith, nat_tests)
-
     at : (t : Bool) → (q == key) ≡ t → new q ≡ Some b
     at false e = let f : new q ≡ old q = rw e at (adds.each q) in f ∙ is
     at true e =

@@ -19,9 +19,9 @@ use Rattle.pagable_laws.specs.KeyRuns.{KeysHeld}
 use Rattle.pagable_laws.specs.ReadRuns.{ReadingsHeld}
 use Rattle.pagable_laws.proofs.Taking.{pin_stands}
 use Rattle.pagable_laws.proofs.Lasting.{keeps-trees}
-use Rattle.pagable_laws.proofs.Publishing.{fits_at_first, fits_on}
-use Rattle.pagable_laws.proofs.Answering.{fits_give_keys}
-use Rattle.pagable_laws.proofs.KeysGoing.{held_at_first, held_on, held_gives_ready}
+use Rattle.pagable_laws.proofs.Publishing.{fits-at-first, fits-on}
+use Rattle.pagable_laws.proofs.Answering.{keys-right}
+use Rattle.pagable_laws.proofs.KeysGoing.{held-at-first, held-on, keys-ready}
 use Rattle.pagable_laws.proofs.PinSteps.{pins-hold}
 use Rattle.pagable_laws.proofs.EventSteps.{does-feels}
 use Rattle.pagable_laws.proofs.ReadingStepsHeld.{event-held}
@@ -50,7 +50,7 @@ record IsGoingOn {N E : Type 0} (v : Values N) (s : MachineState N E) (trees : �
 
 module _ {N E B W : Type 0} (m : Seen N B W) (lawful : IsLawful m.values) (readable : ReadsItsTypes m.values.types) where
   idle-goes : (s : MachineState N E) (trees : ℕ → Tree) → IsMachineWhole m.values s → IsIdle s → HoldsSettled m.values s.pager → StandsFor m.values s trees → IsGoingOn m.values s trees
-  idle-goes s trees whole idle settled stands = record { whole = whole; settled = settled; stands = stands; given = λ reading is. absurd (none-reads reading is); fits = fits_at_first E m.values s trees idle; held = held_at_first N E s idle; reads = λ reading is. absurd (none-reads reading is) }
+  idle-goes s trees whole idle settled stands = record { whole = whole; settled = settled; stands = stands; given = λ reading is. absurd (none-reads reading is); fits = fits-at-first m.values s trees idle; held = held-at-first s idle; reads = λ reading is. absurd (none-reads reading is) }
     where
       none-reads : (reading : Reading) → IsReadingOf s.work reading → ⊥
       none-reads reading (of_caller l is) = let f = idle.readings l in cc
@@ -60,12 +60,12 @@ module _ {N E B W : Type 0} (m : Seen N B W) (lawful : IsLawful m.values) (reada
   stay s trees [] on does = tt
   stay s trees (x ∷ xs) on (does, more) = λ premised.
       let feels = does-feels m s x.after trees x.event x.reply on.whole on.fits premised.stays_open does in
-      let ready = held_gives_ready E m s trees readable on.fits on.held in
+      let ready = keys-ready m.values s trees readable on.fits on.held in
       let a = keeps-trees m lawful readable s x.after trees x.event x.reply on.stands on.given on.settled on.whole does.whole ready premised.well does.moves feels in
-      let fits = fits_on E m s x.after x.event x.reply trees a.after on.whole on.settled readable on.stands a.keeps (record { kept = feels.core.stored; last = feels.core.nodes }) does on.fits in
-      let held = held_on E m s x.after x.event x.reply on.whole premised.stays_open does on.held in
+      let fits = fits-on m s x.after trees a.after (record { kept = feels.core.stored; last = feels.core.nodes; trees = a.keeps }) on.fits on.whole on.stands.pager on.settled readable x.event x.reply does.step.happens does.writes in
+      let held = held-on m s x.after x.event x.reply on.whole premised.stays_open does on.held in
       let pins = pins-hold m (world_of s) (world_of x.after) x.event x.reply on.whole.pager.whole.handles does.step.happens in
-      let keys = fits_give_keys E m s x.after x.event x.reply trees a.after on.whole does a.stands on.fits fits on.held held in
+      let keys = keys-right m s x.after trees a.after on.fits fits on.whole does.whole a.stands on.held held x.event x.reply does.step.happens in
       let so : IsRight m.values s trees x.event x.reply x.after a.after =
       record { pins_give = pin-gives m s x.after trees a.after does.whole a.stands x.event x.reply pins; reads_give = reads-give m lawful readable s x.after trees a.after on.whole does.whole on.stands on.given on.reads a.keeps a.stands x.event x.reply does; leaves = keys.leaves; publishes = keys.publishes; key = keys.key } in (
         a.after,

@@ -7,6 +7,7 @@ use Rattle.pagable_world.specs.Plain.{Identity, if_there}
 use Rattle.pagable_world.specs.World.{Shelf, Slot, Outcome, failed, Written, Task, is_identity, SameShelf}
 use Rattle.pagable_world.specs.Workers.{with_slot, with_changed_slot, with_outcome, with_failed, is_open_outcome, IsPublished}
 use Rattle.pagable_world.specs.Headline.{Meets, meets-of-item, meets-entry, meets-below}
+use Rattle.pagable_laws.proofs.Sums.{same-number}
 
 -- the slot has the same worker, and what was written and the result stay
 pub record SlotGrows (slot slot' : Slot) : Type 0 where
@@ -79,9 +80,6 @@ same-slots v shelf shelf' same i = stays (same i)
 
 pub is-self : (i : Identity) → is_identity i i ≡ true
 is-self i = let a : (i.kind.0 == i.kind.0) ≡ true = grind (arith, nat_tests) in let b : (i.node.0 == i.node.0) ≡ true = grind (arith, nat_tests) in rw (a, b) refl
-
-same-number : (a b : ℕ) → (a == b) ≡ true → a ≡ b
-same-number a b e = grind (arith, nat_tests)
 
 pub is-same : (i j : Identity) → is_identity i j ≡ true → j ≡ i
 is-same i j is =

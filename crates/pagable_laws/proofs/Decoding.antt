@@ -3,7 +3,6 @@
 use Rattle.std.proofs.Common.{◌≡◌, ℕ, zero, suc, ◌+◌, ◌≤◌, ◌==◌, ◌&&◌, Bool, true, false, List, [], ◌∷◌, ◌++◌, Option, Some, None, Result, Ok, Err, if◌then◌else◌, ◌⊎◌, inl, inr, refl, sym, ap, ◌∙◌, subst, arith, sum_by}
 use Rattle.std.specs.Prelude.{slice_get}
 use Rattle.std.proofs.lemmas.Bool.{and_parts}
-use Rattle.std.proofs.lemmas.Bool.Decides.{nat_tests}
 use Rattle.pagable_model.specs.declared.error.Error.TheVariants as errors
 use Rattle.pagable_model.specs.Meaning.{number, integer, text, pattern, none, pair, variant, reference, followed}
 use Rattle.pagable_model.specs.References.{references_in, SameReferences}
@@ -19,7 +18,7 @@ use Rattle.pagable_laws.specs.ReadLaws.{LeadsTo, number-leads, integer-leads, te
 use Rattle.pagable_laws.proofs.Along.{Along, number-along, integer-along, text-along, pattern-along, none-along, pair-along, variant-along, reference-along, followed-along, AllTwo, no-two, more-two}
 use Rattle.pagable_laws.proofs.Related.{Out, both-given, both-refused, first-refused, OutLook, both-looked-up, first-not, read_par}
 use Rattle.pagable_laws.proofs.Trees.{tree_is, one_tree}
-use Rattle.pagable_laws.proofs.Sums.{one-true, self-number, at-most-sum, counted}
+use Rattle.pagable_laws.proofs.Sums.{same-number, one-true, self-number, at-most-sum, counted}
 
 -- any cause: what comes of a refusal isn't asked
 abbrev any_cause : Error → Type 0
@@ -44,9 +43,6 @@ next-key key (Err e) kind k is = absurd (cc)
 
 pub asks_next : AsksNext
 asks_next types frame kind key is = next-key _ _ kind key is
-
-same-number : (a b : ℕ) → (a == b) ≡ true → a ≡ b
-same-number a b e = grind (arith, nat_tests)
 
 -- ---- what is answered, place by place
 

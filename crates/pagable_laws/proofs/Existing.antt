@@ -10,7 +10,7 @@ use Rattle.pagable_world.specs.declared.handles.HandleRow.{HandleRow}
 use Rattle.pagable_world.specs.Kinds.{is_owner, is_owned_by, owner_value, is_at, is_pin, held}
 use Rattle.pagable_world.specs.Cascade.{is_outside, held_outside, pins_outside, loses_value, IsClosed, IsWithin, IsLeast}
 use Rattle.pagable_laws.specs.FallLaws.{OwnsNothing, IsGivenAlone}
-use Rattle.pagable_laws.proofs.Sums.{self-number, one-true, sum-le, at-most-sum, sum-plus, sum-zero, counted}
+use Rattle.pagable_laws.proofs.Sums.{same-number, self-number, one-true, sum-le, at-most-sum, sum-plus, sum-zero, counted}
 
 -- 1 for a handle outside the set; one of the node, one that pins it, one that its value owns; and one of the one set and not of the other
 abbrev outside : (ℕ → Bool) → HandleRow → ℕ
@@ -62,9 +62,6 @@ owner-of lost (owners.Worker v) goes = absurd (grind (arith, nat_tests))
 wider-by : (b : Bool) (came p q h k : ℕ) → q ≤ p → k ≤ h → (if b then nat_eq p 0 else nat_eq came 0 && nat_eq h 0) ≡ true → (if b then nat_eq q 0 else nat_eq came 0 && nat_eq k 0) ≡ true
 wider-by true came p q h k pins handles goes = grind (arith, nat_tests)
 wider-by false came p q h k pins handles goes = grind (arith, nat_tests)
-
-same-number : (a b : ℕ) → (a == b) ≡ true → a ≡ b
-same-number a b e = grind (arith, nat_tests)
 
 module _ (rows : List HandleRow) (keyed : ℕ → Bool) (entries : List HandleRow) where
   abbrev lost : (ℕ → Bool) → ℕ → Bool

@@ -13,6 +13,7 @@ use Rattle.pagable_world.specs.World.{Core, Cell, OpenLoad, Root, Last, Alike, t
 use Rattle.pagable_world.specs.Cascade.{AreNewEntries, Falls, FallsAnyhow, fallen, left_rows}
 use Rattle.pagable_world.specs.Calls.{row_of, with_handle, with_node, with_key, with_cached, next_node, moved}
 use Rattle.pagable_world.specs.LoadCalls.{with_load, adopted}
+use Rattle.pagable_laws.proofs.Sums.{same-number}
 use Rattle.pagable_laws.specs.TreeSteps.{Change, nothing_felt, sets_key, bears_known, Sets, Knows, Bears, BeginsWell}
 
 -- the row of a handle before: at the same node, and the same if it is a load's now; a loose handle stays loose
@@ -63,6 +64,12 @@ pub record Goes (c : Change) (w w' : Core) : Type 0 where
   pub rows : RowsGo w.last.handle w.rows w'.rows
   pub shut : IsShut w → IsShut w'
 
+pub le-self : (n : ℕ) → n ≤ n
+le-self n = omega arith
+
+pub le-more : (a b : ℕ) → a ≤ a + b
+le-more a b = omega arith
+
 -- ---- rows
 
 pub rows-self : (last : ℕ) (rows rows' : List HandleRow) → rows' ≡ rows → RowsGo last rows rows'
@@ -73,9 +80,6 @@ rows-then last more rows mid rows' le first second q row found few =
     let b = second q row found (omega arith) in
     let a = first q b.was b.live few in
     record { was = a.was; live = a.live; at = a.at ∙ b.at; mine = λ l is. let e = b.mine l is in a.mine l (ap (λ (r : HandleRow). r.owner) e ∙ is) ∙ e; loose = λ is. b.loose (a.loose is) }
-
-same-number : (a b : ℕ) → (a == b) ≡ true → a ≡ b
-same-number a b e = grind (arith, nat_tests)
 
 -- what is found has the number
 pub found-number : (q : ℕ) (rows : List HandleRow) (row : HandleRow) → find_row q rows ≡ Some row → row.number.0 ≡ q
@@ -218,16 +222,10 @@ alike {w} {w'} a =
 pub only-rows : {w : Core} {rows : List HandleRow} {list : List HandleNumber} {last : ℕ} → RowsGo w.last.handle w.rows rows → w.last.handle ≤ last → Quiet w (record w { rows = rows; list = list; last = record w.last { handle = last } })
 only-rows {w} go le =
     record { nodes = le-self w.last.node; handles = le; loads_last = le-self w.last.load; workers_last = le-self w.last.worker; cells = λ n cell is. is; stored = λ q blob is. is; loads = λ l load is. is; cache = λ kind key n is. is; rows = go; shut = λ is. is }
-  where
-    le-self : (n : ℕ) → n ≤ n
-    le-self n = omega arith
 
 if-some : {X : Type 0} (b : Bool) (x : Option X) (y : X) → (if b then x else None) ≡ Some y → x ≡ Some y
 if-some true x y is = is
 if-some false x y is = absurd (cc)
-
-le-more : (a b : ℕ) → a ≤ a + b
-le-more a b = omega arith
 
 pub fell : {before w w' : Core} {given : ℕ → Bool} {r : _} → Falls before w given r w' → Quiet w w'
 fell {before} {w} {w'} f = quiet-then {m = fallen w f.gone f.entries} falls (alike f.leaves)
@@ -254,9 +252,6 @@ pub a-handle : (w : Core) (node : NodeNumber) (mode : Mode) (owner : Owner) → 
 a-handle w node mode owner = only-rows (rows-more w.last.handle w.rows _ (λ q few. none-in-next w.last.handle q (row_of (w.last.handle + 1) node mode owner) refl few)) (le-more _ _)
 
 -- ---- steps that are felt
-
-le-self : (n : ℕ) → n ≤ n
-le-self n = omega arith
 
 pub quiet-goes : (c : Change) {w w' : Core} → Quiet w w' → Goes c w w'
 quiet-goes c q =

@@ -14,14 +14,12 @@ use Rattle.pagable_world.specs.World.{Core, Cell, row_at, type_at, key_at, is_he
 use Rattle.pagable_world.specs.Cascade.{AreNewEntries, Falls, left_rows}
 use Rattle.pagable_world.specs.Refusals.{refused_if, is_type, row_fault, reference_fault, references_fault, IsReference}
 use Rattle.pagable_laws.specs.TreeSteps.{AreGood, StaysAway}
+use Rattle.pagable_laws.proofs.Sums.{same-number}
 use Rattle.pagable_laws.proofs.Goes.{Quiet, alike, fell}
 
 or-none : {X : Type 0} (a b : Option X) → or_else a b ≡ None → (a ≡ None) × (b ≡ None)
 or-none None b is = (refl, is)
 or-none (Some x) b is = absurd (cc)
-
-same-number : (a b : ℕ) → (a == b) ≡ true → a ≡ b
-same-number a b e = grind (arith, nat_tests)
 
 pub same-owner : (o p : Owner) → is_owner o p ≡ true → p ≡ o
 same-owner owners.Caller owners.Caller is = refl

@@ -1,7 +1,6 @@
 -- What workers hold they hold after each event, and each cell whose key was published by a loose reference has a key.
-use Rattle.std.proofs.Common.{◌≡◌, ℕ, ◌==◌, Bool, true, false, List, [], ◌∷◌, ◌++◌, ◌⊎◌, inl, inr, Option, Some, None, Ok, Err, refl, sym, ap, subst, ◌∙◌, if◌then◌else◌, arith}
+use Rattle.std.proofs.Common.{◌≡◌, ℕ, Bool, true, false, List, [], ◌∷◌, ◌++◌, ◌⊎◌, inl, inr, Option, Some, None, Ok, Err, refl, sym, ap, subst, ◌∙◌, if◌then◌else◌, arith}
 use Rattle.std.specs.Prelude.{drop, length, max, nat_eq}
-use Rattle.std.proofs.lemmas.Bool.Decides.{nat_tests}
 use Rattle.pagable_model.specs.declared.data_key.OptionalDataKey.TheVariants as optional
 use Rattle.pagable_world.specs.declared.answers.Pinning.TheVariants as pinnings
 use Rattle.pagable_world.specs.declared.answers.Beginning.TheVariants as beginnings
@@ -9,7 +8,7 @@ use Rattle.pagable_world.specs.declared.events.Claim.TheVariants as claims
 use Rattle.pagable_world.specs.declared.events.PinStep.TheVariants as pinsteps
 use Rattle.pagable_world.specs.declared.events.Took.TheVariants as took
 use Rattle.pagable_world.specs.declared.events.Took.{Took}
-use Rattle.pagable_world.specs.Plain.{ArcRef, Identity, NodeNumber, HandleNumber, LoadNumber, updated, is_loose_kind, above, if_there}
+use Rattle.pagable_world.specs.Plain.{ArcRef, Identity, NodeNumber, HandleNumber, LoadNumber, is_loose_kind, above, if_there}
 use Rattle.pagable_world.specs.Kinds.{any_mode, identity_of, has_key, owner_worker}
 use Rattle.pagable_world.specs.World.{Core, Cell, Shelf, Slot, no_result, published, failed, Written, Open, Todo, to_start, to_pin, to_load, to_write, to_finish, to_item, to_set, to_publish, to_release, to_fail, Task, of_item, of_entry, is_identity, SameShelf, Seen}
 use Rattle.pagable_world.specs.Calls.{with_key, SetKeyCall}
@@ -28,6 +27,7 @@ use Rattle.pagable_laws.proofs.Calling.{pins, begins}
 use Rattle.pagable_laws.proofs.WalkSteps.{works-free, walk-goes}
 use Rattle.pagable_laws.proofs.Changing.{PutsSlot, puts-slot, put-cases, is-same}
 use Rattle.pagable_laws.proofs.Shelves.{keys-same}
+use Rattle.pagable_laws.proofs.Answering.{at-self}
 use Rattle.pagable_laws.proofs.Naming.{stands-on, key-on, all-on, claimed-stands, clone-stands}
 
 -- ---- lists
@@ -80,9 +80,6 @@ first-quiet (of_entry h i) = refl
 cell-keyed : (key : ℕ) (found : Option Cell) (cell : Cell) → if_there (λ (x : Cell). Some (record x { key = optional.Some key })) None found ≡ Some cell → has_key cell.key ≡ true
 cell-keyed key None cell is = absurd (cc)
 cell-keyed key (Some was) cell is = let e : record was { key = optional.Some key } ≡ cell = cc in ap (λ (x : Cell). has_key x.key) (sym e)
-
-at-self : {X : Type 0} (k : ℕ) (x : X) (f : ℕ → X) → updated k x f k ≡ x
-at-self k x f = let e : (k == k) ≡ true = grind (arith, nat_tests) in ap (λ b. if b then x else f k) e
 
 key-set : {w w' : Core} (v : ℕ) (r : ArcRef) (through : HandleNumber) (key : ℕ) (u : Unit {0}) → StandsAt w r through → SetKeyCall w (owner_worker v) through key (Ok u) w' → is_loose_kind r.kind.0 ≡ true → KeyIsSet w' r.node.0
 key-set {w} {w'} v r through key u s call kind = elim call.does [

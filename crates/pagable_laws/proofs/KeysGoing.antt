@@ -1,24 +1,26 @@
 -- Workers go on holding what they hold.
 use Rattle.std.proofs.Common.{◌≡◌, ℕ, true, false, List, ◌∷◌, inl, inr, Some, None, Ok, Err, refl, sym, ap, subst, ◌∙◌}
-use Rattle.pagable_world.specs.Plain.{ArcRef, Identity, WorkerNumber, ReadsTree, is_loose_kind, updated}
+use Rattle.pagable_world.specs.Plain.{ArcRef, Identity, WorkerNumber, Tree, ReadsTree, is_loose_kind, updated}
 use Rattle.pagable_world.specs.declared.events.Event.TheVariants as events
 use Rattle.pagable_world.specs.declared.events.Event.{Event}
 use Rattle.pagable_world.specs.declared.events.EventReply.TheVariants as answers
 use Rattle.pagable_world.specs.declared.events.EventReply.{EventReply}
 use Rattle.pagable_world.specs.declared.events.WorkerReply.{WorkerReply}
 use Rattle.pagable_world.specs.Kinds.{find_row}
-use Rattle.pagable_world.specs.World.{Core, Alike, Shelf, Todo, to_publish, Task, of_item, of_entry, Walking, World, Seen}
+use Rattle.pagable_world.specs.World.{Core, Alike, Shelf, Todo, to_publish, Task, of_item, of_entry, Walking, World, Values, Seen}
 use Rattle.pagable_world.specs.Workers.{Site, IsPublished, answer_after, first_todo}
 use Rattle.pagable_world.specs.Events.{WorkStays, WorkIs, no_shelf, new_walking, Ends, WorkerSteps, Happens}
-use Rattle.pagable_world.specs.Pager.{world_of, HandlesAreWhole}
-use Rattle.pagable_laws.specs.TreeSteps.{Change, nothing_felt}
-use Rattle.pagable_laws.specs.KeyRuns.{KeyIsSet, is_publishing, AllHold, HasHandle, KeysHeld, HeldAtFirst, HeldOn, HeldGivesReady}
+use Rattle.pagable_world.specs.Pager.{MachineState, world_of, HandlesAreWhole, IsMachineWhole, IsIdle}
+use Rattle.pagable_world.specs.Runs.{ReadsItsTypes, KeepsOpen, Does}
+use Rattle.pagable_laws.specs.TreeSteps.{Change, nothing_felt, KeysAreReady}
+use Rattle.pagable_laws.specs.KeyRuns.{KeyIsSet, is_publishing, AllHold, HasHandle, KeysHeld}
+use Rattle.pagable_laws.specs.PageOutLaws.{WorkFits}
 use Rattle.pagable_laws.proofs.Trees.{same_some}
 use Rattle.pagable_laws.proofs.Goes.{Goes, quiet-goes}
 use Rattle.pagable_laws.proofs.EventSteps.{ends-quiet, event-goes}
 use Rattle.pagable_laws.proofs.Shelves.{keys-same}
 use Rattle.pagable_laws.proofs.Publishing.{at-number}
-use Rattle.pagable_laws.proofs.Answering.{sets_key}
+use Rattle.pagable_laws.proofs.Answering.{sets-key}
 use Rattle.pagable_laws.proofs.Naming.{key-on, all-on}
 use Rattle.pagable_laws.proofs.Held.{walk-leaves, item-started, first-quiet}
 use Rattle.pagable_laws.proofs.Outlasting.{stands-whole}
@@ -27,8 +29,9 @@ use Rattle.pagable_laws.proofs.SparingSteps.{IsOthers, event-spares}
 
 -- ---- what workers hold
 
-pub held_at_first : (N E : Type 0) → HeldAtFirst N E
-held_at_first N E s idle = record { walks = λ n walking is. let f = idle.walkings n in absurd (cc); publishing = λ n walking r key height below is front. let f = idle.walkings n in absurd (cc); slots = λ t i key height p kind. let f = p.claimed in let g = idle.shelves t i in absurd (cc) }
+-- it is so where nobody works yet
+pub held-at-first : {N E : Type 0} (s : MachineState N E) → IsIdle s → KeysHeld (world_of s)
+held-at-first s idle = record { walks = λ n walking is. let f = idle.walkings n in absurd (cc); publishing = λ n walking r key height below is front. let f = idle.walkings n in absurd (cc); slots = λ t i key height p kind. let f = p.claimed in let g = idle.shelves t i in absurd (cc) }
 
 -- a handle that a step spares is there still
 handle-on : {w w' : Core} {v n : ℕ} → HandlesAreWhole w → Spares v w w' → HasHandle w v n → HasHandle w' v n
@@ -130,17 +133,18 @@ module _ {N B W : Type 0} (m : Seen N B W) (u u' : World) {c : Change} (goes : G
   event-holds (events.WorkerStep v) (answers.WorkerMoved (Err e)) spares h = work-stays (λ n. spares-alike n h.refused.2.core) h.refused.2.work
   event-holds event reply spares h = absurd h
 
-pub held_on : {N B W : Type 0} (E : Type 0) (m : Seen N B W) → HeldOn E m
-held_on E m s s' event reply whole stays does held =
+-- and after each event of a whole machine that doesn't close the storage
+pub held-on : {N B W E : Type 0} (m : Seen N B W) (s s' : MachineState N E) (event : Event N B W) (reply : EventReply N B W) → IsMachineWhole m.values s → KeepsOpen event → Does m s event reply s' → KeysHeld (world_of s) → KeysHeld (world_of s')
+held-on m s s' event reply whole stays does held =
     let happens = does.step.happens in
     event-holds m (world_of s) (world_of s') (event-goes m (world_of s) (world_of s') event reply stays happens).goes held whole.pager.whole.handles event reply
     (λ n others. event-spares m n (world_of s) (world_of s') whole.pager.whole.owners_there event reply others stays happens) happens
 
 -- ---- what is set
 
-pub held_gives_ready : {N B W : Type 0} (E : Type 0) (m : Seen N B W) → HeldGivesReady E m
+pub keys-ready : {N E : Type 0} (v : Values N) (s : MachineState N E) (trees : ℕ → Tree) → ReadsItsTypes v.types → WorkFits v s trees → KeysHeld (world_of s) → KeysAreReady v s trees
 unfolding AllHold
-held_gives_ready E m s trees reads fit held k key row sets =
+keys-ready v s trees reads fit held k key row sets =
     let all = subst (λ t. AllHold s.pager.core t) sets.sets (held.walks k.0 sets.walking sets.there) in
     let at = (all.0.is row sets.live).0 in
-    subst (λ n. ReadsTree s.pager.core.stored m.values.types key (trees n.0)) (sym at) (sets_key E m s trees reads fit k.0 sets.walking sets.r sets.through key sets.height sets.below sets.there sets.sets)
+    subst (λ n. ReadsTree s.pager.core.stored v.types key (trees n.0)) (sym at) (sets-key v s trees reads fit k.0 sets.walking sets.r sets.through key sets.height sets.below sets.there sets.sets)

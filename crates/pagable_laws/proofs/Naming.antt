@@ -1,5 +1,5 @@
 -- A handle that stands for a reference goes on to stand for it, and so does a clone of it; a key that was set stays.
-use Rattle.std.proofs.Common.{◌≡◌, ℕ, ◌+◌, ◌≤◌, ◌==◌, Bool, true, false, List, [], ◌∷◌, ◌++◌, ◌⊎◌, inl, inr, Option, Some, None, Ok, refl, sym, ap, subst, ◌∙◌, if◌then◌else◌, arith}
+use Rattle.std.proofs.Common.{◌≡◌, ℕ, ◌+◌, ◌≤◌, ◌==◌, Bool, true, false, List, [], ◌∷◌, ◌++◌, inl, inr, Option, Some, None, Ok, refl, sym, ap, subst, ◌∙◌, if◌then◌else◌, arith}
 use Rattle.std.specs.Prelude.{not}
 use Rattle.std.proofs.lemmas.Bool.Decides.{nat_tests}
 use Rattle.pagable_model.specs.declared.error.Error.TheVariants as errors
@@ -8,7 +8,7 @@ use Rattle.pagable_world.specs.declared.handles.HandleRow.{HandleRow}
 use Rattle.pagable_world.specs.declared.handles.Owner.{Owner}
 use Rattle.pagable_world.specs.declared.rows.Mode.{Mode}
 use Rattle.pagable_world.specs.declared.rows.Mode.TheVariants as modes
-use Rattle.pagable_world.specs.Kinds.{find_row, is_handle, is_loose, fits_mode, has_key}
+use Rattle.pagable_world.specs.Kinds.{find_row, is_loose, fits_mode, has_key}
 use Rattle.pagable_world.specs.World.{Core, Cell, Todo, to_start, to_pin, to_load, to_write, to_finish, to_item, to_set, to_publish, to_release, to_fail, row_at, type_at}
 use Rattle.pagable_world.specs.Refusals.{refused_if, is_type, row_fault}
 use Rattle.pagable_world.specs.Calls.{row_of, CloneCall}
@@ -18,6 +18,7 @@ use Rattle.pagable_laws.specs.TreeSteps.{Change}
 use Rattle.pagable_laws.specs.KeyRuns.{StandsAt, KeyIsSet, Holds, AllHold}
 use Rattle.pagable_laws.proofs.Trees.{same_some}
 use Rattle.pagable_laws.proofs.Goes.{Goes, Kept, found-number}
+use Rattle.pagable_laws.proofs.Outlasting.{stands-new}
 use Rattle.pagable_laws.proofs.Taking.{found-among}
 use Rattle.pagable_laws.proofs.Following.{given-of}
 
@@ -78,8 +79,8 @@ pub record IsClaimable (w : Core) (r : ArcRef) : Type 0 where
   pub fits : fits_mode r.kind.0 row.mode ≡ true
   pub typed : type_at w r.node.0 ≡ Some (type_of r.kind.0)
 
-pub claimable : (w : Core) (r : ArcRef) → claim_fault w r ≡ None → IsClaimable w r
-claimable w r may = by-row (row_at w r.handle) refl may
+pub may-claim : (w : Core) (r : ArcRef) → claim_fault w r ≡ None → IsClaimable w r
+may-claim w r may = by-row (row_at w r.handle) refl may
   where
     of-type : (t : ℕ) (found : Option ℕ) → is_type t found ≡ true → found ≡ Some t
     of-type t None e = absurd (cc)
@@ -108,27 +109,13 @@ module _ {w : Core} (whole : HandlesAreWhole w) where
 
   pub claimed-stands : (r : ArcRef) → claim_fault w r ≡ None → StandsAt w r r.handle
   claimed-stands r may =
-      let c = claimable w r may in
+      let c = may-claim w r may in
       record {
         node_given = (given-of whole r.node.0 c.typed).1;
         given = handle-given r.handle c.row c.live;
         is = λ row live. let same : c.row ≡ row = same_some _ _ (sym c.live ∙ live) in
             (ap (λ (x : HandleRow). x.node) (sym same) ∙ c.at, λ kind. loose-by r.kind.0 row.mode (ap (λ (x : HandleRow). fits_mode r.kind.0 x.mode) (sym same) ∙ c.fits) kind);
       }
-
-  -- what is found with one more handle was there, or is that one
-  found-more : (q : ℕ) (rows : List HandleRow) (new row : HandleRow) → find_row q (rows ++ new ∷ []) ≡ Some row → (find_row q rows ≡ Some row) ⊎ (row ≡ new)
-  unfolding find_row
-  found-more q [] new row is = by (is_handle q new) is
-    where
-      by : (b : Bool) → (if b then Some new else None) ≡ Some row → (None ≡ Some row) ⊎ (row ≡ new)
-      by true e = inr (sym (same_some _ _ e))
-      by false e = inl e
-  found-more q (h ∷ hs) new row is = by (is_handle q h) (λ e. found-more q hs new row e) is
-    where
-      by : (b : Bool) → (find_row q (hs ++ new ∷ []) ≡ Some row → (find_row q hs ≡ Some row) ⊎ (row ≡ new)) → (if b then Some h else find_row q (hs ++ new ∷ [])) ≡ Some row → ((if b then Some h else find_row q hs) ≡ Some row) ⊎ (row ≡ new)
-      by true rest e = inl e
-      by false rest e = rest e
 
   -- a clone stands for what its handle stands for
   pub clone-stands : {w' : Core} {me : Owner} (r : ArcRef) (k : HandleNumber) → StandsAt w r r.handle → CloneCall w me r.handle (Ok k) w' → StandsAt w' r k
@@ -139,11 +126,13 @@ module _ {w : Core} (whole : HandlesAreWhole w) where
       let old = s.is row call.made.1 in
       let same : w'.last.handle ≡ w.last.handle + 1 = ap (λ l. l.handle) a.last in
       let above : k.0 ≡ w.last.handle + 1 = next.above in
+      let made : HandleRow = row_of (w.last.handle + 1) row.node row.mode me in
+      let s_made = stands-new w.last.handle w.rows made (λ h among. (whole.numbered h among).1) refl in
       record {
         node_given = let b = s.node_given in let c : w'.last.node ≡ w.last.node = ap (λ l. l.node) a.last in omega arith;
         given = omega arith;
-        is = λ x live. elim (found-more k.0 w.rows (row_of (w.last.handle + 1) row.node row.mode me) x (subst (λ rows. find_row k.0 rows ≡ Some x) a.rows live)) [
-          | inl was ↦ let le = handle-given k x was in absurd (omega arith)
-          | inr new ↦ (ap (λ (y : HandleRow). y.node) new ∙ old.0, λ kind. ap (λ (y : HandleRow). is_loose y.mode) new ∙ old.1 kind)
-        ];
+        is = λ x live.
+            let found : find_row k.0 (w.rows ++ made ∷ []) ≡ Some x = subst (λ rows. find_row k.0 rows ≡ Some x) a.rows live in
+            let new : x ≡ made = s_made.only x (found-among k.0 (w.rows ++ made ∷ []) x found) (found-number k.0 (w.rows ++ made ∷ []) x found ∙ above) in
+            (ap (λ (y : HandleRow). y.node) new ∙ old.0, λ kind. ap (λ (y : HandleRow). is_loose y.mode) new ∙ old.1 kind);
       }

@@ -13,17 +13,15 @@ use Rattle.pagable_world.specs.Kinds.{find_row, is_handle, is_owner, is_owned_by
 use Rattle.pagable_world.specs.World.{Core, Last, Alike}
 use Rattle.pagable_world.specs.Cascade.{IsWithin, IsClosed, IsLeast, is_keyed, Falls, left_rows, fallen, owned_outside}
 use Rattle.pagable_world.specs.Pager.{IsHandleBefore, HandlesAreWhole}
-use Rattle.pagable_laws.proofs.Sums.{self-number, sum-zero, at-most-sum}
+use Rattle.pagable_laws.proofs.Sums.{same-number, self-number, sum-zero, at-most-sum}
 use Rattle.pagable_laws.proofs.Existing.{inside, wider}
 use Rattle.pagable_laws.proofs.Decoding.{among-either}
-use Rattle.pagable_laws.proofs.Goes.{found-number, none-in-new}
+use Rattle.pagable_laws.proofs.Trees.{same_some}
+use Rattle.pagable_laws.proofs.Goes.{le-more, found-number, none-in-new}
 
 -- no value's
 abbrev pub NotValues : Owner → Type 0
 NotValues o = (n : NodeNumber) → o ≡ owners.Value n → ⊥
-
-same-number : (a b : ℕ) → (a == b) ≡ true → a ≡ b
-same-number a b e = grind (arith, nat_tests)
 
 not-owned : (n : ℕ) (o : Owner) → NotValues o → is_owner (owner_value n) o ≡ false
 not-owned n owners.Caller free = refl
@@ -102,8 +100,11 @@ none-found q (x ∷ xs) h none among is = at (λ none a. none-found q xs h none 
         let f : is_handle q x ≡ true = ap (λ (y : HandleRow). y.number.0 == q) same ∙ (ap (λ n. n == q) is ∙ self-number q) in
         absurd (cc)
 
--- numbers above the last one have no row
-pub none-above : (last q : ℕ) (rows : List HandleRow) → ((h : HandleRow) → Among rows h → h.number.0 ≤ last) → last < q → find_row q rows ≡ None
+-- no number of a row is above this one
+abbrev pub AreUpTo : ℕ → List HandleRow → Type 0
+AreUpTo last rows = (h : HandleRow) → Among rows h → h.number.0 ≤ last
+
+pub none-above : (last q : ℕ) (rows : List HandleRow) → AreUpTo last rows → last < q → find_row q rows ≡ None
 none-above last q rows few above = at (find_row q rows) refl
   where
     at : (found : Option HandleRow) → find_row q rows ≡ found → find_row q rows ≡ None
@@ -117,14 +118,11 @@ once rows ordered a b (i, at) (j, there) same =
     let lt = slice_get_within rows i a at in
     let lt' = slice_get_within rows j b there in
     elim (cases_order i j) [
-      | inl equal ↦ some-is (sym at ∙ (ap (slice_get rows) equal ∙ there))
+      | inl equal ↦ same_some _ _ (sym at ∙ (ap (slice_get rows) equal ∙ there))
       | inr (inl before) ↦ absurd (let o = ordered i j a before lt' in before-self _ _ (ap (λ (h : HandleRow). h.number.0) n) (ap (λ (h : HandleRow). h.number.0) k) same o)
       | inr (inr after) ↦ absurd (let o = ordered j i a after lt in before-self _ _ (ap (λ (h : HandleRow). h.number.0) k) (ap (λ (h : HandleRow). h.number.0) n) (sym same) o)
     ]
   where
-    some-is : {x y : HandleRow} → Some x ≡ Some y → x ≡ y
-    some-is is = cc
-
     before-self : (x y : ℕ) {m n : ℕ} → x ≡ m → y ≡ n → m ≡ n → x < y → ⊥
     before-self x y a b c lt = absurd (omega arith)
 
@@ -147,7 +145,7 @@ module _ (test : HandleRow → Bool) (f : HandleRow → HandleRow) (same : (h : 
   abbrev after : HandleRow → HandleRow
   after h = if test h then f h else h
 
-  after-number : (h : HandleRow) → (after h).number ≡ h.number
+  pub after-number : (h : HandleRow) → (after h).number ≡ h.number
   after-number h = at (test h)
     where
       at : (b : Bool) → (if b then f h else h).number ≡ h.number
@@ -203,7 +201,7 @@ stands-more {last} {more_last} {rows} {q} {row} more le none s =
       given = let g = s.given in omega arith;
     }
 
-pub stands-new : (last : ℕ) (rows : List HandleRow) (row : HandleRow) → ((h : HandleRow) → Among rows h → h.number.0 ≤ last) → row.number.0 ≡ last + 1 → Stands (last + 1) (rows ++ row ∷ []) row.number.0 row
+pub stands-new : (last : ℕ) (rows : List HandleRow) (row : HandleRow) → AreUpTo last rows → row.number.0 ≡ last + 1 → Stands (last + 1) (rows ++ row ∷ []) row.number.0 row
 stands-new last rows row few next =
     let none = none-above last row.number.0 rows few (omega arith) in
     record {
@@ -244,6 +242,3 @@ stands-fell {before} {w} {w'} {given} {r} {q} {row} f free kept s =
     let stays = outlasts w.rows (is_keyed w) f.entries given f.gone f.set q (λ h a is. subst (λ (x : HandleRow). NotValues x.owner) (sym (s.only h a is)) free) kept row among (found-number q w.rows row s.live) in
     let left : Stands w.last.handle (left_rows f.gone w.rows) q row = record { live = found-kept f.gone q w.rows row stays s.live; only = λ h a is. s.only h (among-kept _ w.rows h a) is; given = s.given } in
     stands-alike {w = fallen w f.gone f.entries} f.leaves (stands-more f.entries (le-more _ _) (none-in-new w.last.handle q f.entries f.new s.given) left)
-  where
-    le-more : (a b : ℕ) → a ≤ a + b
-    le-more a b = omega arith

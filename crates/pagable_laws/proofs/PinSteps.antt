@@ -30,26 +30,21 @@ use Rattle.pagable_world.specs.Workers.{Site, PinsAtOnce, answer_after}
 use Rattle.pagable_world.specs.Events.{Ends, Happens}
 use Rattle.pagable_world.specs.Pager.{HandlesAreWhole}
 use Rattle.pagable_laws.specs.TreeSteps.{HasPin, PinHolds}
-use Rattle.pagable_laws.proofs.Outlasting.{NotValues, Stands, stands-new, stands-alike, stands-fell, among-changed, none-above}
+use Rattle.pagable_laws.proofs.Trees.{same_some}
+use Rattle.pagable_laws.proofs.Outlasting.{AreUpTo, after-number, NotValues, Stands, stands-new, stands-alike, stands-fell, among-changed, none-above}
 use Rattle.pagable_laws.proofs.Decoding.{among-either}
 
 -- no row has a number above the last one
 abbrev pub AreLow : Core → Type 0
-AreLow w = (h : HandleRow) → Among w.rows h → h.number.0 ≤ w.last.handle
+AreLow w = AreUpTo w.last.handle w.rows
 
 pub low-whole : {w : Core} → HandlesAreWhole w → AreLow w
 low-whole whole h among = (whole.numbered h among).1
 
-low-changed : (last : ℕ) (rows : List HandleRow) (test : HandleRow → Bool) (f : HandleRow → HandleRow) → ((h : HandleRow) → (f h).number ≡ h.number) → ((h : HandleRow) → Among rows h → h.number.0 ≤ last)
-    → (h : HandleRow) → Among (changed test f rows) h → h.number.0 ≤ last
+low-changed : (last : ℕ) (rows : List HandleRow) (test : HandleRow → Bool) (f : HandleRow → HandleRow) → ((h : HandleRow) → (f h).number ≡ h.number) → AreUpTo last rows → AreUpTo last (changed test f rows)
 low-changed last rows test f same low h among =
     let a = among-changed (λ h. if test h then f h else h) rows h among in
-    let n : h.number ≡ a.0.number = ap (λ (r : HandleRow). r.number) a.2 ∙ number (test a.0) a.0 in
-    subst (λ (k : HandleNumber). k.0 ≤ last) (sym n) (low a.0 a.1)
-  where
-    number : (b : Bool) (h : HandleRow) → (if b then f h else h).number ≡ h.number
-    number true h = same h
-    number false h = refl
+    subst (λ (k : HandleNumber). k.0 ≤ last) (sym (ap (λ (r : HandleRow). r.number) a.2 ∙ after-number test f same a.0)) (low a.0 a.1)
 
 -- the handle that was made last
 new-handle : (w : Core) (node : NodeNumber) (mode : Mode) (owner : Owner) → AreLow w → Stands (w.last.handle + 1) (w.rows ++ row_of (w.last.handle + 1) node mode owner ∷ []) (w.last.handle + 1) (row_of (w.last.handle + 1) node mode owner)
@@ -103,9 +98,6 @@ not-loose modes.LooseUnpinned is = absurd (cc)
 not-loose modes.Pinned is = refl
 not-loose modes.Shared is = refl
 
-some-is : {x y : HandleRow} → Some x ≡ Some y → x ≡ y
-some-is is = cc
-
 low-handle : (w m : Core) (node : NodeNumber) (mode : Mode) (owner : Owner) → AreLow w → Alike (with_handle w node mode owner) m → AreLow m
 low-handle w m node mode owner low a h among =
     let last : m.last.handle ≡ w.last.handle + 1 = ap (λ (l : Last). l.handle) a.last in
@@ -125,7 +117,7 @@ module _ {N B W : Type 0} (m : Seen N B W) (v : ℕ) (s s' : Site) (low : AreLow
     | inl (is, same, clone) ↦
         let c = clone-call s.core s'.core low (owner_worker v) r.handle k clone in
         let row : HandleRow = c.0 in
-        let e : is.row ≡ row = some-is (sym is.live ∙ c.1) in
+        let e : is.row ≡ row = same_some _ _ (sym is.live ∙ c.1) in
         pins-by s'.core k (s.core.last.handle + 1) clone.made.2.above c.2 (not-loose row.mode (ap (λ (x : HandleRow). is_loose x.mode) (sym e) ∙ is.sort))
     | inr (is, (mid, clone, pin)) ↦ pin-call mid s'.core (low-handle s.core mid _ _ _ low clone.made.3) (owner_worker v) through k pin
   ]

@@ -1,9 +1,7 @@
 -- Page-outs by trees: what tables and workers hold fits at first and after each event.
-use Rattle.std.proofs.Common.{◌≡◌, ℕ, ◌≤◌, ◌==◌, Bool, true, false, [], Option, Some, None, Ok, Err, refl, sym, ap, subst, ◌∙◌, if◌then◌else◌, arith}
-use Rattle.std.specs.Prelude.{not}
+use Rattle.std.proofs.Common.{◌≡◌, ℕ, ◌≤◌, ◌==◌, Bool, true, false, [], Some, None, Ok, Err, refl, sym, subst, ◌∙◌, if◌then◌else◌, arith}
 use Rattle.std.proofs.lemmas.Bool.Decides.{nat_tests}
-use Rattle.pagable_world.specs.Plain.{ArcRef, Identity, Blob, Tree, WorkerNumber, type_of, updated, if_there, or_else}
-use Rattle.pagable_model.specs.declared.error.Error.TheVariants as errors
+use Rattle.pagable_world.specs.Plain.{ArcRef, Identity, Blob, Tree, WorkerNumber, type_of, updated}
 use Rattle.pagable_world.specs.declared.events.Event.TheVariants as events
 use Rattle.pagable_world.specs.declared.events.Event.{Event}
 use Rattle.pagable_world.specs.declared.events.EventReply.TheVariants as answers
@@ -12,39 +10,21 @@ use Rattle.pagable_world.specs.declared.events.TableNumber.{TableNumber}
 use Rattle.pagable_world.specs.declared.events.Took.TheVariants as took
 use Rattle.pagable_world.specs.declared.events.Took.{Took}
 use Rattle.pagable_world.specs.declared.events.WorkerReply.{WorkerReply}
-use Rattle.pagable_world.specs.declared.handles.HandleRow.{HandleRow}
-use Rattle.pagable_world.specs.Kinds.{fits_mode}
-use Rattle.pagable_world.specs.World.{Core, Shelf, Slot, Task, of_item, of_entry, Walking, Values, Seen, type_at, row_at}
-use Rattle.pagable_world.specs.Refusals.{row_fault, is_type, refused_if}
+use Rattle.pagable_world.specs.World.{Core, Shelf, Slot, Task, of_item, of_entry, Walking, Values, Seen}
 use Rattle.pagable_world.specs.Workers.{Site, claim_fault, first_todo, answer_after}
 use Rattle.pagable_world.specs.Events.{WorkStays, WorkIs, no_shelf, new_walking, Starts, Ends, WorkerSteps, Happens}
-use Rattle.pagable_world.specs.Pager.{MachineState, world_of, IsMachineWhole, Represents, TookWrites, ReplyWrites}
+use Rattle.pagable_world.specs.Pager.{MachineState, world_of, IsMachineWhole, IsIdle, Represents, TookWrites, ReplyWrites}
 use Rattle.pagable_world.specs.Runs.{HoldsSettled, ReadsItsTypes}
-use Rattle.pagable_laws.specs.PageOutLaws.{Ground, ground_of, SlotFits, WroteTree, KeysSoFar, Waits, Walks, WorkFits, FitsAtFirst, FitsOn}
+use Rattle.pagable_laws.specs.PageOutLaws.{Ground, ground_of, SlotFits, WroteTree, KeysSoFar, Waits, Walks, WorkFits}
 use Rattle.pagable_laws.proofs.Trees.{same_some}
 use Rattle.pagable_laws.proofs.Following.{given-of, wrote}
+use Rattle.pagable_laws.proofs.Naming.{may-claim}
 use Rattle.pagable_laws.proofs.Shelves.{GroundGoes, Spares, mine-same, spares-all, walks-on}
 use Rattle.pagable_laws.proofs.Stepping.{started-item, walk-steps}
 
-pub fits_at_first : {N : Type 0} (E : Type 0) (v : Values N) → FitsAtFirst E v
-fits_at_first E v s trees idle = record { slots = λ t i slot is. let f = idle.shelves t i in absurd (cc); walks = λ n walking is. let f = idle.walkings n in absurd (cc) }
-
--- ---- what a claim may be of
-
-module _ (w : Core) (r : ArcRef) where
-  of-type : (t : ℕ) (found : Option ℕ) → is_type t found ≡ true → found ≡ Some t
-  of-type t None e = absurd (cc)
-  of-type t (Some u) e = let f : (u == t) ≡ true = e in let same : u ≡ t = grind (arith, nat_tests) in ap (λ z. Some z) same
-
-  if-none : (a b c : Bool) → (if not a then Some errors.NoSuchHandle else or_else None (if not b then Some errors.WrongMode else refused_if (not c) errors.WrongKind)) ≡ None → c ≡ true
-  if-none true true true e = refl
-  if-none true true false e = absurd (cc)
-  if-none true false c e = absurd (cc)
-  if-none false b c e = absurd (cc)
-
-  claim-typed : (row : Option HandleRow) → if_there (row_fault w r None) (Some errors.NoSuchHandle) row ≡ None → type_at w r.node.0 ≡ Some (type_of r.kind.0)
-  claim-typed None e = absurd (cc)
-  claim-typed (Some row) e = of-type _ _ (if-none (row.node.0 == r.node.0) (fits_mode r.kind.0 row.mode) (is_type (type_of r.kind.0) (type_at w r.node.0)) e)
+-- it fits where nobody works yet
+pub fits-at-first : {N E : Type 0} (v : Values N) (s : MachineState N E) (trees : ℕ → Tree) → IsIdle s → WorkFits v s trees
+fits-at-first v s trees idle = record { slots = λ t i slot is. let f = idle.shelves t i in absurd (cc); walks = λ n walking is. let f = idle.walkings n in absurd (cc) }
 
 -- ---- an event
 
@@ -145,7 +125,7 @@ module _ {N B W E : Type 0} (m : Seen N B W) (s s' : MachineState N E) (trees tr
     (whole : IsMachineWhole m.values s) (represents : Represents m.values s.pager trees) (settled : HoldsSettled m.values s.pager) (reads : ReadsItsTypes m.values.types) where
   claimable : (r : ArcRef) → claim_fault s.pager.core r ≡ None → (r.node.0 ≤ s.pager.core.last.node) × ((trees r.node.0).type ≡ type_of r.kind.0)
   claimable r may =
-      let typed = claim-typed s.pager.core r (row_at s.pager.core r.handle) may in
+      let typed = (may-claim s.pager.core r may).typed in
       let live = given-of whole.pager.whole.handles r.node.0 typed in
       (live.1, same_some _ _ (sym (represents.typed r.node.0 live.0) ∙ typed))
 
@@ -166,25 +146,22 @@ module _ {N B W E : Type 0} (m : Seen N B W) (s s' : MachineState N E) (trees tr
   starts : (t : TableNumber) (task : Task) (core : Core) (u : WorkerNumber) → Starts (world_of s) t task core u (world_of s') → WorkFits m.values s' trees'
   starts t task core u is = new-worker m.values s s' trees trees' goes fit u.0 (new_walking t task) s.work.last_table refl is.work
 
-  happens : (event : Event N B W) (reply : EventReply N B W) → Happens m (world_of s) event reply (world_of s') → ReplyWrites m s.pager reply → WorkFits m.values s' trees'
-  happens (events.Call call) (answers.CallReply r) is writes = stays-so is.work
-  happens (events.LoadStart h) (answers.Started r) is writes = stays-so is.work
-  happens (events.LoadKey key t) (answers.Started r) is writes = stays-so is.work
-  happens (events.LoadStep l) (answers.LoadMoved (Ok reply)) is writes = let x = is.moves in stays-so x.work
-  happens (events.LoadStep l) (answers.LoadMoved (Err e)) is writes = let x = is.refused.1 in stays-so x.work
-  happens events.TableNew (answers.TableMade (Ok t)) is writes =
+  -- each event keeps it
+  pub fits-on : (event : Event N B W) (reply : EventReply N B W) → Happens m (world_of s) event reply (world_of s') → ReplyWrites m s.pager reply → WorkFits m.values s' trees'
+  fits-on (events.Call call) (answers.CallReply r) is writes = stays-so is.work
+  fits-on (events.LoadStart h) (answers.Started r) is writes = stays-so is.work
+  fits-on (events.LoadKey key t) (answers.Started r) is writes = stays-so is.work
+  fits-on (events.LoadStep l) (answers.LoadMoved (Ok reply)) is writes = let x = is.moves in stays-so x.work
+  fits-on (events.LoadStep l) (answers.LoadMoved (Err e)) is writes = let x = is.refused.1 in stays-so x.work
+  fits-on events.TableNew (answers.TableMade (Ok t)) is writes =
       let x = is.made in
       new-table m.values s s' trees trees' goes fit t.0 t.0
       (λ n walking there at. let last = x.0 in let w = whole.walkings n walking there in let le = w.table.1 in absurd (omega arith)) x.3
-  happens events.TableNew (answers.TableMade (Err e)) is writes = let x = is.refused.1 in stays-so x.work
-  happens (events.WorkerItem t item) (answers.WorkerMade (Ok u)) is writes = starts t _ _ u is.starts
-  happens (events.WorkerItem t item) (answers.WorkerMade (Err e)) is writes = let x = is.refused.1 in stays-so x.work
-  happens (events.WorkerListed t i) (answers.WorkerMade (Ok u)) is writes = let x = is.starts in starts t _ _ u x.5
-  happens (events.WorkerListed t i) (answers.WorkerMade (Err e)) is writes = let x = is.refused.1 in stays-so x.work
-  happens (events.WorkerStep n) (answers.WorkerMoved (Ok reply)) is writes = worker-steps n reply is.moves writes
-  happens (events.WorkerStep n) (answers.WorkerMoved (Err e)) is writes = let x = is.refused.2 in stays-so x.work
-  happens event reply is writes = absurd is
-
-pub fits_on : {N B W : Type 0} (E : Type 0) (m : Seen N B W) → FitsOn E m
-fits_on E m s s' event reply trees trees' whole settled reads stands same goes does fit =
-    happens m s s' trees trees' (record { kept = goes.kept; last = goes.last; trees = same }) fit whole stands.pager settled reads event reply does.step.happens does.writes
+  fits-on events.TableNew (answers.TableMade (Err e)) is writes = let x = is.refused.1 in stays-so x.work
+  fits-on (events.WorkerItem t item) (answers.WorkerMade (Ok u)) is writes = starts t _ _ u is.starts
+  fits-on (events.WorkerItem t item) (answers.WorkerMade (Err e)) is writes = let x = is.refused.1 in stays-so x.work
+  fits-on (events.WorkerListed t i) (answers.WorkerMade (Ok u)) is writes = let x = is.starts in starts t _ _ u x.5
+  fits-on (events.WorkerListed t i) (answers.WorkerMade (Err e)) is writes = let x = is.refused.1 in stays-so x.work
+  fits-on (events.WorkerStep n) (answers.WorkerMoved (Ok reply)) is writes = worker-steps n reply is.moves writes
+  fits-on (events.WorkerStep n) (answers.WorkerMoved (Err e)) is writes = let x = is.refused.2 in stays-so x.work
+  fits-on event reply is writes = absurd is

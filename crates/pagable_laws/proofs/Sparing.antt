@@ -1,41 +1,25 @@
 -- A call leaves each handle of a worker as it is that doesn't ask: it is there afterwards, with its row.
-use Rattle.std.proofs.Common.{◌≡◌, ℕ, suc, zero, ◌+◌, ◌<◌, ◌≤◌, ◌==◌, ◌&&◌, ◌||◌, Bool, true, false, List, [], ◌∷◌, ◌++◌, Option, Some, None, Ok, Err, ◌⊎◌, inl, inr, refl, sym, ap, subst, ◌∙◌, if◌then◌else◌, arith}
-use Rattle.std.specs.Prelude.{Result, not, slice_get}
+use Rattle.std.proofs.Common.{◌≡◌, ℕ, suc, zero, ◌+◌, ◌<◌, ◌≤◌, ◌==◌, ◌&&◌, ◌||◌, Bool, true, false, List, [], ◌∷◌, Option, Some, refl, sym, ap, subst, ◌∙◌, if◌then◌else◌, arith}
+use Rattle.std.specs.Prelude.{not, slice_get}
 use Rattle.std.proofs.lemmas.Bool.{and_parts}
 use Rattle.std.proofs.lemmas.Bool.Decides.{nat_tests}
-use Rattle.pagable_model.specs.declared.data_key.OptionalDataKey.TheVariants as optional
-use Rattle.pagable_world.specs.declared.answers.Beginning.TheVariants as beginnings
-use Rattle.pagable_world.specs.declared.answers.Beginning.{Beginning}
-use Rattle.pagable_world.specs.declared.answers.Pinning.TheVariants as pinnings
-use Rattle.pagable_world.specs.declared.answers.Pinning.{Pinning}
-use Rattle.pagable_world.specs.declared.calls.Call.TheVariants as calls
-use Rattle.pagable_world.specs.declared.calls.Call.{Call}
-use Rattle.pagable_world.specs.declared.calls.Reply.TheVariants as replies
-use Rattle.pagable_world.specs.declared.calls.Reply.{Reply}
-use Rattle.pagable_world.specs.declared.calls.Want.TheVariants as wants
-use Rattle.pagable_world.specs.declared.calls.Want.{Want}
-use Rattle.pagable_world.specs.declared.events.Event.TheVariants as events
 use Rattle.pagable_world.specs.declared.handles.HandleRow.{HandleRow}
 use Rattle.pagable_world.specs.declared.handles.Owner.TheVariants as owners
 use Rattle.pagable_world.specs.declared.handles.Owner.{Owner}
-use Rattle.pagable_world.specs.declared.rows.Mode.TheVariants as modes
 use Rattle.pagable_world.specs.declared.rows.Mode.{Mode}
-use Rattle.pagable_world.specs.Plain.{Error, OptionalDataKey, ArcRef, Kind, HandleNumber, LoadNumber, NodeNumber, Among, changed, is_in, or_else, if_there, times, one}
-use Rattle.pagable_world.specs.Kinds.{find_row, is_handle, is_owner, is_owned_by, owner_value, owner_worker, is_loose, mode_of}
-use Rattle.pagable_world.specs.World.{Core, OpenLoad, Alike, Seen}
-use Rattle.pagable_world.specs.Cascade.{Falls, FallsAnyhow, nobody, only_handle}
-use Rattle.pagable_world.specs.Refusals.{Owns, earlier, refused_if, named_fault, IsReference}
-use Rattle.pagable_world.specs.Calls.{row_of, with_handle, with_mode, with_node, with_known, next_node, moved, is_named_by, BirthCall, CloneCall, PinCall, UnpinCall, ReleaseCall, SetKeyCall, ScheduleCall, TakeCall, RecallCall, OfferCall, IsRefused, Asked, StoreCall}
-use Rattle.pagable_world.specs.LoadCalls.{with_pin, without_load, is_owned_in, adopted, numbers_of, BeginCall, BeginKeyCall, AskCall, AsksInVain, Given, from_cache, from_store, AdoptCall, LazyCall, EndCall, EndRefused, HandOverCall, DropCall, LoadCloses, hand_over_fault}
+use Rattle.pagable_world.specs.Plain.{ArcRef, HandleNumber, LoadNumber, NodeNumber, Among, changed, if_there, one}
+use Rattle.pagable_world.specs.Kinds.{find_row, is_handle, is_owner, is_owned_by, owner_worker}
+use Rattle.pagable_world.specs.World.{Core, Alike}
+use Rattle.pagable_world.specs.Cascade.{Falls, nobody, only_handle}
+use Rattle.pagable_world.specs.Refusals.{Owns}
+use Rattle.pagable_world.specs.Calls.{row_of, with_handle, with_mode, moved, is_named_by}
+use Rattle.pagable_world.specs.LoadCalls.{is_owned_in}
 use Rattle.pagable_world.specs.Pager.{OwnersAreThere}
-use Rattle.pagable_world.specs.Runs.{KeepsOpen}
-use Rattle.pagable_world.specs.Events.{Does}
 use Rattle.pagable_laws.specs.TreeSteps.{AreGood}
 use Rattle.pagable_laws.proofs.Trees.{same_some}
 use Rattle.pagable_laws.proofs.Sums.{self-number, at-most-sum, counted, one-true}
 use Rattle.pagable_laws.proofs.Goes.{found-number, none-in-next}
-use Rattle.pagable_laws.proofs.GoodReferences.{good}
-use Rattle.pagable_laws.proofs.Outlasting.{NotValues, Stands, among-found, stands-alike, stands-changed, stands-more, stands-fell}
+use Rattle.pagable_laws.proofs.Outlasting.{NotValues, Stands, stands-alike, stands-changed, stands-more, stands-fell}
 
 module _ (v : ℕ) where
   -- each handle of the worker's that stands before stands afterwards

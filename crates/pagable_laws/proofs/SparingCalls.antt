@@ -1,6 +1,6 @@
 -- A call leaves each handle of a worker as it is that doesn't make it.
-use Rattle.std.proofs.Common.{◌≡◌, ℕ, suc, zero, ◌+◌, ◌<◌, ◌≤◌, ◌==◌, ◌&&◌, ◌||◌, Bool, true, false, List, [], ◌∷◌, ◌++◌, Option, Some, None, Ok, Err, ◌⊎◌, inl, inr, refl, sym, ap, subst, ◌∙◌, if◌then◌else◌, arith}
-use Rattle.std.specs.Prelude.{Result, not, nat_lt, slice_get}
+use Rattle.std.proofs.Common.{◌≡◌, ℕ, ◌+◌, ◌==◌, ◌||◌, Bool, true, false, List, [], ◌∷◌, Option, Some, None, Ok, Err, inl, inr, refl, ap, ◌∙◌, if◌then◌else◌, arith}
+use Rattle.std.specs.Prelude.{Result, not, nat_lt}
 use Rattle.std.proofs.lemmas.Bool.Decides.{nat_tests}
 use Rattle.pagable_model.specs.declared.data_key.OptionalDataKey.TheVariants as optional
 use Rattle.pagable_world.specs.declared.answers.Beginning.TheVariants as beginnings
@@ -20,22 +20,18 @@ use Rattle.pagable_world.specs.declared.handles.Owner.{Owner}
 use Rattle.pagable_world.specs.declared.rows.Mode.TheVariants as modes
 use Rattle.pagable_world.specs.declared.rows.Mode.{Mode}
 use Rattle.pagable_model.specs.declared.error.Error.TheVariants as errors
-use Rattle.std.specs.List.{remove}
-use Rattle.pagable_world.specs.Plain.{Error, OptionalDataKey, Blob, ArcRef, Kind, type_of, HandleNumber, LoadNumber, NodeNumber, Among, changed, is_in, or_else, if_there, times, one}
-use Rattle.pagable_world.specs.Kinds.{find_row, is_handle, is_owner, is_owned_by, owner_value, owner_worker, is_loose, mode_of}
+use Rattle.pagable_world.specs.Plain.{Error, OptionalDataKey, Blob, ArcRef, Kind, type_of, HandleNumber, LoadNumber, is_in, if_there}
+use Rattle.pagable_world.specs.Kinds.{find_row, is_owner, owner_value, owner_worker, mode_of}
 use Rattle.pagable_world.specs.World.{Core, OpenLoad, Alike, Seen, row_at}
-use Rattle.pagable_world.specs.Cascade.{Falls, FallsAnyhow, nobody, only_handle}
-use Rattle.pagable_world.specs.Refusals.{Owns, rank, earlier, refused_if, named_fault, IsReference}
-use Rattle.pagable_world.specs.Calls.{row_of, with_handle, with_mode, with_node, with_key, with_cached, with_known, next_node, moved, is_named_by, BirthCall, CloneCall, PinCall, UnpinCall, ReleaseCall, SetKeyCall, ScheduleCall, TakeCall, RecallCall, OfferCall, IsRefused, Asked, StoreCall}
-use Rattle.pagable_world.specs.LoadCalls.{with_pin, without_load, is_owned_in, adopted, numbers_of, BeginCall, BeginKeyCall, AskCall, AsksInVain, GetsKnown, Given, from_cache, from_store, AdoptCall, LazyCall, EndCall, EndRefused, HandOverCall, DropCall, LoadCloses, hand_over_fault}
+use Rattle.pagable_world.specs.Refusals.{rank, earlier, refused_if, named_fault}
+use Rattle.pagable_world.specs.Calls.{with_handle, with_mode, with_node, with_cached, next_node, moved, is_named_by, BirthCall, CloneCall, PinCall, UnpinCall, ReleaseCall, SetKeyCall, ScheduleCall, TakeCall, RecallCall, OfferCall, Asked, StoreCall}
+use Rattle.pagable_world.specs.LoadCalls.{without_load, is_owned_in, adopted, numbers_of, BeginCall, BeginKeyCall, AskCall, AsksInVain, GetsKnown, Given, from_cache, from_store, AdoptCall, LazyCall, EndCall, HandOverCall, DropCall, LoadCloses}
 use Rattle.pagable_world.specs.Pager.{OwnersAreThere}
 use Rattle.pagable_world.specs.Runs.{KeepsOpen}
 use Rattle.pagable_world.specs.Events.{Does}
 use Rattle.pagable_laws.specs.TreeSteps.{AreGood}
-use Rattle.pagable_laws.proofs.Sums.{self-number, at-most-sum, counted, one-true}
-use Rattle.pagable_laws.proofs.Goes.{found-number, none-in-next}
 use Rattle.pagable_laws.proofs.GoodReferences.{good}
-use Rattle.pagable_laws.proofs.Outlasting.{NotValues, Stands, among-found, stands-alike, stands-changed, stands-more, stands-fell}
+use Rattle.pagable_laws.proofs.Outlasting.{Stands}
 use Rattle.pagable_laws.proofs.Sparing.{Spares, Free, spares-then, spares-alike, then-alike, then-fell, itself, spares-handle, spares-made, moved-free, other-handle, mode-free, spares-mode, named-free, load-free, both-free, nobody-free, listed-free}
 
 module _ (v : ℕ) (w w' : Core) where

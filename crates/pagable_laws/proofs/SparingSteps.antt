@@ -1,8 +1,6 @@
 -- Each event leaves each handle of a worker as it is that doesn't make it.
-use Rattle.std.proofs.Common.{◌≡◌, ℕ, ◌+◌, ◌==◌, ◌&&◌, ◌||◌, Bool, true, false, List, [], ◌∷◌, Option, Some, None, Ok, Err, ◌⊎◌, inl, inr, refl, sym, ap, subst, ◌∙◌, if◌then◌else◌, arith}
+use Rattle.std.proofs.Common.{◌≡◌, ℕ, ◌==◌, ◌&&◌, ◌||◌, Bool, true, false, List, ◌∷◌, Option, Some, None, Ok, Err, ◌⊎◌, inl, inr, refl, ap, ◌∙◌, arith}
 use Rattle.std.proofs.lemmas.Bool.Decides.{nat_tests}
-use Rattle.pagable_world.specs.declared.answers.Pinning.TheVariants as pinnings
-use Rattle.pagable_world.specs.declared.answers.Beginning.TheVariants as beginnings
 use Rattle.pagable_world.specs.declared.events.Claim.TheVariants as claims
 use Rattle.pagable_world.specs.declared.events.LoadAnswer.TheVariants as ends
 use Rattle.pagable_world.specs.declared.events.LoadAnswer.{LoadAnswer}
@@ -11,7 +9,6 @@ use Rattle.pagable_world.specs.declared.events.Took.TheVariants as took
 use Rattle.pagable_world.specs.declared.events.Took.{Took}
 use Rattle.pagable_world.specs.declared.events.TableNumber.{TableNumber}
 use Rattle.pagable_world.specs.declared.events.WorkerAnswer.{WorkerAnswer}
-use Rattle.pagable_world.specs.declared.events.WorkerReply.{WorkerReply}
 use Rattle.pagable_world.specs.declared.events.Event.TheVariants as events
 use Rattle.pagable_world.specs.declared.events.Event.{Event}
 use Rattle.pagable_world.specs.declared.events.EventReply.TheVariants as answers
@@ -25,7 +22,7 @@ use Rattle.pagable_world.specs.World.{Core, Frame, Reading, Todo, to_start, to_p
 use Rattle.pagable_world.specs.LoadCalls.{EndCall, HandOverCall}
 use Rattle.pagable_world.specs.Loads as loads
 use Rattle.pagable_world.specs.Loads.{ReadingDoes, GoesOn, Meets, Fails, RefusesRoot, LoadIs, IsOfCell, IsOfKey, handles_of}
-use Rattle.pagable_world.specs.Workers.{Site, Does, PinsAtOnce, PinsByLoad, PinRefused, GivesBack, WorkerEnds, is_workers_at, is_workers, is_load_of}
+use Rattle.pagable_world.specs.Workers.{Site, Does, PinsAtOnce, PinsByLoad, PinRefused, GivesBack, is_workers_at, is_workers, is_load_of}
 use Rattle.pagable_world.specs.Events.{Starts, Ends, Happens}
 use Rattle.pagable_world.specs.Pager.{OwnersAreThere}
 use Rattle.pagable_world.specs.Runs.{KeepsOpen}

@@ -10,6 +10,10 @@ use Rattle.pagable_laws.specs.FallLaws.{PinsAreAFilter}
 pub self-number : (a : ℕ) → (a == a) ≡ true
 self-number a = grind (arith, nat_tests)
 
+-- and another with which it passes is it
+pub same-number : (a b : ℕ) → (a == b) ≡ true → a ≡ b
+same-number a b e = grind (arith, nat_tests)
+
 -- what counts is true
 pub one-true : (b : Bool) → 0 < one b → b ≡ true
 one-true true p = refl

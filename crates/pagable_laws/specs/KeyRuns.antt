@@ -5,13 +5,10 @@ use Rattle.pagable_world.specs.declared.handles.HandleRow.{HandleRow}
 use Rattle.pagable_world.specs.declared.events.Event.{Event}
 use Rattle.pagable_world.specs.declared.events.EventReply.{EventReply}
 use Rattle.pagable_world.specs.Kinds.{is_loose, has_key, owner_worker}
-use Rattle.pagable_world.specs.World.{Core, Cell, Todo, to_start, to_pin, to_load, to_write, to_finish, to_item, to_set, to_publish, to_release, to_fail, Walking, World, row_at, Values, Seen}
+use Rattle.pagable_world.specs.World.{Core, Cell, Todo, to_start, to_pin, to_load, to_write, to_finish, to_item, to_set, to_publish, to_release, to_fail, Walking, World, row_at, Values}
 use Rattle.pagable_world.specs.Workers.{IsPublished}
-use Rattle.pagable_world.specs.Pager.{MachineState, world_of, IsMachineWhole, IsIdle, StandsFor}
-use Rattle.pagable_world.specs.Runs.{ReadsItsTypes, KeepsOpen, Does}
+use Rattle.pagable_world.specs.Pager.{MachineState}
 use Rattle.pagable_world.specs.Headline.{PublishIsKey, AnswerIsKey, AnswerLeavesAll}
-use Rattle.pagable_laws.specs.TreeSteps.{KeysAreReady}
-use Rattle.pagable_laws.specs.PageOutLaws.{WorkFits}
 
 -- The handle stands for the reference, both of which were given: while it is live it is of the reference's node, and loose where the reference's kind is.
 pub record StandsAt (w : Core) (r : ArcRef) (h : HandleNumber) : Type 0 where
@@ -61,26 +58,8 @@ pub record KeysHeld (u : World) : Type 0 where
   pub publishing : (n : ℕ) (walking : Walking) (r : ArcRef) (key height : ℕ) (below : List Todo) → u.work.walkings n ≡ Some walking → walking.todo ≡ to_publish r key height ∷ below → HasHandle u.core n r.node.0
   pub slots : (t : ℕ) (i : Identity) (key height : ℕ) → IsPublished (u.work.shelves t) i key height → is_loose_kind i.kind.0 ≡ true → KeyIsSet u.core i.node.0
 
--- it is so where nobody works yet
-abbrev pub HeldAtFirst : (N E : Type 0) → Type 0
-HeldAtFirst N E = (s : MachineState N E) → IsIdle s → KeysHeld (world_of s)
-
--- and after each event of a whole machine that doesn't close the storage
-abbrev pub HeldOn : {N B W : Type 0} → (E : Type 0) → Seen N B W → Type 0
-HeldOn {N} {B} {W} E m = (s s' : MachineState N E) (event : Event N B W) (reply : EventReply N B W) → IsMachineWhole m.values s → KeepsOpen event → Does m s event reply s' → KeysHeld (world_of s) → KeysHeld (world_of s')
-
--- The key that a worker is about to set reads as the tree of its handle's node.
-abbrev pub HeldGivesReady : {N B W : Type 0} → (E : Type 0) → Seen N B W → Type 0
-HeldGivesReady {N} E m = (s : MachineState N E) (trees : ℕ → Tree) → ReadsItsTypes m.values.types → WorkFits m.values s trees → KeysHeld (world_of s) → KeysAreReady m.values s trees
-
 -- What keys are of one event: each that is published is its tree's, and a cell had one by then; each that is answered is its task's, and what was met then is left paged out, with keys of its cells.
 pub record KeysAreRight {N E B W : Type 0} (v : Values N) (s : MachineState N E) (trees : ℕ → Tree) (event : Event N B W) (reply : EventReply N B W) (s' : MachineState N E) (trees' : ℕ → Tree) : Type 0 where
   pub publishes : PublishIsKey v s trees event reply s' trees'
   pub key : AnswerIsKey v s trees event reply s' trees'
   pub leaves : AnswerLeavesAll v s trees event reply s' trees'
-
--- They are so where tables, workers and cells fit before and after.
-abbrev pub FitsGiveKeys : {N B W : Type 0} → (E : Type 0) → Seen N B W → Type 0
-FitsGiveKeys {N} {B} {W} E m =
-    (s s' : MachineState N E) (event : Event N B W) (reply : EventReply N B W) (trees trees' : ℕ → Tree) → IsMachineWhole m.values s → Does m s event reply s' → StandsFor m.values s' trees' → WorkFits m.values s trees → WorkFits m.values s' trees'
-    → KeysHeld (world_of s) → KeysHeld (world_of s') → KeysAreRight m.values s trees event reply s' trees'

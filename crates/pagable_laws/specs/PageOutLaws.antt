@@ -5,14 +5,11 @@ use Rattle.pagable_model.specs.Reading.{deepest}
 use Rattle.pagable_model.specs.Form.{Form}
 use Rattle.pagable_model.specs.Writing.{kind_of_arc}
 use Rattle.pagable_model.specs.Merkle.{blob_of, KeyOf, StoredTree}
-use Rattle.pagable_world.specs.Plain.{ArcRef, HandleNumber, Identity, Blob, Meaning, Shape, Tree, Types, ReadsTree, type_of, Among}
-use Rattle.pagable_world.specs.declared.events.Event.{Event}
-use Rattle.pagable_world.specs.declared.events.EventReply.{EventReply}
+use Rattle.pagable_world.specs.Plain.{ArcRef, Identity, Blob, Meaning, Shape, Tree, Types, type_of, Among}
 use Rattle.pagable_world.specs.Kinds.{identity_of}
-use Rattle.pagable_world.specs.World.{Core, Shelf, Slot, no_result, published, Written, Todo, to_start, to_pin, to_load, to_write, to_finish, to_item, to_set, to_publish, to_release, to_fail, Task, of_item, of_entry, Walking, Values, Seen, digest}
+use Rattle.pagable_world.specs.World.{Shelf, Slot, no_result, published, Written, Todo, to_start, to_pin, to_load, to_write, to_finish, to_item, to_set, to_publish, to_release, to_fail, Task, of_item, of_entry, Walking, Values, digest}
 use Rattle.pagable_world.specs.Workers.{IsPublished}
-use Rattle.pagable_world.specs.Pager.{MachineState, IsMachineWhole, IsIdle, StandsFor, SameTrees}
-use Rattle.pagable_world.specs.Runs.{Does, HoldsSettled, ReadsItsTypes}
+use Rattle.pagable_world.specs.Pager.{MachineState}
 use Rattle.pagable_world.specs.Headline.{AreKeysOf}
 
 -- what is stored, the last node, and the trees of nodes
@@ -145,28 +142,7 @@ pub record WorkFits {N E : Type 0} (v : Values N) (s : MachineState N E) (trees 
   pub slots : (t : ℕ) (i : Identity) (slot : Slot) → (s.work.shelves t).slots i ≡ Some slot → SlotFits v (ground_of s trees) (s.work.shelves t) i slot
   pub walks : (n : ℕ) (walking : Walking) → s.work.walkings n ≡ Some walking → Walks v (ground_of s trees) (s.work.shelves walking.table) n walking.task walking.todo
 
--- what was stored stays stored, and no number of a node is taken back
-pub record GoesOn (w w' : Core) : Type 0 where
-  pub kept : (key : ℕ) (b : Blob) → w.stored key ≡ Some b → w'.stored key ≡ Some b
-  pub last : w.last.node ≤ w'.last.node
-
--- it fits where nobody works yet
-abbrev pub FitsAtFirst : {N : Type 0} → (E : Type 0) → Values N → Type 0
-FitsAtFirst {N} E v = (s : MachineState N E) (trees : ℕ → Tree) → IsIdle s → WorkFits v s trees
-
--- Each event that goes on with what is stored keeps it, where the machine is whole and stands for the trees, and each node keeps its tree.
-abbrev pub FitsOn : {N B W : Type 0} → (E : Type 0) → Seen N B W → Type 0
-FitsOn {N} {B} {W} E m =
-    (s s' : MachineState N E) (event : Event N B W) (reply : EventReply N B W) (trees trees' : ℕ → Tree) → IsMachineWhole m.values s → HoldsSettled m.values s.pager → ReadsItsTypes m.values.types → StandsFor m.values s trees
-    → SameTrees s.pager.core.last.node trees trees' → GoesOn s.pager.core s'.pager.core → Does m s event reply s' → WorkFits m.values s trees → WorkFits m.values s' trees'
-
 -- the key is what the task has come to: over the keys that are known of its item's references, or of its entry
 abbrev pub IsDone : {N : Type 0} → Values N → Shelf → Task → ℕ → Type 0
 IsDone v shelf (of_item written) key = (keys : List ℕ) × AreKeysOf shelf written.references keys × (key ≡ digest v (blob_of written.bytes keys))
 IsDone v shelf (of_entry h i) key = (height : ℕ) × IsPublished shelf i key height
-
--- The key that a worker is about to set reads as the tree of its reference's node.
-abbrev pub SetsReadKeys : {N B W : Type 0} → (E : Type 0) → Seen N B W → Type 0
-SetsReadKeys {N} E m =
-    (s : MachineState N E) (trees : ℕ → Tree) → ReadsItsTypes m.values.types → WorkFits m.values s trees → (n : ℕ) (walking : Walking) (r : ArcRef) (through : HandleNumber) (key height : ℕ) (below : List Todo)
-    → s.work.walkings n ≡ Some walking → walking.todo ≡ to_set r through key height ∷ below → ReadsTree s.pager.core.stored m.values.types key (trees r.node.0)

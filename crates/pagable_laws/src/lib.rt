@@ -2,7 +2,6 @@
 //! Of the product only a law of `pagable` for carried types stands on this crate.
 #![tactic(auto)]
 
-pub mod keys;
 pub mod runs;
 pub mod values;
 pub mod worked;
