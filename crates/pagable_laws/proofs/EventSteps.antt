@@ -21,7 +21,7 @@ use Rattle.pagable_world.specs.LoadCalls.{BeginsKey}
 use Rattle.pagable_world.specs.Events.{ReadingsAre, Stays, begun_readings, KeyStarted, Starts, new_walking, Ends, WorkerSteps, Happens, with_worker}
 use Rattle.pagable_world.specs.Pager.{MachineState, world_of, IsWhole, HandlesAreWhole, IsMachineWhole, IsNewNode, EventBrings, TodoBrings, IsReadingOf, of_caller, of_worker}
 use Rattle.pagable_world.specs.Runs.{KeepsOpen, Does}
-use Rattle.pagable_laws.specs.TreeSteps.{Change, nothing_felt, CoreGoes, SameNode, NewNode, StaysAway, KeepsReadings, EventFeels, by-call, by-reading, by-key, by-nothing, StepFeels}
+use Rattle.pagable_laws.specs.TreeSteps.{Change, nothing_felt, CoreGoes, SameNode, NewNode, StaysAway, KeepsReadings, EventFeels, by-call, by-reading, by-key, by-nothing, StepFeels, IsFresh}
 use Rattle.pagable_laws.specs.PageOutLaws.{WorkFits, Waits, Walks, Ground}
 use Rattle.pagable_laws.proofs.Trees.{same_some}
 use Rattle.pagable_laws.proofs.Goes.{Quiet, Goes, Kept, NotLoads, rows-self, quiet-then, quiet-goes, goes-quiet, alike, fell-anyhow, at-updated}
@@ -30,7 +30,7 @@ use Rattle.pagable_laws.proofs.Calling.{some-moved, begins, begins-key}
 use Rattle.pagable_laws.proofs.Called.{calls-go}
 use Rattle.pagable_laws.proofs.ReadingSteps.{reading-feels, feels-alike}
 use Rattle.pagable_laws.proofs.ReadingStepsMachine.{reading-was, steps-load, stepped-load, steps-worker, stepped-worker}
-use Rattle.pagable_laws.proofs.WalkSteps.{NoLoad, WaitsWell, front_reading, IsFresh, LoadsAnew, started, WalkFeels, walk-loads, walk-sets, walk-rests, walk-goes}
+use Rattle.pagable_laws.proofs.WalkSteps.{NoLoad, WaitsWell, front_reading, LoadsAnew, started, WalkFeels, walk-loads, walk-sets, walk-rests, walk-goes}
 
 caller-free : NotLoads owners.Caller
 caller-free l is = absurd (cc)
@@ -95,7 +95,7 @@ module _ (u u' : World) where
   keeps-begun t beginnings.InMemory are within same reading is = keeps-all are same reading is
   keeps-begun t (beginnings.Load l k) are within same reading (of_worker n place walking r through below there todo) = inl (of_worker n place walking r through below (sym (same n) ∙ there) todo)
   keeps-begun t (beginnings.Load l k) are within same reading (of_caller q is) = elim (at-updated l.0 (Some (fresh l t)) u.work.readings q reading (reading-was (updated l.0 (Some (fresh l t)) u.work.readings) u' are q reading is).0) [
-    | inl (here, e) ↦ let f : fresh l t ≡ reading = same_some _ _ e in inr (subst (λ x. IsFresh u'.core x) f (refl, within l k refl))
+    | inl (here, e) ↦ let f : fresh l t ≡ reading = same_some _ _ e in inr (subst (λ x. IsFresh u'.core x) f (refl, refl, within l k refl))
     | inr old ↦ inl (of_caller q old)
   ]
 
@@ -167,7 +167,7 @@ module _ {N B W : Type 0} (m : Seen N B W) (u u' : World) where
         let q = ends-quiet reply.answer k.0 s.ends in
         let le = q.loads_last in
         keeps-but u u' s.readings k.0 (record s.walking { todo = s.after.todo; steps = reply.steps; answer = reply.answer }) s.work.same_walkings
-        (λ reading is. let a = anew reading is in let b = a.1 in (a.0, omega (arith, b, le)))
+        (λ reading is. let a = anew reading is in let b = a.2 in (a.0, a.1, omega (arith, b, le)))
 
     worker-feels : (c : Change) → WalkFeels m k.0 site s.after s.walking.todo c → IsWhole u.core → EventFeels {B = B} m.values u (events.WorkerStep k) (answers.WorkerMoved (Ok reply)) u' c
     worker-feels c (walk-loads c2 r place through reading below todo t opens feels) whole =

@@ -9,7 +9,7 @@ use Rattle.pagable_world.specs.Loads.{gone_on}
 use Rattle.pagable_world.specs.Pager.{MachineState, world_of, IsMachineWhole, StandsFor, FramesFit, ReadingFits, IsReadingOf, Moves, EventBrings}
 use Rattle.pagable_world.specs.Runs.{HoldsSettled, ReadsItsTypes, IsWellAsked}
 use Rattle.pagable_laws.specs.ReadLaws.{FramesGiven}
-use Rattle.pagable_laws.specs.TreeSteps.{Change, CoreGoes, ReadingFeels, EventFeels, by-call, by-reading, by-key, by-nothing, KeepsReadings, KeysAreReady, StepFeels}
+use Rattle.pagable_laws.specs.TreeSteps.{Change, CoreGoes, ReadingFeels, EventFeels, by-call, by-reading, by-key, by-nothing, KeepsReadings, KeysAreReady, StepFeels, IsFresh}
 use Rattle.pagable_laws.specs.TreeRuns.{ChangeFits, ReadingsGiven, TreesAfterEvent}
 use Rattle.pagable_laws.proofs.Trees.{same_some}
 use Rattle.pagable_laws.proofs.TreesGoing.{trees-go-on}
@@ -55,9 +55,9 @@ module _ {N E B W : Type 0} (m : Seen N B W) (s s' : MachineState N E) (trees tr
   fresh-goes reading none within = (nothing-yet m s' trees' reading none, within, none-given m s' trees' s'.pager.core.last.node reading.frames none)
 
   either-goes : KeepsReadings (world_of s) (world_of s') → (reading : Reading) → IsReadingOf s'.work reading → GoesOn reading
-  either-goes keeps reading is = elim (keeps reading is) [ inl was ↦ old-goes reading was | inr new ↦ fresh-goes reading new.0 new.1 ]
+  either-goes keeps reading is = elim (keeps reading is) [ inl was ↦ old-goes reading was | inr new ↦ fresh-goes reading new.0 new.2 ]
 
-  stepped-goes : (reading : Reading) (frames : List Frame) → IsReadingOf s.work reading ⊎ ((reading.frames ≡ []) × (reading.load.0 ≤ s.pager.core.last.load)) → (load : OpenLoad) → s.pager.core.loads reading.load.0 ≡ Some load
+  stepped-goes : (reading : Reading) (frames : List Frame) → IsReadingOf s.work reading ⊎ IsFresh s.pager.core reading → (load : OpenLoad) → s.pager.core.loads reading.load.0 ≡ Some load
       → ReadingFeels m.values s.pager.core reading None frames s'.pager.core c → GoesOn (gone_on reading frames)
   stepped-goes reading frames is load opened feels =
       let fit = fits-of m s trees stands given reading is in
@@ -67,9 +67,9 @@ module _ {N E B W : Type 0} (m : Seen N B W) (s s' : MachineState N E) (trees tr
       let b = goes.loads_last in
       (λ other at. let same : load ≡ other = same_some _ _ (sym opened ∙ was-open reading.load.0 other a at) in subst (λ (z : OpenLoad). FramesFit m.values.types s'.pager.core.stored trees' z.key reading.node_type frames) same after.fit, omega (arith, a, b), after.given)
     where
-      within : IsReadingOf s.work reading ⊎ ((reading.frames ≡ []) × (reading.load.0 ≤ s.pager.core.last.load)) → reading.load.0 ≤ s.pager.core.last.load
+      within : IsReadingOf s.work reading ⊎ IsFresh s.pager.core reading → reading.load.0 ≤ s.pager.core.last.load
       within (inl was) = (given reading was).0
-      within (inr new) = new.1
+      within (inr new) = new.2
 
   readings-on : {d : Change} (event : Event N B W) (reply : EventReply N B W) → d ≡ c → EventFeels m.values (world_of s) event reply (world_of s') d → (reading : Reading) → IsReadingOf s'.work reading → GoesOn reading
   readings-on event reply e (by-call c2 call answer called replied feels keeps) reading is = either-goes keeps reading is

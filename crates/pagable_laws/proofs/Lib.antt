@@ -36,6 +36,7 @@ mod ReadingSteps
 mod ReadingStepsMachine
 mod ReadingStepsKinds
 mod ReadingStepsBound
+mod ReadingStepsWaiting
 mod ReadingStepsWithin
 mod ReadingStepsHanding
 mod ReadingStepsHeld

@@ -5,7 +5,7 @@ use Rattle.std.specs.List.{AllPairs}
 use Rattle.std.proofs.lemmas.Bool.{cases_order}
 use Rattle.std.proofs.lemmas.Bool.Decides.{nat_tests}
 use Rattle.std.proofs.lemmas.Option.{get_or_from_slice_get, slice_get_within}
-use Rattle.pagable_world.specs.Plain.{HandleNumber, NodeNumber, Among, changed, one}
+use Rattle.pagable_world.specs.Plain.{HandleNumber, NodeNumber, Among, changed, one, or_else}
 use Rattle.pagable_world.specs.declared.handles.Owner.{Owner}
 use Rattle.pagable_world.specs.declared.handles.HandleRow.{HandleRow}
 use Rattle.pagable_world.specs.declared.handles.Owner.TheVariants as owners
@@ -77,14 +77,36 @@ pub record Stands (last : ℕ) (rows : List HandleRow) (q : ℕ) (row : HandleRo
   pub only : (h : HandleRow) → Among rows h → h.number.0 ≡ q → h ≡ row
   pub given : q ≤ last
 
-pub among-found : (q : ℕ) (rows : List HandleRow) (row : HandleRow) → find_row q rows ≡ Some row → Among rows row
+find-front : (q : ℕ) (h : HandleRow) (hs : List HandleRow) → is_handle q h ≡ true → find_row q (h ∷ hs) ≡ Some h
 unfolding find_row
-among-found q [] row found = absurd (cc)
-among-found q (h ∷ hs) row found = at (λ f. among-found q hs row f) (is_handle q h) refl found
+find-front q h hs is = rw is refl
+
+find-later : (q : ℕ) (h : HandleRow) (hs : List HandleRow) → is_handle q h ≡ false → find_row q (h ∷ hs) ≡ find_row q hs
+unfolding find_row
+find-later q h hs is = rw is refl
+
+-- what holds where the row stands in front, and goes over to longer lists
+found-by : (q : ℕ) (row : HandleRow) (P : List HandleRow → Type 0) → ((h : HandleRow) (hs : List HandleRow) → is_handle q h ≡ true → h ≡ row → P (h ∷ hs)) → ((h : HandleRow) (hs : List HandleRow) → is_handle q h ≡ false → P hs → P (h ∷ hs))
+    → (rows : List HandleRow) → find_row q rows ≡ Some row → P rows
+unfolding find_row
+found-by q row P front later [] found = absurd (cc)
+found-by q row P front later (h ∷ hs) found = at (λ f. found-by q row P front later hs f) (is_handle q h) refl found
   where
-    at : (find_row q hs ≡ Some row → Among hs row) → (b : Bool) → is_handle q h ≡ b → (if b then Some h else find_row q hs) ≡ Some row → Among (h ∷ hs) row
-    at rest true is found = (zero, found)
-    at rest false is found = let a = rest found in (suc a.0, a.1)
+    at : (find_row q hs ≡ Some row → P hs) → (b : Bool) → is_handle q h ≡ b → (if b then Some h else find_row q hs) ≡ Some row → P (h ∷ hs)
+    at rest true is found = front h hs is (same_some _ _ found)
+    at rest false is found = later h hs is (rest found)
+
+find-both : (q : ℕ) (xs ys : List HandleRow) → find_row q (xs ++ ys) ≡ or_else (find_row q xs) (find_row q ys)
+unfolding find_row
+find-both q [] ys = refl
+find-both q (h ∷ hs) ys = at (find-both q hs ys) (is_handle q h) refl
+  where
+    at : find_row q (hs ++ ys) ≡ or_else (find_row q hs) (find_row q ys) → (b : Bool) → is_handle q h ≡ b → find_row q (h ∷ hs ++ ys) ≡ or_else (find_row q (h ∷ hs)) (find_row q ys)
+    at rest true is = rw is refl
+    at rest false is = rw is rest
+
+pub among-found : (q : ℕ) (rows : List HandleRow) (row : HandleRow) → find_row q rows ≡ Some row → Among rows row
+among-found q rows row found = found-by q row (λ xs. Among xs row) (λ h hs is e. (zero, ap (λ (x : HandleRow). Some x) e)) (λ h hs is a. (suc a.0, a.1)) rows found
 
 -- where nothing is found, nothing has the number
 pub none-found : (q : ℕ) (rows : List HandleRow) (h : HandleRow) → find_row q rows ≡ None → Among rows h → h.number.0 ≡ q → ⊥
@@ -153,50 +175,29 @@ module _ (test : HandleRow → Bool) (f : HandleRow → HandleRow) (same : (h : 
       at false = refl
 
   found-after : (q : ℕ) (rows : List HandleRow) (row : HandleRow) → find_row q rows ≡ Some row → find_row q (changed test f rows) ≡ Some (after row)
-  unfolding find_row
-  found-after q [] row found = absurd (cc)
-  found-after q (h ∷ hs) row found = at (λ f. found-after q hs row f) (is_handle q h) refl found
+  found-after q rows row found =
+      found-by q row (λ xs. find_row q (changed test f xs) ≡ Some (after row)) (λ h hs is e. find-front q (after h) _ (still h is) ∙ ap (λ (x : HandleRow). Some (after x)) e) (λ h hs is a. find-later q (after h) _ (still h is) ∙ a) rows found
     where
-      at : (find_row q hs ≡ Some row → find_row q (changed test f hs) ≡ Some (after row)) → (b : Bool) → is_handle q h ≡ b → (if b then Some h else find_row q hs) ≡ Some row → find_row q (changed test f (h ∷ hs)) ≡ Some (after row)
-      at rest true is found =
-          let there : is_handle q (after h) ≡ true = ap (λ (k : HandleNumber). k.0 == q) (after-number h) ∙ is in
-          let e : h ≡ row = cc in
-          rw there (ap (λ r. Some (after r)) e)
-      at rest false is found =
-          let there : is_handle q (after h) ≡ false = ap (λ (k : HandleNumber). k.0 == q) (after-number h) ∙ is in
-          rw there (rest found)
+      still : {b : Bool} (h : HandleRow) → is_handle q h ≡ b → is_handle q (after h) ≡ b
+      still h is = ap (λ (k : HandleNumber). k.0 == q) (after-number h) ∙ is
 
   pub stands-changed : {last : ℕ} {rows : List HandleRow} {q : ℕ} {row : HandleRow} → Stands last rows q row → Stands last (changed test f rows) q (after row)
   stands-changed {last} {rows} {q} {row} s =
       record {
         live = found-after q rows row s.live;
-        only = λ h among is. let a = among-changed after rows h among in let e : a.0.number.0 ≡ q = sym (ap (λ (k : HandleNumber). k.0) (ap (λ (r : HandleRow). r.number) a.2 ∙ after-number a.0)) ∙ is in a.2 ∙ ap after (s.only a.0 a.1 e);
+        only = λ h among is.
+            let a = among-changed after rows h among in
+            let number : h.number ≡ a.0.number = ap (λ (r : HandleRow). r.number) a.2 ∙ after-number a.0 in
+            a.2 ∙ ap after (s.only a.0 a.1 (sym (ap (λ (k : HandleNumber). k.0) number) ∙ is));
         given = s.given;
       }
 
-found-front : (q : ℕ) (rows more : List HandleRow) (row : HandleRow) → find_row q rows ≡ Some row → find_row q (rows ++ more) ≡ Some row
-unfolding find_row
-found-front q [] more row found = absurd (cc)
-found-front q (h ∷ hs) more row found = at (λ f. found-front q hs more row f) (is_handle q h) refl found
-  where
-    at : (find_row q hs ≡ Some row → find_row q (hs ++ more) ≡ Some row) → (b : Bool) → is_handle q h ≡ b → (if b then Some h else find_row q hs) ≡ Some row → (if is_handle q h then Some h else find_row q (hs ++ more)) ≡ Some row
-    at rest true is found = rw is found
-    at rest false is found = rw is (rest found)
-
-found-end : (q : ℕ) (rows : List HandleRow) (row : HandleRow) → is_handle q row ≡ true → find_row q rows ≡ None → find_row q (rows ++ row ∷ []) ≡ Some row
-unfolding find_row
-found-end q [] row is none = rw is refl
-found-end q (h ∷ hs) row same none = at (λ f. found-end q hs row same f) (is_handle q h) refl none
-  where
-    at : (find_row q hs ≡ None → find_row q (hs ++ row ∷ []) ≡ Some row) → (b : Bool) → is_handle q h ≡ b → (if b then Some h else find_row q hs) ≡ None → (if is_handle q h then Some h else find_row q (hs ++ row ∷ [])) ≡ Some row
-    at rest true is none = absurd (cc)
-    at rest false is none = rw is (rest none)
-
 -- where rows of greater numbers come; and such a row itself
-pub stands-more : {last more_last : ℕ} {rows : List HandleRow} {q : ℕ} {row : HandleRow} (more : List HandleRow) → last ≤ more_last → find_row q more ≡ None → Stands last rows q row → Stands more_last (rows ++ more) q row
+pub stands-more : {last more_last : ℕ} {rows : List HandleRow} {q : ℕ} {row : HandleRow} (more : List HandleRow) → last ≤ more_last → find_row q more ≡ None → Stands last rows q row
+    → Stands more_last (rows ++ more) q row
 stands-more {last} {more_last} {rows} {q} {row} more le none s =
     record {
-      live = found-front q rows more row s.live;
+      live = find-both q rows more ∙ ap (λ x. or_else x (find_row q more)) s.live;
       only = λ h (i, at) is. elim (among-either rows more i h at) [ inl a ↦ s.only h a is | inr b ↦ absurd (none-found q more h none b is) ];
       given = let g = s.given in omega arith;
     }
@@ -205,7 +206,7 @@ pub stands-new : (last : ℕ) (rows : List HandleRow) (row : HandleRow) → AreU
 stands-new last rows row few next =
     let none = none-above last row.number.0 rows few (omega arith) in
     record {
-      live = found-end row.number.0 rows row (self-number row.number.0) none;
+      live = find-both row.number.0 rows (row ∷ []) ∙ (ap (λ x. or_else x (find_row row.number.0 (row ∷ []))) none ∙ find-front row.number.0 row [] (self-number row.number.0));
       only = λ h (i, at) is. elim (among-either rows (row ∷ []) i h at) [ inl a ↦ absurd (none-found row.number.0 rows h none a is) | inr b ↦ only-one h b ];
       given = omega arith;
     }
@@ -217,15 +218,14 @@ stands-new last rows row few next =
 -- ---- a cascade
 
 found-kept : (gone : ℕ → Bool) (q : ℕ) (rows : List HandleRow) (row : HandleRow) → gone q ≡ false → find_row q rows ≡ Some row → find_row q (left_rows gone rows) ≡ Some row
-unfolding find_row
-found-kept gone q [] row kept found = absurd (cc)
-found-kept gone q (h ∷ hs) row kept found = at (λ f. found-kept gone q hs row kept f) (is_handle q h) refl (gone h.number.0) refl found
+found-kept gone q rows row kept found = found-by q row (λ xs. find_row q (left_rows gone xs) ≡ Some row) front (λ h hs is a. later h hs is a (gone h.number.0) refl) rows found
   where
-    at : (find_row q hs ≡ Some row → find_row q (left_rows gone hs) ≡ Some row) → (b : Bool) → is_handle q h ≡ b → (d : Bool) → gone h.number.0 ≡ d → (if b then Some h else find_row q hs) ≡ Some row → find_row q (left_rows gone (h ∷ hs)) ≡ Some row
-    at rest true is true goes found = let e : gone q ≡ true = sym (ap gone (same-number _ _ is)) ∙ goes in absurd (cc)
-    at rest true is false goes found = let g : find_row q (h ∷ left_rows gone hs) ≡ Some row = rw is found in rw goes g
-    at rest false is true goes found = rw goes (rest found)
-    at rest false is false goes found = let g : find_row q (h ∷ left_rows gone hs) ≡ Some row = rw is (rest found) in rw goes g
+    front : (h : HandleRow) (hs : List HandleRow) → is_handle q h ≡ true → h ≡ row → find_row q (left_rows gone (h ∷ hs)) ≡ Some row
+    front h hs is e = let stays : gone h.number.0 ≡ false = ap gone (same-number _ _ is) ∙ kept in rw stays (find-front q h _ is ∙ ap (λ (x : HandleRow). Some x) e)
+
+    later : (h : HandleRow) (hs : List HandleRow) → is_handle q h ≡ false → find_row q (left_rows gone hs) ≡ Some row → (b : Bool) → gone h.number.0 ≡ b → find_row q (left_rows gone (h ∷ hs)) ≡ Some row
+    later h hs is a true goes = rw goes a
+    later h hs is a false goes = rw goes (find-later q h _ is ∙ a)
 
 among-kept : {X : Type 0} (test : X → Bool) (xs : List X) (x : X) → Among (filter test xs) x → Among xs x
 among-kept test [] x among = among
@@ -236,9 +236,12 @@ among-kept {X} test (y ∷ ys) x among = at (λ a. among-kept test ys x a) (test
     at rest true (suc i, is) = let a = rest (i, is) in (suc a.0, a.1)
     at rest false among = let a = rest among in (suc a.0, a.1)
 
-pub stands-fell : {before w w' : Core} {given : ℕ → Bool} {r : _} {q : ℕ} {row : HandleRow} → Falls before w given r w' → NotValues row.owner → given q ≡ false → Stands w.last.handle w.rows q row → Stands w'.last.handle w'.rows q row
+pub stands-fell : {before w w' : Core} {given : ℕ → Bool} {r : _} {q : ℕ} {row : HandleRow} → Falls before w given r w' → NotValues row.owner → given q ≡ false
+    → Stands w.last.handle w.rows q row → Stands w'.last.handle w'.rows q row
 stands-fell {before} {w} {w'} {given} {r} {q} {row} f free kept s =
     let among = among-found q w.rows row s.live in
-    let stays = outlasts w.rows (is_keyed w) f.entries given f.gone f.set q (λ h a is. subst (λ (x : HandleRow). NotValues x.owner) (sym (s.only h a is)) free) kept row among (found-number q w.rows row s.live) in
-    let left : Stands w.last.handle (left_rows f.gone w.rows) q row = record { live = found-kept f.gone q w.rows row stays s.live; only = λ h a is. s.only h (among-kept _ w.rows h a) is; given = s.given } in
+    let no_value = λ (h : HandleRow) (a : Among w.rows h) (is : h.number.0 ≡ q). subst (λ (x : HandleRow). NotValues x.owner) (sym (s.only h a is)) free in
+    let stays = outlasts w.rows (is_keyed w) f.entries given f.gone f.set q no_value kept row among (found-number q w.rows row s.live) in
+    let live = found-kept f.gone q w.rows row stays s.live in
+    let left : Stands w.last.handle (left_rows f.gone w.rows) q row = record { live = live; only = λ h a is. s.only h (among-kept _ w.rows h a) is; given = s.given } in
     stands-alike {w = fallen w f.gone f.entries} f.leaves (stands-more f.entries (le-more _ _) (none-in-new w.last.handle q f.entries f.new s.given) left)

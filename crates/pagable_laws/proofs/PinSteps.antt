@@ -41,7 +41,8 @@ AreLow w = AreUpTo w.last.handle w.rows
 pub low-whole : {w : Core} → HandlesAreWhole w → AreLow w
 low-whole whole h among = (whole.numbered h among).1
 
-low-changed : (last : ℕ) (rows : List HandleRow) (test : HandleRow → Bool) (f : HandleRow → HandleRow) → ((h : HandleRow) → (f h).number ≡ h.number) → AreUpTo last rows → AreUpTo last (changed test f rows)
+low-changed : (last : ℕ) (rows : List HandleRow) (test : HandleRow → Bool) (f : HandleRow → HandleRow) → ((h : HandleRow) → (f h).number ≡ h.number)
+    → AreUpTo last rows → AreUpTo last (changed test f rows)
 low-changed last rows test f same low h among =
     let a = among-changed (λ h. if test h then f h else h) rows h among in
     subst (λ (k : HandleNumber). k.0 ≤ last) (sym (ap (λ (r : HandleRow). r.number) a.2 ∙ after-number test f same a.0)) (low a.0 a.1)

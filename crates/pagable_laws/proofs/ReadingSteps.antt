@@ -25,6 +25,9 @@ pub record ReadingFelt {N : Type 0} (v : Values N) (w : Core) (reading : Reading
   pub opens : answer ≡ None → (load : OpenLoad) × (w.loads reading.load.0 ≡ Some load)
   pub feels : HandlesAreWhole w → ReadingFeels v w reading answer frames w' change
 
+pub caller-free : NotLoads owners.Caller
+caller-free l is = absurd (cc)
+
 module _ {N B W : Type 0} (m : Seen N B W) (w : Core) (me : Owner) (free : NotLoads me) (w' : Core) (reading : Reading) where
   abbrev RF : Option (LoadAnswer N) → List Frame → Type 0
   RF answer frames = ReadingFelt m.values w reading answer frames w'

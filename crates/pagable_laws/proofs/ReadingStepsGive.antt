@@ -1,6 +1,7 @@
 -- A value that a load of a key answers stands for the tree that the key reads as, and the caller has its references.
-use Rattle.std.proofs.Common.{◌≡◌, ℕ, zero, suc, ◌<◌, List, [], ◌∷◌, length, Ok, refl, sym, ap, subst, ◌∙◌, inl, inr, arith}
-use Rattle.std.specs.Prelude.{Option, Some, slice_get}
+use Rattle.std.proofs.Common.{◌≡◌, ℕ, zero, ◌<◌, [], Ok, refl, sym, ap, subst, ◌∙◌, inl, inr, arith}
+use Rattle.std.specs.Prelude.{Option, Some}
+use Rattle.std.proofs.lemmas.Option.{slice_get-get_or}
 use Rattle.pagable_world.specs.Plain.{ArcRef, Blob, LoadNumber, NodeNumber, Tree, Types, Among, type_of}
 use Rattle.pagable_world.specs.declared.handles.HandleRow.{HandleRow}
 use Rattle.pagable_world.specs.declared.handles.Owner.TheVariants as owners
@@ -20,29 +21,19 @@ use Rattle.pagable_world.specs.Headline.{ReadIsRight, ReadGives}
 use Rattle.pagable_laws.specs.TreeSteps.{HandsOver}
 use Rattle.pagable_laws.specs.TreeRuns.{ReadingsGiven}
 use Rattle.pagable_laws.specs.ReadRuns.{ReadingsHeld}
-use Rattle.pagable_laws.proofs.Goes.{NotLoads}
 use Rattle.pagable_laws.proofs.Fitting.{inside, frames_go_on}
 use Rattle.pagable_laws.proofs.Decoding.{decodes}
 use Rattle.pagable_laws.proofs.Taking.{row-held, root-right}
-use Rattle.pagable_laws.proofs.ReadingSteps.{reading-feels}
+use Rattle.pagable_laws.proofs.ReadingSteps.{caller-free, reading-feels}
 use Rattle.pagable_laws.proofs.ReadingStepsMachine.{reading-stands}
 use Rattle.pagable_laws.proofs.ReadingStepsHanding.{reads-hold}
-
-there-within : {X : Type 0} (xs : List X) (i : ℕ) → i < length xs → (x : X) × (slice_get xs i ≡ Some x)
-there-within [] i few = absurd (omega (arith, few))
-there-within (x ∷ xs) zero few = (x, refl)
-there-within (x ∷ xs) (suc i) few = there-within xs i (omega (arith, few))
 
 -- the tree of each node that was got is of its kind's type
 got-typed : {types : Types} {stored : ℕ → Option Blob} {trees : ℕ → Tree} (frame : Frame) → FrameFits types stored trees frame → (r : ArcRef) → Among frame.got r → (trees r.node.0).type ≡ type_of r.kind.0
 got-typed frame fits r (place, is) =
     let few = inside frame.got place r is in
     let most = fits.few in
-    let key = there-within frame.blob.keys place (omega (arith, few, most)) in
-    (fits.got place key.0 r is key.1).typed
-
-caller-free : NotLoads owners.Caller
-caller-free l is = absurd (cc)
+    (fits.got place _ r is (slice_get-get_or frame.blob.keys place 0 (omega (arith, few, most)))).typed
 
 module _ {N E B W : Type 0} (m : Seen N B W) (lawful : IsLawful m.values) (readable : ReadsItsTypes m.values.types) (s s' : MachineState N E) (trees trees' : ℕ → Tree) (whole : IsMachineWhole m.values s) (whole' : IsMachineWhole m.values s') (stands : StandsFor m.values s trees)
     (given : ReadingsGiven s) (got_held : ReadingsHeld (world_of s)) (same : SameTrees s.pager.core.last.node trees trees') (stands' : StandsFor m.values s' trees') where

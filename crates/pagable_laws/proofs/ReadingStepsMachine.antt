@@ -19,7 +19,7 @@ use Rattle.pagable_world.specs.Workers as workers
 use Rattle.pagable_world.specs.Workers.{Site, fresh}
 use Rattle.pagable_world.specs.Events.{ReadingsAre, reading_of_root, reading_of_load, reading_at, reading_after, LoadSteps, WorkerSteps}
 use Rattle.pagable_world.specs.Pager.{IsWhole, IsReadingOf, of_caller, of_worker}
-use Rattle.pagable_laws.specs.TreeSteps.{IsSteppedReading, StepsReading}
+use Rattle.pagable_laws.specs.TreeSteps.{IsSteppedReading, StepsReading, IsFresh}
 use Rattle.pagable_laws.proofs.Trees.{same_some}
 use Rattle.pagable_laws.proofs.Goes.{at-updated}
 
@@ -72,7 +72,7 @@ module _ {N : Type 0} {v : Values N} {u u' : World} {l : LoadNumber} {reply : Lo
   stepped-load {B} {W} whole event is =
       let P : Event N B W → Type 0 = λ e. IsSteppedReading u e s.reading in
       let stands = reading-stands u whole l s.reading s.at in
-      subst P (sym is) (s.at, elim stands [ inl there ↦ inl (of_caller l.0 there) | inr begun ↦ inr (begun.0, subst (λ (z : LoadNumber). z.0 ≤ u.core.last.load) (sym begun.2) begun.3) ])
+      subst P (sym is) (s.at, elim stands [ inl there ↦ inl (of_caller l.0 there) | inr begun ↦ inr (begun.0, begun.1, subst (λ (z : LoadNumber). z.0 ≤ u.core.last.load) (sym begun.2) begun.3) ])
 
 -- ---- a load of a worker's
 
@@ -116,7 +116,7 @@ module _ {N B W : Type 0} {m : Seen N B W} {u u' : World} {k : WorkerNumber} {re
       subst P (sym is) (s.walking, r, place, through, below, s.at, todo)
 
 -- the reading that makes the step is the machine's, or has just begun
-pub is-reading-of : {N B W : Type 0} (u : World) (event : Event N B W) (reading : Reading) → IsSteppedReading u event reading → IsReadingOf u.work reading ⊎ ((reading.frames ≡ []) × (reading.load.0 ≤ u.core.last.load))
+pub is-reading-of : {N B W : Type 0} (u : World) (event : Event N B W) (reading : Reading) → IsSteppedReading u event reading → IsReadingOf u.work reading ⊎ IsFresh u.core reading
 is-reading-of u (events.LoadStep l) reading stepped = stepped.1
 is-reading-of u (events.WorkerStep k) reading (walking, r, place, through, below, there, todo) = inl (of_worker k.0 place walking r through below there todo)
 is-reading-of u event reading stepped = absurd stepped

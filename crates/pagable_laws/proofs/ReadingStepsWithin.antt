@@ -1,9 +1,7 @@
 -- Each step of a load of the caller's is within its bound, and one that is open has a step left, along every chain.
-use Rattle.std.proofs.Common.{◌≡◌, ℕ, ◌+◌, ◌*◌, ◌≤◌, ◌<◌, ◌⊎◌, true, List, [], ◌∷◌, Ok, Err, refl, sym, ap, subst, ◌∙◌, inl, inr, arith}
-use Rattle.std.specs.Prelude.{Option, Some, None, is_some, IsSome}
+use Rattle.std.proofs.Common.{◌≡◌, ℕ, ◌+◌, ◌*◌, ◌≤◌, ◌⊎◌, List, [], ◌∷◌, Ok, refl, sym, ap, subst, ◌∙◌, inl, inr, arith}
+use Rattle.std.specs.Prelude.{Option, Some, None, IsSome}
 use Rattle.pagable_world.specs.Plain.{Blob, Types, LoadNumber}
-use Rattle.pagable_model.specs.declared.error.Error.TheVariants as errors
-use Rattle.pagable_world.specs.declared.answers.Beginning.TheVariants as beginnings
 use Rattle.pagable_world.specs.declared.calls.Call.TheVariants as calls
 use Rattle.pagable_world.specs.declared.calls.Reply.TheVariants as replies
 use Rattle.pagable_world.specs.declared.handles.Owner.TheVariants as owners
@@ -14,21 +12,20 @@ use Rattle.pagable_world.specs.declared.events.EventReply.TheVariants as answers
 use Rattle.pagable_world.specs.declared.events.LoadReply.{LoadReply}
 use Rattle.pagable_world.specs.World.{Core, OpenLoad, Reading, Frame, World, Values, Seen, one_more}
 use Rattle.pagable_world.specs.Loads.{gone_on}
-use Rattle.pagable_world.specs.Workers.{fresh}
 use Rattle.pagable_world.specs.Calls.{CloseCall}
-use Rattle.pagable_world.specs.Refusals.{load_fault}
-use Rattle.pagable_world.specs.Events.{Happens, ReadingsAre, LoadSteps, begun_readings}
-use Rattle.pagable_world.specs.Pager.{MachineState, world_of, IsMachineWhole, IsIdle}
+use Rattle.pagable_world.specs.Events.{Happens, LoadSteps}
+use Rattle.pagable_world.specs.Pager.{MachineState, world_of, IsReadingOf, of_caller, of_worker, IsMachineWhole, IsIdle}
 use Rattle.pagable_world.specs.Runs.{KeepsOpen, Moment, AreMoments, state_after}
 use Rattle.pagable_world.specs.Order.{Unfolds, unfolds, HasStepLeft, IsWithinBound}
 use Rattle.pagable_world.specs.Headline.{StepIsWithin, StepsAreWithin, LoadsHaveStepsLeft}
 use Rattle.pagable_laws.specs.ReadLaws.{KeepsStored}
-use Rattle.pagable_laws.specs.TreeSteps.{Change, ReadingFeels}
+use Rattle.pagable_laws.specs.TreeSteps.{Change, IsFresh, KeepsReadings, ReadingFeels, EventFeels, by-call, by-reading, by-key, by-nothing}
 use Rattle.pagable_laws.proofs.Trees.{same_some}
-use Rattle.pagable_laws.proofs.Goes.{IsShut, NotLoads, at-updated}
-use Rattle.pagable_laws.proofs.EventSteps.{event-goes}
-use Rattle.pagable_laws.proofs.ReadingSteps.{reading-feels}
-use Rattle.pagable_laws.proofs.ReadingStepsMachine.{reading-was, reading-stands, caller-was}
+use Rattle.pagable_laws.proofs.Goes.{IsShut, Goes}
+use Rattle.pagable_laws.proofs.EventSteps.{EventGoes, event-goes}
+use Rattle.pagable_laws.proofs.ReadingSteps.{caller-free, reading-feels}
+use Rattle.pagable_laws.proofs.ReadingStepsMachine.{reading-stands, is-reading-of}
+use Rattle.pagable_laws.proofs.ReadingStepsWaiting.{AllBelowWait, waits-well, event-waits}
 use Rattle.pagable_laws.proofs.ReadingStepsBound.{Owes, owes-first, owes-some, owes-less}
 
 -- ---- one load
@@ -86,28 +83,13 @@ is-within {types = types} {store} {key} reading frames reply b after counts many
 nothing-unfolds : {types : Types} {store : ℕ → Option Blob} {t key many longest : ℕ} → ((q : ℕ) → store q ≡ None) → Unfolds types store t key many longest → ⊥
 nothing-unfolds none (unfolds t key many longest blob there from) = let e = none key in absurd (cc)
 
--- nothing is stored any more, or each load is bounded
+-- each load, of the caller's or of a worker's, was given its number and is bounded
+abbrev AllBounded : Types → World → Type 0
+AllBounded types u = (reading : Reading) → IsReadingOf u.work reading → (reading.load.0 ≤ u.core.last.load) × ((load : OpenLoad) → u.core.loads reading.load.0 ≡ Some load → Bounded types u.core.stored load.key reading)
+
+-- so it is, or nothing is stored any more
 abbrev LoadsStand : Types → World → Type 0
-LoadsStand types u = IsShut u.core ⊎ ((l : ℕ) (reading : Reading) (load : OpenLoad) → u.work.readings l ≡ Some reading → u.core.loads l ≡ Some load → Bounded types u.core.stored load.key reading)
-
--- this load of the caller's went on
-record Stepped {N : Type 0} (v : Values N) (u u' : World) (q : ℕ) (after : Reading) : Type 0 where
-  l : LoadNumber
-  reply : LoadReply N
-  s : LoadSteps v u l reply u'
-  here : q ≡ l.0
-  goes : reply.ended ≡ None
-  is : after ≡ gone_on s.reading s.frames
-
-fault-open : (w : Core) (l : LoadNumber) → load_fault w owners.Caller l ≡ None → is_some (w.loads l.0) ≡ true
-fault-open w l none = of (w.loads l.0) refl
-  where
-    of : (found : Option OpenLoad) → w.loads l.0 ≡ found → is_some (w.loads l.0) ≡ true
-    of None e = let f : Some errors.NoSuchHandle ≡ None = rw e at none in absurd (cc)
-    of (Some load) e = ap is_some e
-
-caller-free : NotLoads owners.Caller
-caller-free l is = absurd (cc)
+LoadsStand types u = AllBelowWait u × (IsShut u.core ⊎ AllBounded types u)
 
 closed-shut : {w w' : Core} {r : _} → CloseCall w r w' → IsShut w'
 closed-shut c = (c.falls.falls.leaves.closed, c.falls.falls.leaves.stored)
@@ -123,50 +105,63 @@ module _ {N E B W : Type 0} (m : Seen N B W) (s s' : MachineState N E) (whole : 
   abbrev u' : World
   u' = world_of s'
 
-  abbrev Source : ℕ → Reading → Type 0
-  Source q after = (u.work.readings q ≡ Some after) ⊎ ((after.frames ≡ []) × (after.steps ≡ 0)) ⊎ Stepped m.values u u' q after
+  -- a load that is open afterwards was open before
+  were-open : {c : Change} → Goes c u.core u'.core → (q : ℕ) (load : OpenLoad) → q ≤ u.core.last.load → u'.core.loads q ≡ Some load → u.core.loads q ≡ Some load
+  were-open goes q load few is = elim (goes.loads q load is) [ inl same ↦ same | inr new ↦ absurd (let above = new.0 in omega (arith, few, above)) ]
 
-  stay : ReadingsAre u.work.readings u' → (q : ℕ) (after : Reading) → u'.work.readings q ≡ Some after → Source q after
-  stay are q after is = inl (reading-was u.work.readings u' are q after is).0
+  module _ {c : Change} (goes : Goes c u.core u'.core) (all : AllBounded m.values.types u) where
+    old-bounded : (reading : Reading) → IsReadingOf u.work reading → (reading.load.0 ≤ u'.core.last.load) × ((load : OpenLoad) → u'.core.loads reading.load.0 ≡ Some load → Bounded m.values.types u'.core.stored load.key reading)
+    old-bounded reading is =
+        let b = all reading is in
+        let few = b.0 in
+        let more = goes.loads_last in
+        (omega (arith, few, more), λ load is_open. bounded-on reading goes.stored (b.1 load (were-open goes reading.load.0 load b.0 is_open)))
 
-  -- where a reading of the caller's comes from
-  source : (event : Event N B W) (reply : EventReply N B W) → Happens m u event reply u' → (q : ℕ) (after : Reading) → u'.work.readings q ≡ Some after → Source q after
-  source (events.Call call) (answers.CallReply r) h q after is = stay h.readings q after is
-  source (events.LoadStart k) (answers.Started r) h q after is = stay h.readings q after is
-  source (events.LoadKey key t) (answers.Started (Ok beginnings.InMemory)) h q after is = stay h.begun q after is
-  source (events.LoadKey key t) (answers.Started (Ok (beginnings.Load l k))) h q after is = elim (at-updated l.0 (Some (fresh l t)) u.work.readings q after (reading-was (begun_readings (beginnings.Load l k) t u.work.readings) u' h.begun q after is).0) [
-    | inl (here, e) ↦ let same : fresh l t ≡ after = same_some _ _ e in inr (inl (ap (λ (r : Reading). r.frames) (sym same), ap (λ (r : Reading). r.steps) (sym same)))
-    | inr old ↦ inl old
-  ]
-  source (events.LoadKey key t) (answers.Started (Err e)) h q after is = stay h.refused q after is
-  source (events.LoadStep l) (answers.LoadMoved (Ok reply)) h q after is = elim (caller-was h.moves q after is) [
-    | inl old ↦ inl old
-    | inr (here, goes, same) ↦ inr (inr (record { l = l; reply = reply; s = h.moves; here = here; goes = goes; is = same }))
-  ]
-  source (events.LoadStep l) (answers.LoadMoved (Err e)) h q after is = stay h.refused.1.readings q after is
-  source events.TableNew (answers.TableMade (Ok t)) h q after is = stay h.made.2 q after is
-  source events.TableNew (answers.TableMade (Err e)) h q after is = stay h.refused.1.readings q after is
-  source (events.WorkerItem t item) (answers.WorkerMade (Ok v)) h q after is = stay h.starts.readings q after is
-  source (events.WorkerItem t item) (answers.WorkerMade (Err e)) h q after is = stay h.refused.1.readings q after is
-  source (events.WorkerListed t i) (answers.WorkerMade (Ok v)) h q after is = stay h.starts.5.readings q after is
-  source (events.WorkerListed t i) (answers.WorkerMade (Err e)) h q after is = stay h.refused.1.readings q after is
-  source (events.WorkerStep v) (answers.WorkerMoved (Ok reply)) h q after is = stay h.moves.readings q after is
-  source (events.WorkerStep v) (answers.WorkerMoved (Err e)) h q after is = stay h.refused.2.readings q after is
-  source event reply h q after is = absurd h
-
-  -- a load that makes a step was bounded, and is where it goes on
-  module _ (all : (l : ℕ) (reading : Reading) (load : OpenLoad) → u.work.readings l ≡ Some reading → u.core.loads l ≡ Some load → Bounded m.values.types u.core.stored load.key reading)
-      {l : LoadNumber} {reply : LoadReply N} (x : LoadSteps m.values u l reply u') (load : OpenLoad) (open_load : u.core.loads l.0 ≡ Some load) where
-    was-bounded : Bounded m.values.types u.core.stored load.key x.reading
-    was-bounded = elim (reading-stands u whole.pager.whole l x.reading x.at) [
-      | inl there ↦ all l.0 x.reading load there open_load
-      | inr begun ↦ bounded-new m.values.types u.core.stored load.key x.reading begun.0 begun.1
+    kept-bounded : KeepsReadings u u' → AllBounded m.values.types u'
+    kept-bounded keeps reading is = elim (keeps reading is) [
+      | inl old ↦ old-bounded reading old
+      | inr new ↦ (new.2, λ load is_open. bounded-new m.values.types u'.core.stored load.key reading new.0 new.1)
     ]
 
+    went-bounded : (reading : Reading) (frames : List Frame) → IsReadingOf u.work reading ⊎ IsFresh u.core reading → ReadingFeels m.values u.core reading None frames u'.core c
+        → (reading.load.0 ≤ u'.core.last.load) × ((load : OpenLoad) → u'.core.loads reading.load.0 ≡ Some load → Bounded m.values.types u'.core.stored load.key (gone_on reading frames))
+    went-bounded reading frames stands feels =
+        let before : (reading.load.0 ≤ u.core.last.load) × ((load : OpenLoad) → u.core.loads reading.load.0 ≡ Some load → Bounded m.values.types u.core.stored load.key reading) =
+        elim stands [ inl there ↦ all reading there | inr new ↦ (new.2, λ load is_open. bounded-new m.values.types u.core.stored load.key reading new.0 new.1) ]
+        in
+        let few = before.0 in
+        let more = goes.loads_last in (
+          omega (arith, few, more),
+          λ load is_open.
+              let was = were-open goes reading.load.0 load before.0 is_open in
+              bounded-on (gone_on reading frames) goes.stored (bounded-step reading load frames was (before.1 load was) feels),
+        )
+
+  -- all loads go on so
+  all-on : (event : Event N B W) (reply : EventReply N B W) {c : Change} → Goes c u.core u'.core → AllBounded m.values.types u → EventFeels m.values u event reply u' c → AllBounded m.values.types u'
+  all-on event reply goes all (by-call c call answer called replied feels keeps) = kept-bounded goes all keeps
+  all-on event reply goes all (by-key k key row is sets keeps) = kept-bounded goes all keeps
+  all-on event reply goes all (by-nothing stays keeps) = kept-bounded goes all keeps
+  all-on event reply goes all (by-reading c reading answer frames stepped opens feels steps) = λ after is. elim (steps after is) [
+    | inl old ↦ old-bounded goes all after old
+    | inr (none, same) ↦
+        let felt = subst (λ a. ReadingFeels m.values u.core reading a frames u'.core c) none feels in
+        subst (λ (r : Reading). (r.load.0 ≤ u'.core.last.load) × ((load : OpenLoad) → u'.core.loads r.load.0 ≡ Some load → Bounded m.values.types u'.core.stored load.key r)) (sym same)
+        (went-bounded goes all reading frames (is-reading-of u event reading stepped) felt)
+  ]
+
+  -- a load that makes a step was bounded, and is where it goes on
+  module _ (all : AllBounded m.values.types u) {l : LoadNumber} {reply : LoadReply N} (x : LoadSteps m.values u l reply u') (load : OpenLoad) (open_load : u.core.loads l.0 ≡ Some load) where
     number-is : x.reading.load.0 ≡ l.0
     number-is = elim (reading-stands u whole.pager.whole l x.reading x.at) [
       | inl there ↦ (whole.readings l.0 x.reading there).number
       | inr begun ↦ ap (λ (k : LoadNumber). k.0) begun.2
+    ]
+
+    was-bounded : Bounded m.values.types u.core.stored load.key x.reading
+    was-bounded = elim (reading-stands u whole.pager.whole l x.reading x.at) [
+      | inl there ↦ (all x.reading (of_caller l.0 there)).1 load (ap u.core.loads number-is ∙ open_load)
+      | inr begun ↦ bounded-new m.values.types u.core.stored load.key x.reading begun.0 begun.1
     ]
 
     now-bounded : reply.ended ≡ None → Bounded m.values.types u.core.stored load.key (gone_on x.reading x.frames)
@@ -175,39 +170,27 @@ module _ {N E B W : Type 0} (m : Seen N B W) (s s' : MachineState N E) (whole : 
         let feels = subst (λ a. ReadingFeels m.values u.core x.reading a x.frames u'.core felt.change) none (felt.feels whole.pager.whole.handles) in
         bounded-step x.reading load x.frames (ap u.core.loads number-is ∙ open_load) was-bounded feels
 
-  given : (q : ℕ) → is_some (u.core.loads q) ≡ true → u.core.last.load < q → ⊥
-  given q there above = let few = (whole.pager.whole.loads.numbered q there).1 in omega (arith, few, above)
-
   event-on : (event : Event N B W) (reply : EventReply N B W) → Happens m u event reply u' → LoadsStand m.values.types u → LoadsStand m.values.types u'
-  event-on event reply h stands = elim (keeps-open event) [
-    | inr closes ↦ inl (shut-by reply (subst (λ e. Happens m u e reply u') closes h))
-    | inl keeps ↦ on keeps stands
-  ]
+  event-on event reply h (waits, stands) = (
+    event-waits m u u' waits event reply h,
+    elim (keeps-open event) [
+      | inr closes ↦ inl (shut-by reply (subst (λ e. Happens m u e reply u') closes h))
+      | inl keeps ↦ on (event-goes m u u' event reply keeps h) stands
+    ],
+  )
     where
       shut-by : (r : EventReply N B W) → Happens m u (let e : Event N B W = events.Call calls.Close in e) r u' → IsShut u'.core
       shut-by (answers.CallReply (replies.Done r)) c = closed-shut c.step.does
       shut-by (answers.CallReply r) c = absurd c.step.does
       shut-by r c = absurd c
 
-      on : KeepsOpen event → LoadsStand m.values.types u → LoadsStand m.values.types u'
-      on keeps (inl shut) = inl ((event-goes m u u' event reply keeps h).goes.shut shut)
-      on keeps (inr all) = inr (λ q after load is open_load.
-          let goes = (event-goes m u u' event reply keeps h).goes in
-          elim (source event reply h q after is) [
-            | inl old ↦ elim (goes.loads q load open_load) [
-              | inl same ↦ bounded-on after goes.stored (all q after load old same)
-              | inr new ↦ absurd (given q (ap is_some (whole.readings q after old).open_load) new.0)
-            ]
-            | inr (inl (none, no_steps)) ↦ bounded-new m.values.types u'.core.stored load.key after none no_steps
-            | inr (inr st) ↦ elim (goes.loads q load open_load) [
-              | inl same ↦ subst (λ r. Bounded m.values.types u'.core.stored load.key r) (sym st.is) (bounded-on (gone_on st.s.reading st.s.frames) goes.stored (now-bounded all st.s load (subst (λ n. u.core.loads n ≡ Some load) st.here same) st.goes))
-              | inr new ↦ absurd (given q (subst (λ n. is_some (u.core.loads n) ≡ true) (sym st.here) (fault-open u.core st.l st.s.may)) new.0)
-            ]
-          ])
+      on : EventGoes m u event reply u' → IsShut u.core ⊎ AllBounded m.values.types u → IsShut u'.core ⊎ AllBounded m.values.types u'
+      on g (inl shut) = inl (g.goes.shut shut)
+      on g (inr all) = inr (all-on event reply g.goes all (g.feels whole.pager.whole (λ n walking is. waits-well walking.todo (waits n walking is))))
 
   step-within : LoadsStand m.values.types u → (event : Event N B W) (reply : EventReply N B W) → Happens m u event reply u' → StepIsWithin m.values s event reply
-  step-within (inl shut) (events.LoadStep l) (answers.LoadMoved (Ok reply)) h = λ reading load at open_load many longest under. absurd (nothing-unfolds shut.1 under)
-  step-within (inr all) (events.LoadStep l) (answers.LoadMoved (Ok reply)) h = λ reading load at open_load.
+  step-within (waits, inl shut) (events.LoadStep l) (answers.LoadMoved (Ok reply)) h = λ reading load at open_load many longest under. absurd (nothing-unfolds shut.1 under)
+  step-within (waits, inr all) (events.LoadStep l) (answers.LoadMoved (Ok reply)) h = λ reading load at open_load.
       let same : h.moves.reading ≡ reading = same_some _ _ (sym h.moves.at ∙ at) in
       subst (λ (r : Reading). IsWithinBound m.values.types u.core.stored r.node_type load.key reply) same
       (is-within h.moves.reading h.moves.frames reply (was-bounded all h.moves load open_load) (now-bounded all h.moves load open_load) h.moves.counts)
@@ -216,21 +199,30 @@ module _ {N E B W : Type 0} (m : Seen N B W) (s s' : MachineState N E) (whole : 
 -- ---- chains
 
 module _ {N E B W : Type 0} (m : Seen N B W) where
-  along : (s : MachineState N E) (moments : List (Moment N E B W)) → AreMoments m s moments → IsMachineWhole m.values s → LoadsStand m.values.types (world_of s) → StepsAreWithin m.values s moments × LoadsStand m.values.types (world_of (state_after s moments))
+  -- what a chain ends at
+  record Ends (s : MachineState N E) : Type 0 where
+    whole : IsMachineWhole m.values s
+    stands : LoadsStand m.values.types (world_of s)
+
+  along : (s : MachineState N E) (moments : List (Moment N E B W)) → AreMoments m s moments → Ends s → StepsAreWithin m.values s moments × Ends (state_after s moments)
   unfolding state_after
-  along s [] chain whole stands = (tt, stands)
-  along s (x ∷ xs) (does, chain) whole stands =
-      let rest = along x.after xs chain does.whole (event-on m s x.after whole x.event x.reply does.step.happens stands) in
-      ((step-within m s x.after whole stands x.event x.reply does.step.happens, rest.0), rest.1)
+  along s [] chain ends = (tt, ends)
+  along s (x ∷ xs) (does, chain) ends =
+      let rest = along x.after xs chain (record { whole = does.whole; stands = event-on m s x.after ends.whole x.event x.reply does.step.happens ends.stands }) in
+      ((step-within m s x.after ends.whole ends.stands x.event x.reply does.step.happens, rest.0), rest.1)
 
   idle-stands : (s : MachineState N E) → IsIdle s → LoadsStand m.values.types (world_of s)
-  idle-stands s idle = inr (λ l reading load is open_load. let e = idle.readings l in absurd (cc))
+  idle-stands s idle = (λ n walking is. let e = idle.walkings n in absurd (cc), inr (λ reading is. absurd (none reading is)))
+    where
+      none : (reading : Reading) → IsReadingOf s.work reading → ⊥
+      none reading (of_caller l is) = let e = idle.readings l in cc
+      none reading (of_worker n place walking r through below there todo) = let e = idle.walkings n in cc
 
   steps-left : (s : MachineState N E) → LoadsStand m.values.types (world_of s) → LoadsHaveStepsLeft m.values (world_of s)
-  steps-left s (inl shut) l reading load is open_load = λ many longest under. absurd (nothing-unfolds shut.1 under)
-  steps-left s (inr all) l reading load is open_load = has-left reading (all l reading load is open_load)
+  steps-left s (waits, inl shut) reading load is is_open = λ many longest under. absurd (nothing-unfolds shut.1 under)
+  steps-left s (waits, inr all) reading load is is_open = has-left reading ((all reading is).1 load is_open)
 
 -- of a chain from where nobody works: each step of a load is within its bound, and an open load has a step left
 pub loads-bounded : {N E B W : Type 0} (m : Seen N B W) (start : MachineState N E) (moments : List (Moment N E B W)) → IsMachineWhole m.values start → IsIdle start → AreMoments m start moments
     → StepsAreWithin m.values start moments × LoadsHaveStepsLeft m.values (world_of (state_after start moments))
-loads-bounded m start moments whole idle chain = let a = along m start moments chain whole (idle-stands m start idle) in (a.0, steps-left m (state_after start moments) a.1)
+loads-bounded m start moments whole idle chain = let a = along m start moments chain (record { whole = whole; stands = idle-stands m start idle }) in (a.0, steps-left m (state_after start moments) a.1.stands)

@@ -1,5 +1,5 @@
 -- Each event keeps trees: what it brings fits some trees afterwards, for which the machine stands then, with all that its loads read.
-use Rattle.std.proofs.Common.{◌≡◌, ℕ, ◌≤◌, List, [], ◌∷◌, inl, inr, sym, ap, ◌∙◌, subst}
+use Rattle.std.proofs.Common.{◌≡◌, ℕ, List, [], ◌∷◌, inl, inr, sym, ap, ◌∙◌, subst}
 use Rattle.std.specs.Prelude.{◌⊎◌}
 use Rattle.pagable_world.specs.declared.events.Event.{Event}
 use Rattle.pagable_world.specs.declared.events.Event.TheVariants as events
@@ -9,7 +9,7 @@ use Rattle.pagable_world.specs.World.{Reading, Frame, to_load, Walking, Values, 
 use Rattle.pagable_world.specs.Pager.{MachineState, PagerState, world_of, IsMachineWhole, StandsFor, FramesFit, ReadingFits, ReadingBrings, TodoBrings, EventBrings, IsReadingOf}
 use Rattle.pagable_world.specs.Runs.{HoldsSettled, ReadsItsTypes, TakesWell, TodoTakesWell, AsksWell, IsWellAsked}
 use Rattle.pagable_laws.specs.ReadLaws.{FramesGiven}
-use Rattle.pagable_laws.specs.TreeSteps.{Change, CoreGoes, IsSteppedReading, EventFeels, by-call, by-reading, by-key, by-nothing, KeysAreReady}
+use Rattle.pagable_laws.specs.TreeSteps.{Change, CoreGoes, IsSteppedReading, EventFeels, by-call, by-reading, by-key, by-nothing, KeysAreReady, IsFresh}
 use Rattle.pagable_laws.specs.TreeRuns.{ChangeFits, ReadingsGiven}
 use Rattle.pagable_laws.proofs.Trees.{same_some}
 use Rattle.pagable_laws.proofs.Fitting.{tree-stays}
@@ -48,11 +48,11 @@ module _ {N E B W : Type 0} (m : Seen N B W) (s : MachineState N E) (trees : ℕ
   none-given last frames none f r among got = let there = subst (λ fs. Among fs f) none among in absurd (let e = there.1 in cc)
 
   module _ (stands : StandsFor m.values s trees) (given : ReadingsGiven s) where
-    pub fits-of : (reading : Reading) → IsReadingOf s.work reading ⊎ ((reading.frames ≡ []) × (reading.load.0 ≤ s.pager.core.last.load)) → ReadingFits m.values s.pager trees reading
+    pub fits-of : (reading : Reading) → IsReadingOf s.work reading ⊎ IsFresh s.pager.core reading → ReadingFits m.values s.pager trees reading
     fits-of reading (inl is) = stands.readings reading is
     fits-of reading (inr is) = nothing-yet reading is.0
 
-    pub given-of : (reading : Reading) → IsReadingOf s.work reading ⊎ ((reading.frames ≡ []) × (reading.load.0 ≤ s.pager.core.last.load)) → FramesGiven s.pager.core.last.node reading.frames
+    pub given-of : (reading : Reading) → IsReadingOf s.work reading ⊎ IsFresh s.pager.core reading → FramesGiven s.pager.core.last.node reading.frames
     given-of reading (inl is) = (given reading is).1
     given-of reading (inr is) = none-given s.pager.core.last.node reading.frames is.0
 

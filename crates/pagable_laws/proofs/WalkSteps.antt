@@ -14,7 +14,7 @@ use Rattle.pagable_world.specs.World.{Core, Last, OpenLoad, Reading, Todo, to_st
 use Rattle.pagable_world.specs.Calls.{SetKeyCall}
 use Rattle.pagable_world.specs.Workers.{Site, Does, PinsAtOnce, PinsByLoad, PinRefused, GivesBack, next_start, give, give_known, fresh}
 use Rattle.pagable_world.specs.Pager.{HandlesAreWhole, TodoBrings}
-use Rattle.pagable_laws.specs.TreeSteps.{Change, nothing_felt, sets_key, ReadingFeels}
+use Rattle.pagable_laws.specs.TreeSteps.{Change, nothing_felt, sets_key, ReadingFeels, IsFresh}
 use Rattle.pagable_laws.proofs.Trees.{same_some}
 use Rattle.pagable_laws.proofs.Goes.{Quiet, Goes, NotLoads, quiet-then, quiet-goes, quiet-begins, goes-quiet, alike, fell, fell-anyhow, keyed}
 use Rattle.pagable_laws.proofs.Calling.{clones, pins, begins, stores}
@@ -44,10 +44,6 @@ WaitsWell todo = Unit {0}
 abbrev pub front_reading : List Todo → Option Reading
 front_reading (to_load r place through reading ∷ below) = Some reading
 front_reading todo = None
-
--- it has just begun
-abbrev pub IsFresh : Core → Reading → Type 0
-IsFresh w reading = (reading.frames ≡ []) × (reading.load.0 ≤ w.last.load)
 
 abbrev pub LoadsAnew : Site → Type 0
 LoadsAnew s = (reading : Reading) → front_reading s.todo ≡ Some reading → IsFresh s.core reading
@@ -164,7 +160,7 @@ module _ {N B W : Type 0} (m : Seen N B W) (v : ℕ) (s s' : Site) where
         goes = by-load v r through l does;
         feels = λ front well. walk-rests (λ n x b. b) (λ reading e.
             let same : fresh l t ≡ reading = same_some _ _ (ap front_reading (sym is) ∙ e) in
-            subst (λ x. IsFresh s'.core x) same (refl, begun-number v r through l does));
+            subst (λ x. IsFresh s'.core x) same (refl, refl, begun-number v r through l does));
       }
 
   pub walk-goes : (todo : List Todo) (step : Took W) → Does m v s todo step s' → WF todo

@@ -136,9 +136,13 @@ pub data ReadingFeels {N : Type 0} (v : Values N) (w : Core) (reading : Reading)
       → answer ≡ None → frames ≡ with_got reads.top.kind row reads.below → ReadingFeels v w reading answer frames w' (bears_known reads.top.kind.0 reads.top.key (first_key reads.top.kind.0 reads.top.key))
   reading-ends : (end : LoadAnswer N) → answer ≡ Some end → frames ≡ [] → ReadingFeels v w reading answer frames w' nothing_felt
 
+-- it has just begun
+abbrev pub IsFresh : Core → Reading → Type 0
+IsFresh w reading = (reading.frames ≡ []) × (reading.steps ≡ 0) × (reading.load.0 ≤ w.last.load)
+
 -- the readings that there are afterwards were there, or have just begun
 abbrev pub KeepsReadings : World → World → Type 0
-KeepsReadings u u' = (reading : Reading) → IsReadingOf u'.work reading → IsReadingOf u.work reading ⊎ ((reading.frames ≡ []) × (reading.load.0 ≤ u'.core.last.load))
+KeepsReadings u u' = (reading : Reading) → IsReadingOf u'.work reading → IsReadingOf u.work reading ⊎ IsFresh u'.core reading
 
 -- they were there, or this one went on
 abbrev pub StepsReading : {N : Type 0} → World → Reading → Option (LoadAnswer N) → List Frame → World → Type 0
@@ -146,7 +150,7 @@ StepsReading u reading answer frames u' = (after : Reading) → IsReadingOf u'.w
 
 -- the reading that makes the event's step: it is one of the machine's, or has just begun at an open load
 abbrev pub IsSteppedReading : {N B W : Type 0} → World → Event N B W → Reading → Type 0
-IsSteppedReading u (events.LoadStep l) reading = (reading_at u l ≡ Some reading) × (IsReadingOf u.work reading ⊎ ((reading.frames ≡ []) × (reading.load.0 ≤ u.core.last.load)))
+IsSteppedReading u (events.LoadStep l) reading = (reading_at u l ≡ Some reading) × (IsReadingOf u.work reading ⊎ IsFresh u.core reading)
 IsSteppedReading u (events.WorkerStep k) reading =
     (walking : Walking) × (r : ArcRef) × (place : ℕ) × (through : HandleNumber) × (below : List Todo) × (u.work.walkings k.0 ≡ Some walking) × (walking.todo ≡ to_load r place through reading ∷ below)
 IsSteppedReading u event reading = ⊥

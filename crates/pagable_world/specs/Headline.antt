@@ -20,7 +20,7 @@ use Rattle.pagable_world.specs.World.{OpenLoad, Shelf, Slot, Written, no_result,
 use Rattle.pagable_world.specs.Refusals.{IsReference}
 use Rattle.pagable_world.specs.Workers.{IsPublished, is_workers_load}
 use Rattle.pagable_world.specs.Events.{reading_at}
-use Rattle.pagable_world.specs.Pager.{PagerState, MachineState, world_of, IsMachineWhole, IsIdle, ValueStands, StandsFor, kids_of}
+use Rattle.pagable_world.specs.Pager.{PagerState, MachineState, world_of, IsMachineWhole, IsIdle, IsReadingOf, ValueStands, StandsFor, kids_of}
 use Rattle.pagable_world.specs.Runs.{ReadsItsTypes, HoldsSettled, Moment, AreMoments, state_after, events_of, replies_of, Fact, TreesAlong}
 use Rattle.pagable_world.specs.Order.{steps_of, InOrder, OnceEach, MetError, IsBounded, HasStepLeft, IsWithinBound, is_claim_of}
 
@@ -173,9 +173,9 @@ pub record WorkerIsRight {W : Type 0} (f : W → Written) (u : World) (n : ℕ) 
   pub met : (answer : WorkerAnswer) → walking.answer ≡ Some answer → IsMetFailure (u.work.shelves walking.table) n steps answer
   pub let_go : (answer : WorkerAnswer) → walking.answer ≡ Some answer → HasLetGo u n (u.work.shelves walking.table)
 
--- an open load whose steps the machine makes has one left
+-- an open load whose steps the machine makes, the caller's or a worker's, has one left
 abbrev pub LoadsHaveStepsLeft : {N : Type 0} → Values N → World → Type 0
-LoadsHaveStepsLeft v u = (l : ℕ) (reading : Reading) (load : OpenLoad) → u.work.readings l ≡ Some reading → u.core.loads l ≡ Some load → HasStepLeft v.types u.core.stored load.key reading
+LoadsHaveStepsLeft v u = (reading : Reading) (load : OpenLoad) → IsReadingOf u.work reading → u.core.loads reading.load.0 ≡ Some load → HasStepLeft v.types u.core.stored load.key reading
 
 -- what all steps so far come to, without trees
 pub record WorkIsRight {N E B W : Type 0} (m : Seen N B W) (s : MachineState N E) (happened : List (Event N B W)) (replied : List (EventReply N B W)) : Type 0 where
