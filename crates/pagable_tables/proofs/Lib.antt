@@ -1,0 +1,2 @@
+mod Alive
+mod Order
