@@ -8,7 +8,7 @@ use Rattle.std.specs.Prelude.{◌≢◌, ◌⊎◌}
 use Rattle.std.proofs.Common.{inl, inr, true≢false}
 use Rattle.std.proofs.lemmas.Bool.{cases_eq}
 use Rattle.std.proofs.lemmas.List.{get_or_default}
-use Rattle.std.proofs.lemmas.Option.{get_or_from_slice_get, slice_get_within, slice_get-get_or}
+use Rattle.std.proofs.lemmas.Option.{get_or_from_slice_get, slice_get_within}
 use Rattle.std.proofs.lemmas.List.Sums.{sum_by-set, get_or-le-sum_by, sum_by-le-sum_by}
 use Rattle.pagable_world.specs.declared.handles.HandleRow.{HandleRow}
 use Rattle.pagable_world.specs.Plain.{one}
@@ -197,11 +197,8 @@ row-live (s ∷ ss) (suc i) row ordered at = by s.is_live (row-live ss i row (pa
     by true rest = rw here rest
     by false rest = rest
 
-pub row-there : (ss : List Place) (i : ℕ) (d : Place) (q : ℕ) → AllPairs IsBefore ss → i < length ss → (get_or ss i d).is_live ≡ true → (get_or ss i d).row.number.0 ≡ q → find_row q (live ss) ≡ Some (get_or ss i d).row
-row-there ss i d q ordered lt is number =
-    let p = get_or ss i d in
-    let at : slice_get ss i ≡ Some (alive p.row) = slice_get-get_or ss i d lt ∙ ap (λ b. Some (record { row = p.row; is_live = b })) is in
-    subst (λ n. find_row n (live ss) ≡ Some p.row) number (row-live ss i p.row ordered at)
+pub row-got : (ss : List Place) (i : ℕ) (p : Place) (q : ℕ) → AllPairs IsBefore ss → slice_get ss i ≡ Some p → p.is_live ≡ true → p.row.number.0 ≡ q → find_row q (live ss) ≡ Some p.row
+row-got ss i p q ordered at is number = subst (λ n. find_row n (live ss) ≡ Some p.row) number (row-live ss i p.row ordered (at ∙ ap (λ b. Some (record { row = p.row; is_live = b })) is))
 
 apart : (k m : ℕ) → k ≢ m → (k < m) ⊎ (m < k)
 apart k m h = grind arith

@@ -63,7 +63,31 @@ fn find(places: &[Place], number: u64) -> Option<HandleAt>
     None
 }
 
-/// The same, looked for first where it stands as long as no number is missing.
+/// The same, if it stands where it would stand were no number missing.
+fn at_once(places: &[Place], number: u64) -> Option<HandleAt>
+    requires { AllPairs IsBefore places.now }
+    ensures place { IfSome result (λ at. slice_get places.now at.place ≡ Some (alive at.row)) }
+    ensures found { IfSome result (λ at. find_row number (live places.now) ≡ Some at.row) }
+    ensures number { IfSome result (λ at. at.row.number.0 ≡ number) }
+{
+    if places.is_empty() || number < places[0].row.number.0 {
+        return None;
+    }
+    let middle = (number - places[0].row.number.0) as usize;
+    if middle >= places.len() {
+        return None;
+    }
+    let place = places[middle];
+    if place.row.number.0 == number && place.is_live {
+        return Some(HandleAt {
+            place: middle,
+            row: place.row,
+        });
+    }
+    None
+}
+
+/// The live handle of this number, with its place. It costs a look where numbers are dense, and else the logarithm of their count.
 pub fn look(handles: &Handles, number: HandleNumber) -> Option<HandleAt>
     requires { AreSound handles.now }
     ensures none { IfNone result (find_row number.0 (live handles.now.places.items) ≡ None) }
@@ -71,7 +95,10 @@ pub fn look(handles: &Handles, number: HandleNumber) -> Option<HandleAt>
     ensures found { IfSome result (λ at. find_row number.0 (live handles.now.places.items) ≡ Some at.row) }
     ensures number { IfSome result (λ at. at.row.number ≡ number) }
 {
-    find(&handles.places, number.0)
+    match at_once(&handles.places, number.0) {
+        Some(at) => Some(at),
+        None => find(&handles.places, number.0),
+    }
 }
 
 /// How many handles can still be pushed without a request for memory.

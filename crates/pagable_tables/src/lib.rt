@@ -2,5 +2,8 @@
 //! handles are given up with all that goes with them. No call of it knows of values or of the storage.
 #![tactic(auto)]
 
+pub mod cache;
 pub mod handles;
+pub mod loads;
+pub mod nodes;
 pub mod rows;

@@ -1,7 +1,7 @@
 //! What the tables keep of handles and nodes.
 
-use pagable_model::{ArcRef, OptionalDataKey};
-use pagable_world::handles::HandleRow;
+use pagable_model::{ArcRef, DataKey, HandleNumber, NodeNumber, OptionalDataKey};
+use pagable_world::handles::{HandleRow, Owner};
 
 /// A place in the vector of handles: a live row, or a dead one that waits to be cleared away.
 #[derive(Clone, Copy)]
@@ -38,4 +38,23 @@ pub struct NodeRow {
     pub counts: Counts,
     /// What its value refers to, where that is in memory: the value owns the handles.
     pub references: Vec<ArcRef>,
+}
+
+/// What a load reads its key for.
+#[derive(Clone, Copy)]
+pub enum LoadRoot {
+    /// The value of this cell, of a type, begun by a handle.
+    Cell(NodeNumber, u32, HandleNumber),
+    /// What the caller makes of it.
+    Key,
+}
+
+/// An open load.
+#[derive(Clone, Copy)]
+pub struct LoadRow {
+    pub owner: Owner,
+    pub key: DataKey,
+    pub root: LoadRoot,
+    /// The last handle that was given before it began: all that it owns have greater numbers.
+    pub since: u64,
 }

@@ -1,7 +1,8 @@
 use Rattle.std.proofs.Common.{arith}
 use Rattle.pagable_tables.specs.declared.rows.Place.{Place}
 use Rattle.pagable_tables.proofs.Order.{smaller-up, greater-from, outside}
-use Rattle.pagable_tables.proofs.Alive.{none-live, dead-only, row-there}
+use Rattle.pagable_tables.proofs.Alive.{none-live, dead-only, row-got}
+use Rattle.std.proofs.lemmas.Option.{slice_get-get_or}
 use Rattle.std.proofs.lemmas.List.{get_or_default}
 use Rattle.pagable_tables.proofs.handles.find.Goals as goal
 
@@ -32,4 +33,4 @@ returns-clause-none c =
     none-live c.args.number c.args.places.now (λ k d lt e. absurd (outside (λ (h : Place). h.row.number.0) c.args.places.now c.args.number _ _ c.loop-low-test.false c.loop-low.invariant.below c.loop-low.invariant.above k d lt e))
 
 pub returns-then-place-clause-found : goal.returns-then-place-clause-found
-returns-then-place-clause-found c = row-there c.args.places.now _ _ c.args.number c.requires (omega arith) c.if-place.true c.if-place-number.true
+returns-then-place-clause-found c = row-got c.args.places.now _ _ c.args.number c.requires (slice_get-get_or c.args.places.now _ _ (omega arith)) c.if-place.true c.if-place-number.true
