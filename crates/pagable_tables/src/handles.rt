@@ -189,7 +189,8 @@ pub fn push(handles: &mut Handles, row: HandleRow) -> Result<(), AllocError>
     ensures err { OnErr result (live handles.new.places.items ≡ live handles.old.places.items) }
     ensures full { OnErr result (vec_capacity handles.old.places ≤ length (live handles.old.places.items)) }
     ensures capacity { vec_capacity handles.old.places ≤ vec_capacity handles.new.places }
-    ensures next { (q : ℕ) → row.number.0 < q → IsNext q handles.old.places.items → IsNext q handles.new.places.items }
+    ensures next { OnOk result (IsNext (row.number.0 + 1) handles.new.places.items) }
+    ensures err_next { OnErr result (IsNext row.number.0 handles.new.places.items) }
 {
     make_room(handles)?;
     handles

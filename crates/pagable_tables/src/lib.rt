@@ -4,6 +4,7 @@
 
 pub mod cache;
 pub mod handles;
+pub mod holdings;
 pub mod loads;
 pub mod nodes;
 pub mod rows;

@@ -1,4 +1,4 @@
-use Rattle.std.proofs.Common.{◌<◌, subst, length-append, rules, arith, sym, ap, ◌∙◌, ◌≡◌, ◌∷◌, [], ◌++◌, length}
+use Rattle.std.proofs.Common.{◌<◌, subst, length-append, rules, arith, sym, ap, ◌∙◌, ◌≡◌, ◌∷◌, [], ◌++◌, ◌+◌, length, get_or}
 use Rattle.pagable_tables.specs.Live.{live, alive, IsBefore, IsNext}
 use Rattle.pagable_tables.specs.declared.rows.Place.{Place}
 use Rattle.std.specs.List.{AllPairs}
@@ -30,7 +30,9 @@ returns-clause-rows c =
     ap live e ∙ live-push slots c.args.row ∙ ap (λ l. l ++ c.args.row ∷ []) c.in_ok-make_room.ensures.rows
 
 pub returns-clause-next : goal.returns-clause-next
-returns-clause-next c q above next =
-    let slots = c.make_room.new.handles.places.items in
-    let e : c.push.new.self.items ≡ slots ++ alive c.args.row ∷ [] = search rules in
-    subst (IsNext q) (sym e) (All-push (λ (s : Place). s.row.number.0 < q) slots (alive c.args.row) (c.make_room.ensures.next q next) above)
+returns-clause-next c =
+    let places = c.make_room.new.handles.places.items in
+    let e : c.push.new.self.items ≡ places ++ alive c.args.row ∷ [] = search rules in
+    let q = c.args.row.number.0 in
+    let below : IsNext (q + 1) places = λ k d lt. (let a : (get_or places k d).row.number.0 < q = c.make_room.ensures.next q c.requires.next k d lt in omega arith) in
+    subst (IsNext (q + 1)) (sym e) (All-push (λ (s : Place). s.row.number.0 < q + 1) places (alive c.args.row) below (omega arith))
