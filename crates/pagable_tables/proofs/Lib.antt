@@ -1,2 +1,4 @@
 mod Alive
 mod Order
+mod Fitting
+mod Leaving

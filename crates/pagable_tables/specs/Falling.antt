@@ -1,5 +1,7 @@
 -- Handles, nodes and list in the midst of giving handles up.
-use Rattle.std.specs.Prelude.{ℕ, ◌≡◌, ◌+◌, ◌*◌, ◌-◌, ◌<◌, ◌≤◌, ◌==◌, ◌&&◌, ◌||◌, ◌⊎◌, ◌++◌, Bool, true, false, not, if◌then◌else◌, List, [], ◌∷◌, length, sum_by, Option, Some, None, is_some, is_none, nat_lt, Result, Ok, Err, IfErr, IsOk, vec_capacity}
+use Rattle.std.specs.Prelude.{ℕ, zero, suc, ◌≡◌, ◌+◌, ◌*◌, ◌-◌, ◌<◌, ◌≤◌, ◌==◌, ◌&&◌, ◌||◌, ◌⊎◌, ◌++◌, Bool, true, false, not, if◌then◌else◌, List, [], ◌∷◌, length, sum_by, Option, Some, None, is_some, is_none, nat_lt, Result, Ok, Err, IfErr, IsOk, vec_capacity}
+use Rattle.pagable_model.specs.declared.data_key.OptionalDataKey.{OptionalDataKey}
+use Rattle.pagable_model.specs.declared.data_key.OptionalDataKey.TheVariants as optional
 use Rattle.pagable_model.specs.declared.error.Error.{Error}
 use Rattle.pagable_model.specs.declared.error.Error.TheVariants as errors
 use Rattle.pagable_model.specs.declared.numbers.ArcRef.{ArcRef}
@@ -10,8 +12,8 @@ use Rattle.pagable_world.specs.declared.rows.Mode.{Mode}
 use Rattle.pagable_world.specs.declared.rows.Mode.TheVariants as modes
 use Rattle.pagable_world.specs.declared.handles.Owner.TheVariants as owners
 use Rattle.pagable_world.specs.Plain.{one, times}
-use Rattle.pagable_world.specs.Kinds.{has_key, held, pins, is_handle, is_owned_by, owner_value}
-use Rattle.pagable_world.specs.World.{greatest}
+use Rattle.pagable_world.specs.Kinds.{held, pins, is_handle, is_owned_by, owner_value}
+use Rattle.pagable_world.specs.World.{greatest, Cell}
 use Rattle.pagable_world.specs.Calls.{row_of}
 use Rattle.pagable_world.specs.Cascade.{left_rows, only_handle}
 use Rattle.pagable_tables.specs.declared.rows.Counts.{Counts}
@@ -37,7 +39,7 @@ next_in (Some c) = c.next
 
 abbrev pub keyed_in : Option Counts → Bool
 keyed_in None = false
-keyed_in (Some c) = has_key c.key
+keyed_in (Some c) = nat_lt 0 c.key
 
 -- a new entry of the list
 abbrev pub entry : ℕ → NodeNumber → HandleRow
@@ -57,7 +59,7 @@ is_bare (r ∷ rs) = false
 
 -- A node that falls has lost its value. Another has a handle, and refers to something only where its value is in memory.
 abbrev pub is_right : Counts → Bool → Bool
-is_right c bare = if c.is_falling then c.holds == 0 || (c.pins == 0 && has_key c.key) else nat_lt 0 c.holds && (nat_lt 0 c.pins || not (has_key c.key) || bare)
+is_right c bare = if c.is_falling then c.holds == 0 || (c.pins == 0 && nat_lt 0 c.key) else nat_lt 0 c.holds && (nat_lt 0 c.pins || not (nat_lt 0 c.key) || bare)
 
 abbrev pub Right : Option Counts → List ArcRef → Type 0
 Right None refs = refs ≡ []
@@ -65,14 +67,14 @@ Right (Some c) refs = is_right c (is_bare refs) ≡ true
 
 -- whether the last pin of a cell without a key goes with a handle of this mode
 abbrev pub is_listing : Counts → Mode → Bool
-is_listing c modes.LoosePinned = c.pins == 1 && not (has_key c.key)
+is_listing c modes.LoosePinned = c.pins == 1 && not (nat_lt 0 c.key)
 is_listing c modes.LooseUnpinned = false
-is_listing c modes.Pinned = c.pins == 1 && not (has_key c.key)
+is_listing c modes.Pinned = c.pins == 1 && not (nat_lt 0 c.key)
 is_listing c modes.Shared = false
 
 -- The counts after a handle has left. A node falls from now on where its last handle went, or its last pin and it has a key.
 abbrev pub is_fallen_by : Counts → Bool → ℕ → ℕ → Bool
-is_fallen_by c pinning pins holds = not c.is_falling && (holds == 0 || (pinning && pins == 0 && has_key c.key))
+is_fallen_by c pinning pins holds = not c.is_falling && (holds == 0 || (pinning && pins == 0 && nat_lt 0 c.key))
 
 abbrev pub after : Counts → Bool → Bool → ℕ → Counts
 after c pinning listed top =
@@ -164,3 +166,38 @@ pub record Leaves (old : Holdings) (x : HandleRow) (wanted listed : Bool) (new :
   pub places : HasPlaces old between
   pub same : between ≡ record old { handles = between.handles }
   pub lists : MayList between x.node wanted listed new
+
+-- the key of this number, if it is one
+abbrev pub key_in : ℕ → OptionalDataKey
+key_in zero = optional.None
+key_in (suc n) = optional.Some (suc n)
+
+-- a node by its type and key
+abbrev pub cell_in : Option Counts → Option Cell
+cell_in None = None
+cell_in (Some c) = Some (record { node_type = c.node_type; key = key_in c.key })
+
+-- the nodes that are left are the same cells
+abbrev pub CellsStay : (ℕ → Option Counts) → (ℕ → Option Counts) → Type 0
+CellsStay old new = (n : ℕ) → is_some (new n) ≡ true → (is_some (old n) ≡ true) × (cell_in (new n) ≡ cell_in (old n))
+
+-- The handle of the row x is given up.
+pub record GivesUp (old : Holdings) (stack : List ℕ) (x : HandleRow) (listing : Bool) (new : Holdings) : Type 0 where
+  pub counts : Counts
+  pub is : counts_at old.nodes x.node.0 ≡ Some counts
+  pub listed : Bool
+  pub between : Holdings
+  pub leaves : Leaves old x (listing && is_listing counts x.mode) listed between
+  pub same : new ≡ record between { nodes = new.nodes; top = new.top }
+  pub cells : CellsStay (counts_at old.nodes) (counts_at new.nodes)
+  pub more : List ℕ
+  pub falling : IsFalling new more owns_nothing
+  pub long : length more ≤ length stack + 1
+
+-- The first node that falls is done.
+pub record Settles (old : Holdings) (stack : List ℕ) (new : Holdings) : Type 0 where
+  pub same : new ≡ record old { nodes = new.nodes; top = new.top }
+  pub cells : CellsStay (counts_at old.nodes) (counts_at new.nodes)
+  pub rest : List ℕ
+  pub falling : IsFalling new rest owns_nothing
+  pub shorter : length rest + 1 ≡ length stack

@@ -1,22 +1,22 @@
 //! Who holds what: handles, nodes with what their values refer to, and the list of cells that wait for page-out. Handles are given up here, with all
 //! that goes with them.
 
-ghost use Rattle.std.specs.Prelude.{◌≡◌, ◌≢◌, ℕ, ◌+◌, ◌-◌, ◌*◌, ◌<◌, ◌≤◌, ◌++◌, ◌∷◌, [], if◌then◌else◌, List, length, sum_by, slice_get, Some, None, IsSome, OnOk, OnErr, true, Bool, vec_len, vec_capacity};
+ghost use Rattle.std.specs.Prelude.{◌≡◌, ◌≢◌, ◌&&◌, ℕ, ◌+◌, ◌-◌, ◌*◌, ◌<◌, ◌≤◌, ◌++◌, ◌∷◌, [], if◌then◌else◌, List, length, sum_by, slice_get, Some, None, IsSome, OnOk, OnErr, true, Bool, vec_len, vec_capacity};
 ghost use Rattle.pagable_model.specs.declared.numbers.HandleNumber.{HandleNumber};
 ghost use Rattle.pagable_world.specs.declared.handles.HandleRow.{HandleRow};
 ghost use Rattle.pagable_world.specs.Plain.{one};
-ghost use Rattle.pagable_world.specs.Kinds.{is_pinning, has_key};
+ghost use Rattle.pagable_world.specs.Kinds.{is_pinning};
 ghost use Rattle.pagable_world.specs.Cascade.{left_rows, only_handle};
 ghost use Rattle.pagable_tables.specs.Live.{live, alive, AreSound, IsNext};
 ghost use Rattle.pagable_tables.specs.ByNumber.{counts_at, refs_at};
-ghost use Rattle.pagable_tables.specs.Falling.{Lists, MayList, Leaves, is_listing, after, is_new};
+ghost use Rattle.pagable_tables.specs.Falling.{Lists, MayList, Leaves, is_listing, after, is_new, IsFalling, GivesUp, Settles, owns, owns_nothing};
 ghost use Rattle.pagable_tables.specs.declared.rows.Counts.{Counts};
 
 use crate::handles::Handles;
 use crate::rows::{Counts, HandleAt, NodeRow};
 use crate::{handles, nodes};
 use indexmap::IndexMap;
-use pagable_model::{Error, HandleNumber, NodeNumber, OptionalDataKey};
+use pagable_model::{Error, HandleNumber, NodeNumber};
 use pagable_world::handles::{HandleRow, Owner};
 use pagable_world::Mode;
 use std::alloc::AllocError;
@@ -103,14 +103,12 @@ fn enlist_if(t: &mut Holdings, node: NodeNumber, wanted: bool) -> bool
     }
 }
 
-/// Whether the last pin of a cell without a key goes with a handle of this mode.
-fn wants_entry(counts: Counts, mode: Mode) -> bool
-    ensures { result ≡ is_listing counts mode }
+/// Whether the last pin of a cell without a key goes with a handle of this mode, where cells are listed.
+fn wants_entry(counts: Counts, mode: Mode, lists: bool) -> bool
+    ensures { result ≡ (lists && is_listing counts mode) }
 {
     match mode {
-        Mode::LoosePinned | Mode::Pinned => {
-            counts.pins == 1 && !is_keyed(counts)
-        }
+        Mode::LoosePinned | Mode::Pinned => lists && counts.pins == 1 && counts.key == 0,
         Mode::LooseUnpinned | Mode::Shared => false,
     }
 }
@@ -126,16 +124,6 @@ fn take_out(t: &mut Holdings, at: HandleAt, wanted: bool) -> bool
     enlist_if(t, at.row.node, wanted)
 }
 
-/// Whether there is a key.
-fn is_keyed(counts: Counts) -> bool
-    ensures { result ≡ has_key counts.key }
-{
-    match counts.key {
-        OptionalDataKey::Some(_) => true,
-        OptionalDataKey::None => false,
-    }
-}
-
 /// The counts of a node after a handle has left.
 fn counts_after(counts: Counts, pinning: bool, listed: bool, top: u64) -> Counts
     requires pins { one pinning ≤ counts.pins }
@@ -144,8 +132,7 @@ fn counts_after(counts: Counts, pinning: bool, listed: bool, top: u64) -> Counts
 {
     let pins = if pinning { counts.pins - 1 } else { counts.pins };
     let holds = if listed { counts.holds } else { counts.holds - 1 };
-    let keyed = is_keyed(counts);
-    if !counts.is_falling && (holds == 0 || (pinning && pins == 0 && keyed)) {
+    if !counts.is_falling && (holds == 0 || (pinning && pins == 0 && counts.key != 0)) {
         return Counts { pins, holds, is_falling: true, next: top, ..counts };
     }
     Counts { pins, holds, ..counts }
@@ -156,4 +143,41 @@ fn top_after(before: bool, falls: bool, node: u64, top: u64) -> u64
     ensures { result ≡ (if is_new before falls then node else top) }
 {
     if falls && !before { node } else { top }
+}
+
+/// Gives up the handle at this place. Where cells are listed, one without a key is, if that was its last pin.
+pub fn give_up(t: &mut Holdings, at: HandleAt, lists: bool)
+    requires falling { (stack : List ℕ) × IsFalling t.old stack (owns at.row) }
+    requires place { slice_get t.old.handles.places.items at.place ≡ Some (alive at.row) }
+    ensures { (stack : List ℕ) → IsFalling t.old stack (owns at.row) → GivesUp t.old stack at.row lists t.new }
+{
+    let node = at.row.node.0;
+    let Some(counts) = nodes::counts_of(&t.nodes, node) else {
+        unreachable!();
+    };
+    let wanted = wants_entry(counts, at.row.mode, lists);
+    let listed = take_out(t, at, wanted);
+    let pinning = pins(at.row.mode);
+    let left = counts_after(counts, pinning, listed, t.top);
+    nodes::set_counts(&mut t.nodes, node, left);
+    t.top = top_after(counts.is_falling, left.is_falling, node, t.top);
+}
+
+/// The first node that falls has given up all that its value referred to.
+fn settle(t: &mut Holdings)
+    requires falling { (stack : List ℕ) × IsFalling t.old stack owns_nothing }
+    requires some { t.old.top ≢ 0 }
+    requires none { refs_at t.old.nodes t.old.top ≡ [] }
+    ensures { (stack : List ℕ) → IsFalling t.old stack owns_nothing → Settles t.old stack t.new }
+{
+    let node = t.top;
+    let Some(counts) = nodes::counts_of(&t.nodes, node) else {
+        unreachable!();
+    };
+    t.top = counts.next;
+    if counts.holds == 0 {
+        nodes::remove(&mut t.nodes, node);
+    } else {
+        nodes::set_counts(&mut t.nodes, node, Counts { is_falling: false, next: 0, ..counts });
+    }
 }

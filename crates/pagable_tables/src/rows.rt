@@ -1,6 +1,6 @@
 //! What the tables keep of handles and nodes.
 
-use pagable_model::{ArcRef, DataKey, HandleNumber, NodeNumber, OptionalDataKey};
+use pagable_model::{ArcRef, DataKey, HandleNumber, NodeNumber};
 use pagable_world::handles::{HandleRow, Owner};
 
 /// A place in the vector of handles: a live row, or a dead one that waits to be cleared away.
@@ -21,7 +21,8 @@ pub struct HandleAt {
 #[derive(Clone, Copy)]
 pub struct Counts {
     pub node_type: u32,
-    pub key: OptionalDataKey,
+    /// The number of its key, 0 where it has none.
+    pub key: u128,
     /// How many handles pin it.
     pub pins: u64,
     /// How many handles it has.
