@@ -77,6 +77,7 @@ without-rest q (s ∷ ss) h = by s.is_live (without-rest q ss (All-tail (λ s. q
   where
     here : (s.row.number.0 == q) ≡ false
     here = let a : q < s.row.number.0 = h 0 s (omega arith) in grind (arith, nat_tests)
+
     by : (b : Bool) → without q (live ss) ≡ live ss → without q (if b then s.row ∷ live ss else live ss) ≡ (if b then s.row ∷ live ss else live ss)
     by true rest = rw here (ap (λ l. s.row ∷ l) rest)
     by false rest = rest
@@ -87,6 +88,7 @@ replaced-rest q row (s ∷ ss) h = by s.is_live (replaced-rest q row ss (All-tai
   where
     here : (s.row.number.0 == q) ≡ false
     here = let a : q < s.row.number.0 = h 0 s (omega arith) in grind (arith, nat_tests)
+
     by : (b : Bool) → replaced q row (live ss) ≡ live ss → replaced q row (if b then s.row ∷ live ss else live ss) ≡ (if b then s.row ∷ live ss else live ss)
     by true rest = rw here (ap (λ l. s.row ∷ l) rest)
     by false rest = rest
@@ -119,6 +121,7 @@ live-kill (s ∷ ss) (suc i) row ordered at = by s.is_live (live-kill ss i row (
   where
     here : (s.row.number.0 == row.number.0) ≡ false
     here = let a = earlier s ss i row ordered at in grind (arith, nat_tests)
+
     by : (b : Bool) → live (set ss i (record { row = row; is_live = false })) ≡ without row.number.0 (live ss) → (if b then s.row ∷ live (set ss i (record { row = row; is_live = false })) else live (set ss i (record { row = row; is_live = false }))) ≡ without row.number.0 (if b then s.row ∷ live ss else live ss)
     by true rest = rw here (ap (λ l. s.row ∷ l) rest)
     by false rest = rest
@@ -137,6 +140,7 @@ live-set (s ∷ ss) (suc i) row new ordered at = by s.is_live (live-set ss i row
   where
     here : (s.row.number.0 == row.number.0) ≡ false
     here = let a = earlier s ss i row ordered at in grind (arith, nat_tests)
+
     by : (b : Bool) → live (set ss i (alive new)) ≡ replaced row.number.0 new (live ss) → (if b then s.row ∷ live (set ss i (alive new)) else live (set ss i (alive new))) ≡ replaced row.number.0 new (if b then s.row ∷ live ss else live ss)
     by true rest = rw here (ap (λ l. s.row ∷ l) rest)
     by false rest = rest
@@ -193,6 +197,7 @@ row-live (s ∷ ss) (suc i) row ordered at = by s.is_live (row-live ss i row (pa
   where
     here : (s.row.number.0 == row.number.0) ≡ false
     here = let a = earlier s ss i row ordered at in grind (arith, nat_tests)
+
     by : (b : Bool) → find_row row.number.0 (live ss) ≡ Some row → find_row row.number.0 (if b then s.row ∷ live ss else live ss) ≡ Some row
     by true rest = rw here rest
     by false rest = rest
@@ -211,9 +216,9 @@ dead-only q ss m s ordered lt is number dead k d klt e =
     elim (cases_eq k m) [
       | inl same ↦ ap (λ n. (get_or ss n d).is_live) same ∙ ap (λ (x : Place). x.is_live) at ∙ dead
       | inr other ↦ elim (apart k m other) [
-          | inl less ↦ let a = ordered k m d less lt in absurd (omega arith)
-          | inr more ↦ let a = ordered m k d more klt in absurd (omega arith)
-        ]
+        | inl less ↦ let a = ordered k m d less lt in absurd (omega arith)
+        | inr more ↦ let a = ordered m k d more klt in absurd (omega arith)
+      ]
     ]
 
 -- each place's number is below q still, after a place of it changes
@@ -223,3 +228,32 @@ next-set q ss i row new at same next =
     let is : (get_or ss i new).row.number.0 ≡ row.number.0 = ap (λ (x : Place). x.row.number.0) (get_or_from_slice_get ss i (alive row) new at) in
     let a : (get_or ss i new).row.number.0 < q = next i new lt in
     All-set (λ (s : Place). s.row.number.0 < q) ss i new (omega arith) next
+
+-- a number that isn't found is counted nowhere
+pub none-found : (q : ℕ) (rows : List HandleRow) → find_row q rows ≡ None → sum_by (λ h. one (is_handle q h)) rows ≡ 0
+unfolding find_row
+none-found q [] e = refl
+none-found q (h ∷ hs) e = by (is_handle q h) refl e (none-found q hs)
+  where
+    by : (b : Bool) → is_handle q h ≡ b → (if b then Some h else find_row q hs) ≡ None → (find_row q hs ≡ None → sum_by (λ h. one (is_handle q h)) hs ≡ 0) → sum_by (λ h. one (is_handle q h)) (h ∷ hs) ≡ 0
+    by true same none rest = absurd (cc)
+    by false same none rest = let a = sum_by-cons (λ (h : HandleRow). one (is_handle q h)) h hs in let b = rest none in let d = ap one same in omega arith
+
+-- what is left has not the number
+sum-without : (q : ℕ) (rows : List HandleRow) → sum_by (λ h. one (is_handle q h)) (without q rows) ≡ 0
+sum-without q [] = refl
+sum-without q (h ∷ hs) = by (is_handle q h) refl (sum-without q hs)
+  where
+    by : (b : Bool) → is_handle q h ≡ b → sum_by (λ h. one (is_handle q h)) (without q hs) ≡ 0 → sum_by (λ h. one (is_handle q h)) (cond (not b) (h ∷ without q hs) (without q hs)) ≡ 0
+    by true e rest = rest
+    by false e rest = let a = sum_by-cons (λ (h : HandleRow). one (is_handle q h)) h (without q hs) in let b = ap one e in omega arith
+
+-- a number is used once, so what weighs only at the number weighs at its row alone
+pub only-row : (f : HandleRow → ℕ) (ss : List Place) (i : ℕ) (row : HandleRow) → AllPairs IsBefore ss → slice_get ss i ≡ Some (alive row) → ((h : HandleRow) → f h ≤ one (is_handle row.number.0 h)) → sum_by f (live ss) ≡ f row
+only-row f ss i row ordered at less =
+    let dead : Place = record { row = row; is_live = false } in
+    let e = sum-live-set f ss i row dead at in
+    let k = ap (sum_by f) (live-kill ss i row ordered at) in
+    let l = sum_by-le-sum_by f (λ h. one (is_handle row.number.0 h)) (without row.number.0 (live ss)) less in
+    let z = sum-without row.number.0 (live ss) in
+    omega arith

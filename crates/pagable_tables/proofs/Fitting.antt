@@ -12,7 +12,7 @@ use Rattle.pagable_world.specs.declared.handles.Owner.TheVariants as owners
 use Rattle.pagable_world.specs.Plain.{one}
 use Rattle.pagable_world.specs.Kinds.{held, pins, is_pin, is_at, is_pinning, is_handle, is_owner, owner_value}
 use Rattle.pagable_tables.specs.declared.rows.Counts.{Counts}
-use Rattle.pagable_tables.specs.Falling.{pins_in, holds_in, falls_in, next_in, keyed_in, Chain, is_bare, is_right, Right, is_fallen_by, after, is_new, Fits, entry, owns, owns_nothing, named, often, cell_in, CellsStay}
+use Rattle.pagable_tables.specs.Falling.{pins_in, holds_in, falls_in, next_in, keyed_in, Chain, is_bare, is_right, Right, is_fallen_by, after, is_new, Fits, entry, owns, owns_nothing, named, often, cell_in, CellsStay, HasFallen}
 
 -- 1 for a handle that pins the node, for one of it, for the handle q that its value owns, and for the handle q
 abbrev pub pin_of : ℕ → HandleRow → ℕ
@@ -26,10 +26,6 @@ is_owned n q h = owns h n q
 
 abbrev pub is_number : ℕ → HandleRow → ℕ
 is_number q h = one (is_handle q h)
-
--- the value of the node has gone
-abbrev pub HasFallen : (ℕ → Option Counts) → List HandleRow → ℕ → Type 0
-HasFallen at rows n = (held n rows ≡ 0) ⊎ ((keyed_in (at n) ≡ true) × (pins n rows ≡ 0))
 
 -- a chain stands on the next numbers of its own nodes alone
 pub chain-frame : (at at' : ℕ → Option Counts) (top : ℕ) (stack : List ℕ) → ((n : ℕ) → 0 < often n stack → next_in (at' n) ≡ next_in (at n)) → Chain at top stack → Chain at' top stack
@@ -109,7 +105,6 @@ in-none n stack m none some e = let a = ap (λ k. often k stack) e in absurd (om
 module _ (at at' : ℕ → Option Counts) (refs refs' : ℕ → List ArcRef) (rows rows' : List HandleRow) (top : ℕ) (stack : List ℕ) (x : HandleRow) (c : Counts) (listed : Bool) (k : ℕ)
     (fits : Fits at refs rows top stack (λ n q. is_owned n q x)) (is : at x.node.0 ≡ Some c) (leaves : (f : HandleRow → ℕ) → sum_by f rows' + f x ≡ sum_by f rows + (if listed then f (entry k x.node) else 0))
     (here : at' x.node.0 ≡ Some (after c (is_pinning x.mode) listed top)) (others : (n : ℕ) → n ≢ x.node.0 → at' n ≡ at n) (same : (n : ℕ) → refs' n ≡ refs n) (some : one (is_pinning x.mode) ≤ c.pins) (live : 1 ≤ c.holds) where
-
   given-pinned : (n : ℕ) → pins_in (at' n) ≡ pins n rows'
   given-pinned n =
       elim (cases_eq n x.node.0) [
@@ -246,7 +241,6 @@ long-if false n stack = omega arith
 module _ (at at' : ℕ → Option Counts) (refs refs' : ℕ → List ArcRef) (rows : List HandleRow) (n : ℕ) (ns : List ℕ) (c : Counts)
     (fits : Fits at refs rows n (n ∷ ns) owns_nothing) (is : at n ≡ Some c) (pins' : pins_in (at' n) ≡ c.pins) (holds' : holds_in (at' n) ≡ c.holds) (free : falls_in (at' n) ≡ false) (right' : Right (at' n) (refs' n))
     (others : (m : ℕ) → m ≢ n → at' m ≡ at m) (same : (m : ℕ) → refs' m ≡ refs m) (one' : n ≢ 0) where
-
   once : often n ns ≡ 0
   once =
       let a = sum_by-cons (λ y. one (y == n)) n ns in
@@ -314,7 +308,6 @@ settled-right c free live = grind (arith, nat_tests)
 -- the last reference of the first node that waits is taken: its row is owned by that node's value
 module _ (at at' : ℕ → Option Counts) (refs refs' : ℕ → List ArcRef) (rows : List HandleRow) (n : ℕ) (ns : List ℕ) (p : ArcRef)
     (fits : Fits at refs rows n (n ∷ ns) owns_nothing) (popped : refs n ≡ refs' n ++ p ∷ []) (others : (m : ℕ) → m ≢ n → refs' m ≡ refs m) (same : (m : ℕ) → at' m ≡ at m) where
-
   times-popped : (r : ℕ) → named r (refs n) ≡ named r (refs' n) + one (p.handle.0 == r)
   times-popped r = ap (named r) popped ∙ sum_by_push (λ (y : ArcRef). one (y.handle.0 == r)) (refs' n) p
 

@@ -1,15 +1,15 @@
 -- Handles, nodes and list in the midst of giving handles up.
-use Rattle.std.specs.Prelude.{ℕ, zero, suc, ◌≡◌, ◌+◌, ◌*◌, ◌-◌, ◌<◌, ◌≤◌, ◌==◌, ◌&&◌, ◌||◌, ◌⊎◌, ◌++◌, Bool, true, false, not, if◌then◌else◌, List, [], ◌∷◌, length, sum_by, Option, Some, None, is_some, is_none, nat_lt, Result, Ok, Err, IfErr, IsOk, vec_capacity}
+use Rattle.std.specs.Prelude.{ℕ, zero, suc, ◌≡◌, ◌+◌, ◌*◌, ◌-◌, ◌<◌, ◌≤◌, ◌==◌, ◌&&◌, ◌||◌, ◌⊎◌, ◌++◌, Bool, true, false, not, if◌then◌else◌, List, [], ◌∷◌, length, sum_by, Option, Some, None, is_some, nat_lt, Result, Ok, Err, IfErr, vec_capacity}
 use Rattle.pagable_model.specs.declared.data_key.OptionalDataKey.{OptionalDataKey}
 use Rattle.pagable_model.specs.declared.data_key.OptionalDataKey.TheVariants as optional
 use Rattle.pagable_model.specs.declared.error.Error.{Error}
 use Rattle.pagable_model.specs.declared.error.Error.TheVariants as errors
 use Rattle.pagable_model.specs.declared.numbers.ArcRef.{ArcRef}
-use Rattle.pagable_model.specs.declared.numbers.HandleNumber.{HandleNumber}
 use Rattle.pagable_model.specs.declared.numbers.NodeNumber.{NodeNumber}
 use Rattle.pagable_world.specs.declared.handles.HandleRow.{HandleRow}
 use Rattle.pagable_world.specs.declared.rows.Mode.{Mode}
 use Rattle.pagable_world.specs.declared.rows.Mode.TheVariants as modes
+use Rattle.pagable_world.specs.declared.handles.Owner.{Owner}
 use Rattle.pagable_world.specs.declared.handles.Owner.TheVariants as owners
 use Rattle.pagable_world.specs.Plain.{one, times}
 use Rattle.pagable_world.specs.Kinds.{held, pins, is_handle, is_owned_by, owner_value}
@@ -201,3 +201,33 @@ pub record Settles (old : Holdings) (stack : List ℕ) (new : Holdings) : Type 0
   pub rest : List ℕ
   pub falling : IsFalling new rest owns_nothing
   pub shorter : length rest + 1 ≡ length stack
+
+-- the value of the node has gone
+abbrev pub HasFallen : (ℕ → Option Counts) → List HandleRow → ℕ → Type 0
+HasFallen at rows n = (held n rows ≡ 0) ⊎ ((keyed_in (at n) ≡ true) × (pins n rows ≡ 0))
+
+-- how many handles values own
+abbrev pub is_valued : Owner → Bool
+is_valued (owners.Value n) = true
+is_valued o = false
+
+abbrev pub valued : List HandleRow → ℕ
+valued rows = times (λ h. is_valued h.owner) rows
+
+-- a handle of the row x is given up, which the value of the node n owned, that has gone
+pub record FallsBy (old : Holdings) (x : HandleRow) (n : ℕ) (lists : Bool) (new : Holdings) : Type 0 where
+  pub owner : x.owner ≡ owner_value n
+  pub fallen : HasFallen (counts_at old.nodes) (live old.handles.places.items) n
+  pub popped : Holdings
+  pub same : popped ≡ record old { nodes = popped.nodes }
+  pub counts : (m : ℕ) → counts_at popped.nodes m ≡ counts_at old.nodes m
+  pub stack : List ℕ
+  pub gives : GivesUp popped stack x lists new
+
+-- One step: a handle is given up, or the first node that falls is done.
+pub record Steps (old : Holdings) (stack : List ℕ) (lists : Bool) (r : Option NodeNumber) (new : Holdings) : Type 0 where
+  pub rest : List ℕ
+  pub falling : IsFalling new rest owns_nothing
+  pub less : 2 * valued (live new.handles.places.items) + length rest < 2 * valued (live old.handles.places.items) + length stack
+  pub cells : CellsStay (counts_at old.nodes) (counts_at new.nodes)
+  pub what : ((r ≡ Some (record { 0 = old.top })) × (new ≡ record old { nodes = new.nodes; top = new.top })) ⊎ ((x : HandleRow) × (n : ℕ) × (r ≡ None) × FallsBy old x n lists new)

@@ -118,9 +118,11 @@ fn compact(handles: &mut Handles)
     ensures capacity { vec_capacity handles.new.places ≡ vec_capacity handles.old.places }
     ensures next { (q : ℕ) → IsNext q handles.old.places.items → IsNext q handles.new.places.items }
 {
-    handles.places.retain(|place: &Place| -> bool
-        ensures { result ≡ place.now.is_live }
-    { place.is_live });
+    handles.places.retain(
+        |place: &Place| -> bool
+            ensures { result ≡ place.now.is_live }
+        { place.is_live },
+    );
     handles.dead = 0;
 }
 
@@ -193,10 +195,7 @@ pub fn push(handles: &mut Handles, row: HandleRow) -> Result<(), AllocError>
     ensures err_next { OnErr result (IsNext row.number.0 handles.new.places.items) }
 {
     make_room(handles)?;
-    handles
-        .places
-        .push(Place { row, is_live: true })
-        .unwrap();
+    handles.places.push(Place { row, is_live: true }).unwrap();
     Ok(())
 }
 

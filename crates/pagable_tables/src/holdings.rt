@@ -9,7 +9,7 @@ ghost use Rattle.pagable_world.specs.Kinds.{is_pinning};
 ghost use Rattle.pagable_world.specs.Cascade.{left_rows, only_handle};
 ghost use Rattle.pagable_tables.specs.Live.{live, alive, AreSound, IsNext};
 ghost use Rattle.pagable_tables.specs.ByNumber.{counts_at, refs_at};
-ghost use Rattle.pagable_tables.specs.Falling.{Lists, MayList, Leaves, is_listing, after, is_new, IsFalling, GivesUp, Settles, owns, owns_nothing};
+ghost use Rattle.pagable_tables.specs.Falling.{Lists, MayList, Leaves, is_listing, after, is_new, IsFalling, GivesUp, Settles, Steps, owns, owns_nothing};
 ghost use Rattle.pagable_tables.specs.declared.rows.Counts.{Counts};
 
 use crate::handles::Handles;
@@ -17,8 +17,8 @@ use crate::rows::{Counts, HandleAt, NodeRow};
 use crate::{handles, nodes};
 use indexmap::IndexMap;
 use pagable_model::{Error, HandleNumber, NodeNumber};
-use pagable_world::handles::{HandleRow, Owner};
 use pagable_world::Mode;
+use pagable_world::handles::{HandleRow, Owner};
 use std::alloc::AllocError;
 
 /// Handles, nodes and list, with no fact that is true of them all.
@@ -130,12 +130,30 @@ fn counts_after(counts: Counts, pinning: bool, listed: bool, top: u64) -> Counts
     requires holds { 1 ≤ counts.holds }
     ensures { result ≡ after counts pinning listed top }
 {
-    let pins = if pinning { counts.pins - 1 } else { counts.pins };
-    let holds = if listed { counts.holds } else { counts.holds - 1 };
+    let pins = if pinning {
+        counts.pins - 1
+    } else {
+        counts.pins
+    };
+    let holds = if listed {
+        counts.holds
+    } else {
+        counts.holds - 1
+    };
     if !counts.is_falling && (holds == 0 || (pinning && pins == 0 && counts.key != 0)) {
-        return Counts { pins, holds, is_falling: true, next: top, ..counts };
+        return Counts {
+            pins,
+            holds,
+            is_falling: true,
+            next: top,
+            ..counts
+        };
     }
-    Counts { pins, holds, ..counts }
+    Counts {
+        pins,
+        holds,
+        ..counts
+    }
 }
 
 /// The first node that falls after that.
@@ -178,6 +196,37 @@ fn settle(t: &mut Holdings)
     if counts.holds == 0 {
         nodes::remove(&mut t.nodes, node);
     } else {
-        nodes::set_counts(&mut t.nodes, node, Counts { is_falling: false, next: 0, ..counts });
+        nodes::set_counts(
+            &mut t.nodes,
+            node,
+            Counts {
+                is_falling: false,
+                next: 0,
+                ..counts
+            },
+        );
+    }
+}
+
+/// One step of what follows when handles are given up: the first node that falls gives up a handle, or it is done, and then it is answered: its value
+/// has gone.
+pub fn step(t: &mut Holdings, lists: bool) -> Option<NodeNumber>
+    requires falling { (stack : List ℕ) × IsFalling t.old stack owns_nothing }
+    requires some { t.old.top ≢ 0 }
+    ensures { (stack : List ℕ) → IsFalling t.old stack owns_nothing → Steps t.old stack lists result t.new }
+{
+    let node = t.top;
+    match nodes::pop_reference(&mut t.nodes, node) {
+        Some(reference) => {
+            match handles::look(&t.handles, reference.handle) {
+                Some(at) => give_up(t, at, lists),
+                None => unreachable!(),
+            }
+            None
+        }
+        None => {
+            settle(t);
+            Some(NodeNumber(node))
+        }
     }
 }

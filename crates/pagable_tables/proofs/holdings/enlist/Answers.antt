@@ -1,4 +1,4 @@
-use Rattle.std.proofs.Common.{arith, refl, sym, ◌∙◌, ◌≡◌, ◌++◌, [], inl, inr, ◌≤◌, ◌<◌, length, rules}
+use Rattle.std.proofs.Common.{refl, sym, ◌∙◌, ◌≡◌, inl, ◌≤◌, length, rules}
 use Rattle.std.specs.Prelude.{vec_capacity}
 use Rattle.std.proofs.lemmas.List.{append-nil}
 use Rattle.pagable_tables.specs.Live.{live}
