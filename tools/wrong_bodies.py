@@ -106,8 +106,9 @@ class Copy:
             shutil.copy(f"{TOP}/{file}", room)
         for name in os.listdir(f"{TOP}/crates"):
             # (of the other crates the check reads the libraries alone)
-            left_out = ("must-fail",) if name == crate else ("must-fail", "incremental", "data")
-            shutil.copytree(f"{TOP}/crates/{name}", f"{room}/crates/{name}", ignore=shutil.ignore_patterns(*left_out))
+            own = f"{TOP}/crates/{name}"
+            left_out = [f"{own}/{it}" for it in (("must-fail",) if name == crate else ("must-fail", "out/incremental", "data"))]
+            shutil.copytree(own, f"{room}/crates/{name}", ignore=lambda at, names: [it for it in names if f"{at}/{it}" in left_out])
 
     def check(self, texts):
         """The output of a check with these texts in place of the crate's own."""

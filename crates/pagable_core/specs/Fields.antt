@@ -9,39 +9,24 @@ use Rattle.pagable_model.specs.Track.{Track}
 use Rattle.pagable_model.specs.Writing.{Out}
 use Rattle.pagable_core.specs.declared.context.reading.PagableDeserializerImpl.{PagableDeserializerImpl}
 use Rattle.pagable_core.specs.declared.context.references.NoReferences.{NoReferences}
-use Rattle.pagable_core.specs.declared.context.writing.PagableSerializerImpl.{PagableSerializerImpl}
-use Rattle.pagable_core.specs.declared.storage.support.SerializerForPaging.{SerializerForPaging}
+use Rattle.pagable_core.specs.declared.context.writing.SerializerOver.{SerializerOver}
 
 -- Serializers and those who answer name the environment E with its types: N of nodes, H of hashes, K and V of the keys and
 -- the values of sessions.
 
 -- ---- the serializer over memory
 
-abbrev pub written : {E N H K V : Type 0} → PagableSerializerImpl E N H K V → Out
+abbrev pub written : {E S : Type 0} → SerializerOver E S → Out
 written s = record { bytes = s.writer; refs = s.arcs.items }
 
-abbrev pub levels_written : {E N H K V : Type 0} → PagableSerializerImpl E N H K V → ℕ
+abbrev pub levels_written : {E S : Type 0} → SerializerOver E S → ℕ
 levels_written s = s.levels
 
-abbrev pub writers_environment : {E N H K V : Type 0} → PagableSerializerImpl E N H K V → E
+abbrev pub writers_environment : {E S : Type 0} → SerializerOver E S → E
 writers_environment s = s.env.now
 
-abbrev pub with_written : {E N H K V : Type 0} → PagableSerializerImpl E N H K V → List ℕ → PagableSerializerImpl E N H K V
+abbrev pub with_written : {E S : Type 0} → SerializerOver E S → List ℕ → SerializerOver E S
 with_written s bytes = record s { writer = bytes }
-
--- ---- the serializer of page-out
-
-abbrev pub paged : {E N H K V : Type 0} → SerializerForPaging E N H K V → Out
-paged s = record { bytes = s.writer; refs = s.arcs.items }
-
-abbrev pub levels_paged : {E N H K V : Type 0} → SerializerForPaging E N H K V → ℕ
-levels_paged s = s.levels
-
-abbrev pub pagings_environment : {E N H K V : Type 0} → SerializerForPaging E N H K V → E
-pagings_environment s = s.env.now
-
-abbrev pub with_paged : {E N H K V : Type 0} → SerializerForPaging E N H K V → List ℕ → SerializerForPaging E N H K V
-with_paged s bytes = record s { writer = bytes }
 
 -- ---- the deserializer
 

@@ -8,4 +8,4 @@ pub mod writing;
 pub use keys::PagableKeys;
 pub use reading::PagableDeserializerImpl;
 pub use references::{NoReferences, References};
-pub use writing::{PagableSerializerImpl, SerializedData};
+pub use writing::{PagableSerializerImpl, SerializedData, SerializerForPaging};

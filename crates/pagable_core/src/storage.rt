@@ -2,6 +2,10 @@
 
 pub mod data;
 pub mod in_memory;
-pub mod support;
 pub mod traits;
 pub mod weigh;
+
+/// The serializer of page-out.
+pub mod support {
+    pub use crate::context::SerializerForPaging;
+}

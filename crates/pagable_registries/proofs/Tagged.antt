@@ -68,8 +68,6 @@ pub refused_tag : {X : Type 0} (r : Result X Error) (M : Meaning ArcRef → Type
 refused_tag (Ok x) M has tag n written known body h = tt
 refused_tag (Err e) M has tag n written known body h = refuses-tag M has tag n written known body e h
 
-pub ruleset writing = (writes_tagged, refused_body, refused_tag)
-
 -- ---- the last registration of a tag
 
 -- no reader of this tag from this place on
@@ -188,8 +186,6 @@ tagged_read M tag_of context written grammar env readers tag own f x rest mid af
       is = record { body = g.m; is_body = g.is; is = ap (λ (t : List ℕ). of_tagged t g.m) (sym (same ∙ known)) };
       gave = read-known context written (grammars grammar env readers) tag (grammar f env) rest mid h p.0 p.1 ∙ rw g.gave refl;
     }
-
-pub ruleset reading = (tagged_read)
 
 -- ---- distinct tags
 

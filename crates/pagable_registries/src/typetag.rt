@@ -92,7 +92,6 @@ fn write_tag<E: Env, S: PagableSerializer<E>>(tag: &str, serializer: &mut S) -> 
 }
 
 /// Writes the value's tag and then its body.
-#[tactic(auto, using(pagable_codec::proofs::Writing::parts, pagable_traits::proofs::Parts::causes, crate::proofs::Tagged::writing))]
 fn write_tagged<E: Env, T: PagableTagged<E>, S: PagableSerializer<E>>(
     value: &T,
     serializer: &mut S,
@@ -196,7 +195,6 @@ impl<T, F: ForTag> TypetagRegistry<T, F> {
     /// Reads a tag, and then the body by the reader that was registered last for the tag: UnknownTag where none was.
     /// The value that it gives has the tag that was read. This is for a registry at hand; `deserialize_tagged` finds the
     /// environment's own.
-    #[tactic(auto, using(pagable_codec::proofs::Reading::parts, crate::proofs::Tagged::reading))]
     pub fn deserialize_tagged<E: Env, D: PagableDeserializer<E>>(
         &self,
         alloc: Global,
@@ -282,7 +280,6 @@ fn registered_reader<E: Env, T: HasTypetagRegistry<E>>(
 
 /// Reads a tag, and then the body by the reader that the environment's registry has for the tag, the last one that was
 /// registered: UnknownTag where none was. The value that it gives has the tag that was read.
-#[tactic(auto, using(pagable_codec::proofs::Reading::parts, crate::proofs::Tagged::reading))]
 pub fn deserialize_tagged<E: Env, T: HasTypetagRegistry<E>, D: PagableDeserializer<E>>(
     alloc: Global,
     deserializer: &mut D,

@@ -1,7 +1,7 @@
 //! The serializer that collects bytes and references.
 
 ghost use Rattle.std.specs.Prelude.{◌≡◌, refl, [], length, IsOk, IfOk};
-ghost use Rattle.pagable_core.specs.Context.{nothing, out_of};
+ghost use Rattle.pagable_core.specs.Context.{nothing, out_of, pair_out};
 ghost use Rattle.pagable_core.specs.Fields.{written, levels_written, writers_environment, with_written};
 
 use pagable_codec::{ArcRef, Env, PagableCursor, PagableSerializer, SessionContext};
@@ -15,14 +15,91 @@ pub struct SerializedData {
     pub arcs: Vec<ArcRef>,
 }
 
-/// A serializer over memory, which is lent the environment, and has a session's context of its own.
+/// What has a session's context: one of its own, or one that it is lent.
+pub trait HasSession<K: Ord, V> {
+    fn session(&self) -> &SessionContext<K, V>;
+}
+
+impl<K: Ord, V> HasSession<K, V> for SessionContext<K, V> {
+    fn session(&self) -> &SessionContext<K, V> {
+        self
+    }
+}
+
+impl<'s, K: Ord, V> HasSession<K, V> for &'s SessionContext<K, V> {
+    fn session(&self) -> &SessionContext<K, V> {
+        self
+    }
+}
+
+/// A serializer over memory, which is lent the environment. Its writing takes no lock.
 #[derive(Drop)]
-pub struct PagableSerializerImpl<'e, E: Env> {
+pub struct SerializerOver<'e, E, S> {
     writer: PagableVecFlavor,
     arcs: Vec<ArcRef>,
     levels: usize,
     env: &'e E,
-    session: SessionContext<E::CtxKey, E::CtxValue>,
+    session: S,
+}
+
+impl<'e, E, S> SerializerOver<'e, E, S> {
+    /// A serializer to which nothing was written, with this session. It takes no memory.
+    fn over(alloc: Global, env: &'e E, session: S) -> SerializerOver<'e, E, S>
+        ensures out { written result ≡ nothing }
+        ensures levels { levels_written result ≡ 0 }
+        ensures env { writers_environment result ≡ env.now }
+    {
+        SerializerOver {
+            writer: PagableVecFlavor::new(alloc),
+            arcs: Vec::new(alloc),
+            levels: 0,
+            env,
+            session,
+        }
+    }
+}
+
+/// A serializer with a session's context of its own.
+pub type PagableSerializerImpl<'e, E> = SerializerOver<
+    'e,
+    E,
+    SessionContext<<E as Env>::CtxKey, <E as Env>::CtxValue>,
+>;
+
+/// The serializer that page-out writes a value to, which is lent the session's context.
+pub type SerializerForPaging<'e, E> = SerializerOver<
+    'e,
+    E,
+    &'e SessionContext<<E as Env>::CtxKey, <E as Env>::CtxValue>,
+>;
+
+impl<'e, E: Env> SerializerForPaging<'e, E> {
+    /// A serializer to which nothing was written. It takes no memory.
+    pub fn new(
+        alloc: Global,
+        env: &'e E,
+        session: &'e SessionContext<E::CtxKey, E::CtxValue>,
+    ) -> SerializerForPaging<'e, E>
+        ensures out { ⟦<SerializerForPaging<'e, E> as PagableSerializer<E>>⟧.out result ≡ nothing }
+        ensures levels { ⟦<SerializerForPaging<'e, E> as PagableSerializer<E>>⟧.levels result ≡ 0 }
+        ensures env { ⟦<SerializerForPaging<'e, E> as PagableSerializer<E>>⟧.environment result ≡ env.now }
+    {
+        SerializerOver::over(alloc, env, session)
+    }
+
+    /// The bytes, and the references in the order in which they were written.
+    pub fn finish(self) -> (Vec<u8>, Vec<ArcRef>)
+        ensures { pair_out result ≡ ⟦<SerializerForPaging<'e, E> as PagableSerializer<E>>⟧.out self.entry }
+    {
+        let SerializerOver {
+            writer,
+            arcs,
+            levels: _,
+            env: _,
+            session: _,
+        } = self;
+        (writer.finalize(), arcs)
+    }
 }
 
 impl<'e, E: Env> PagableSerializerImpl<'e, E> {
@@ -32,13 +109,7 @@ impl<'e, E: Env> PagableSerializerImpl<'e, E> {
         ensures levels { ⟦<PagableSerializerImpl<'e, E> as PagableSerializer<E>>⟧.levels result ≡ 0 }
         ensures env { ⟦<PagableSerializerImpl<'e, E> as PagableSerializer<E>>⟧.environment result ≡ env.now }
     {
-        PagableSerializerImpl {
-            writer: PagableVecFlavor::new(alloc),
-            arcs: Vec::new(alloc),
-            levels: 0,
-            env,
-            session: SessionContext::new(alloc),
-        }
+        SerializerOver::over(alloc, env, SessionContext::new(alloc))
     }
 
     /// What was written. It succeeds always.
@@ -46,7 +117,7 @@ impl<'e, E: Env> PagableSerializerImpl<'e, E> {
         ensures ok { IsOk result }
         ensures data { IfOk result (λ d. out_of d ≡ ⟦<PagableSerializerImpl<'e, E> as PagableSerializer<E>>⟧.out self.entry) }
     {
-        let PagableSerializerImpl {
+        let SerializerOver {
             writer,
             arcs,
             levels: _,
@@ -60,7 +131,8 @@ impl<'e, E: Env> PagableSerializerImpl<'e, E> {
     }
 }
 
-impl<'e, E: Env> PagableSerializer<E> for PagableSerializerImpl<'e, E> {
+impl<'e, E: Env, S: HasSession<E::CtxKey, E::CtxValue>> PagableSerializer<E>
+    for SerializerOver<'e, E, S> {
     ghost out = { written };
 
     ghost levels = { levels_written };
@@ -112,6 +184,6 @@ impl<'e, E: Env> PagableSerializer<E> for PagableSerializerImpl<'e, E> {
     }
 
     fn session_context(&self) -> &SessionContext<E::CtxKey, E::CtxValue> {
-        &self.session
+        self.session.session()
     }
 }

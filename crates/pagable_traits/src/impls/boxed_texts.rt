@@ -68,7 +68,9 @@ impl<'de, E: Env> PagableDeserialize<'de, E> for BoxedStr {
         alloc: Global,
         deserializer: &mut D,
     ) -> Result<Self, Error> {
-        let text: String = PagableDeserialize::<E>::pagable_deserialize(alloc, deserializer)?;
-        Ok(text.into_boxed_str())
+        match <String as PagableDeserialize<E>>::pagable_deserialize(alloc, deserializer) {
+            Ok(text) => Ok(text.into_boxed_str()),
+            Err(refusal) => Err(refusal),
+        }
     }
 }

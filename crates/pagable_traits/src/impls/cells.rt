@@ -44,8 +44,10 @@ impl<'de, E: Env> PagableDeserialize<'de, E> for AtomicI64 {
         alloc: Global,
         deserializer: &mut D,
     ) -> Result<Self, Error> {
-        let held: i64 = PagableDeserialize::<E>::pagable_deserialize(alloc, deserializer)?;
-        Ok(AtomicI64::new(held))
+        match PagableDeserialize::<E>::pagable_deserialize(alloc, deserializer) {
+            Ok(held) => Ok(AtomicI64::new(held)),
+            Err(refusal) => Err(refusal),
+        }
     }
 }
 
@@ -90,7 +92,9 @@ impl<'de, E: Env, T: PagableDeserialize<'de, E> + Drop> PagableDeserialize<'de, 
         alloc: Global,
         deserializer: &mut D,
     ) -> Result<Self, Error> {
-        let held: Option<T> = PagableDeserialize::<E>::pagable_deserialize(alloc, deserializer)?;
-        Ok(lock_of(held))
+        match PagableDeserialize::<E>::pagable_deserialize(alloc, deserializer) {
+            Ok(held) => Ok(lock_of(held)),
+            Err(refusal) => Err(refusal),
+        }
     }
 }

@@ -35,8 +35,9 @@ pub fn write_items<E: Env, T: PagableSerialize<E>, S: PagableSerializer<E>>(
     write_each(values.iter(), serializer)
 }
 
-/// Writes the count of the items, and then the items. TooLong above 4,294,967,295 items, before any item.
-pub fn write_list<E: Env, T: PagableSerialize<E>, S: PagableSerializer<E>>(
+/// Writes a slice as a list: the count of its items, and then the items. TooLong above 4,294,967,295 items, before
+/// any item is looked at; else the first item's refusal, or want of memory.
+pub fn serialize_slice<E: Env, T: PagableSerialize<E>, S: PagableSerializer<E>>(
     values: &[T],
     serializer: &mut S,
 ) -> Result<(), Error>
@@ -106,7 +107,7 @@ impl<E: Env, T: PagableSerialize<E>> PagableSerialize<E> for Vec<T> {
     ghost write_causes_may_refuse = { long_or_may_refuse_writing (memory_or T.write_causes) (memory_or_may_refuse_writing T.write_causes T.write_causes_may_refuse) };
 
     fn pagable_serialize<S: PagableSerializer<E>>(&self, serializer: &mut S) -> Result<(), Error> {
-        write_list(self.as_slice(), serializer)
+        serialize_slice(self.as_slice(), serializer)
     }
 }
 

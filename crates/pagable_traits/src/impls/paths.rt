@@ -57,7 +57,9 @@ impl<'de, E: Env> PagableDeserialize<'de, E> for PathText {
         alloc: Global,
         deserializer: &mut D,
     ) -> Result<Self, Error> {
-        let text: String = PagableDeserialize::<E>::pagable_deserialize(alloc, deserializer)?;
-        Ok(PathText { text })
+        match PagableDeserialize::<E>::pagable_deserialize(alloc, deserializer) {
+            Ok(text) => Ok(PathText { text }),
+            Err(refusal) => Err(refusal),
+        }
     }
 }

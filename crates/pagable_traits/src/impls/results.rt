@@ -36,15 +36,10 @@ impl<E: Env, T: PagableSerialize<E>, X: PagableSerialize<E>> PagableSerialize<E>
     ghost write_causes_may_refuse = { memory_or_may_refuse_writing (either T.write_causes X.write_causes) (either_may_refuse_writing T.write_causes X.write_causes T.write_causes_may_refuse X.write_causes_may_refuse) };
 
     fn pagable_serialize<S: PagableSerializer<E>>(&self, serializer: &mut S) -> Result<(), Error> {
+        write_flag(self.is_ok(), serializer)?;
         match self {
-            Ok(value) => {
-                write_flag(true, serializer)?;
-                value.pagable_serialize(serializer)
-            }
-            Err(failure) => {
-                write_flag(false, serializer)?;
-                failure.pagable_serialize(serializer)
-            }
+            Ok(value) => value.pagable_serialize(serializer),
+            Err(failure) => failure.pagable_serialize(serializer),
         }
     }
 }

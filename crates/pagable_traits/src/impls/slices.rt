@@ -9,7 +9,7 @@ ghost use Rattle.pagable_model.specs.Writing.{nesting, WritesSome, Refused, Grow
 ghost use Rattle.pagable_model.specs.Causes.{memory_or_is_own_reading, memory_or_may_refuse_writing, long_or_may_refuse_writing};
 ghost use Rattle.pagable_model.specs.Lifted.{MeansList, list_has_meaning, list_is_meaning, list_single};
 
-use crate::impls::lists::{write_items, write_list};
+use crate::impls::lists::{serialize_slice, write_items};
 use crate::traits::{Carried, OneMeaning, PagableDeserialize, PagableSerialize};
 use pagable_codec::deserializer::PagableDeserializer;
 use pagable_codec::env::Env;
@@ -20,22 +20,6 @@ use std::boxed::BoxedSlice;
 
 // The most items that are written one after another without their count.
 const LONGEST: usize = 4_294_967_295;
-
-/// Writes a slice as a list: the count of its items, and then the items. TooLong above 4,294,967,295 items, before
-/// any item is looked at; else the first item's refusal, or want of memory.
-pub fn serialize_slice<E: Env, T: PagableSerialize<E>, S: PagableSerializer<E>>(
-    values: &[T],
-    serializer: &mut S,
-) -> Result<(), Error>
-    ensures ok { OnOk result (WritesSome (MeansList T.means values.now) (nesting (S.levels serializer.old) (E.parts (S.environment serializer.old))) (list (T.shape (S.environment serializer.old))) (S.out serializer.old) (S.out serializer.new)) }
-    ensures refused { IfErr result (Refused (MeansList T.means values.now) (nesting (S.levels serializer.old) (E.parts (S.environment serializer.old))) (list (T.shape (S.environment serializer.old)))) }
-    ensures only { IfErr result (long_or (memory_or T.write_causes)) }
-    ensures err { Grows (S.out serializer.old) (S.out serializer.new) }
-    ensures same_env { S.environment serializer.new ≡ S.environment serializer.old }
-    ensures same_levels { S.levels serializer.new ≡ S.levels serializer.old }
-{
-    write_list(values, serializer)
-}
 
 /// A slice behind a reference is written as its items without their count, as in the Rust crate, so nothing can read it
 /// by itself.
@@ -91,7 +75,7 @@ impl<E: Env, T: PagableSerialize<E>> PagableSerialize<E> for BoxedSlice<T> {
     ghost write_causes_may_refuse = { long_or_may_refuse_writing (memory_or T.write_causes) (memory_or_may_refuse_writing T.write_causes T.write_causes_may_refuse) };
 
     fn pagable_serialize<S: PagableSerializer<E>>(&self, serializer: &mut S) -> Result<(), Error> {
-        write_list(self.as_slice(), serializer)
+        serialize_slice(self.as_slice(), serializer)
     }
 }
 
@@ -105,7 +89,9 @@ impl<'de, E: Env, T: PagableDeserialize<'de, E> + Drop> PagableDeserialize<'de, 
         alloc: Global,
         deserializer: &mut D,
     ) -> Result<Self, Error> {
-        let values: Vec<T> = PagableDeserialize::pagable_deserialize(alloc, deserializer)?;
-        Ok(values.into_boxed_slice())
+        match <Vec<T>>::pagable_deserialize(alloc, deserializer) {
+            Ok(values) => Ok(values.into_boxed_slice()),
+            Err(refusal) => Err(refusal),
+        }
     }
 }

@@ -8,7 +8,7 @@ ghost use Rattle.pagable_model.specs.Causes.{memory_or_is_own_reading, memory_or
 ghost use Rattle.pagable_model.specs.Lifted.{MeansList, list_has_meaning, list_is_meaning, list_single};
 
 use crate::impls::collecting::{Collects, read_collected};
-use crate::impls::lists::write_list;
+use crate::impls::lists::serialize_slice;
 use crate::traits::{Carried, OneMeaning, PagableDeserialize, PagableSerialize};
 use pagable_codec::deserializer::PagableDeserializer;
 use pagable_codec::env::Env;
@@ -57,7 +57,7 @@ impl<E: Env, T: PagableSerialize<E>, const N: usize> PagableSerialize<E> for Sma
     ghost write_causes_may_refuse = { long_or_may_refuse_writing (memory_or T.write_causes) (memory_or_may_refuse_writing T.write_causes T.write_causes_may_refuse) };
 
     fn pagable_serialize<S: PagableSerializer<E>>(&self, serializer: &mut S) -> Result<(), Error> {
-        write_list(self.as_slice(), serializer)
+        serialize_slice(self.as_slice(), serializer)
     }
 }
 

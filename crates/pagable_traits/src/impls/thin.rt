@@ -62,8 +62,9 @@ impl<
         alloc: Global,
         deserializer: &mut D,
     ) -> Result<Self, Error> {
-        let value: (H, Vec<T>) = PagableDeserialize::pagable_deserialize(alloc, deserializer)?;
-        let (header, items) = value;
-        Ok(Thin { header, items })
+        match PagableDeserialize::pagable_deserialize(alloc, deserializer) {
+            Ok((header, items)) => Ok(Thin { header, items }),
+            Err(refusal) => Err(refusal),
+        }
     }
 }

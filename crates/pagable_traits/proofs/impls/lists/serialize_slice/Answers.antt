@@ -1,7 +1,7 @@
 use Rattle.std.proofs.Common.{length, refl}
 use Rattle.pagable_traits.proofs.Walks.{shows_slice, wraps_list, written_counted, refused_counted}
 use Rattle.pagable_traits.proofs.InTurn.{owed}
-use Rattle.pagable_traits.proofs.impls.lists.write_list.Goals as goal
+use Rattle.pagable_traits.proofs.impls.lists.serialize_slice.Goals as goal
 
 pub returns : goal.returns
 returns g c =
