@@ -1,12 +1,11 @@
 -- What follows for keys: each that is published is its tree's, each that is answered is its task's, and what a worker met that answers one is left paged out.
-use Rattle.std.proofs.Common.{◌≡◌, ℕ, ◌==◌, true, List, [], ◌∷◌, Option, Some, None, Ok, Err, if◌then◌else◌, refl, sym, ap, subst, ◌∙◌, arith}
+use Rattle.std.proofs.Common.{◌≡◌, ℕ, true, List, [], ◌∷◌, Option, Some, None, Ok, Err, refl, sym, ap, subst, ◌∙◌}
 use Rattle.std.specs.Prelude.{is_some}
-use Rattle.std.proofs.lemmas.Bool.Decides.{nat_tests}
 use Rattle.pagable_model.specs.declared.data_key.OptionalDataKey.TheVariants as optional
 use Rattle.pagable_model.specs.Meaning.{number, integer, text, pattern, none, pair, variant, reference, followed}
 use Rattle.pagable_model.specs.Canonical.{EachType}
 use Rattle.pagable_model.specs.Merkle.{blob_of, KeyOf, KeyOfItem}
-use Rattle.pagable_world.specs.Plain.{OptionalDataKey, ArcRef, Identity, is_loose_kind, Meaning, Tree, HandleNumber, ReadsTree, WorkerNumber, type_of, updated, if_there}
+use Rattle.pagable_world.specs.Plain.{OptionalDataKey, ArcRef, Identity, is_loose_kind, Meaning, Tree, HandleNumber, ReadsTree, WorkerNumber, type_of, if_there}
 use Rattle.pagable_world.specs.declared.events.Event.TheVariants as events
 use Rattle.pagable_world.specs.declared.events.Event.{Event}
 use Rattle.pagable_world.specs.declared.events.EventReply.TheVariants as answers
@@ -28,6 +27,7 @@ use Rattle.pagable_laws.proofs.Merkle.{one_key, one_item_key, tree_readable}
 use Rattle.pagable_laws.proofs.Trees.{same_some}
 use Rattle.pagable_laws.proofs.Following.{IdentityStands, known-of, keys-of, tree-form, held-of, cell-of}
 use Rattle.pagable_laws.proofs.Taking.{row-held}
+use Rattle.pagable_laws.proofs.Coming.{updated-at}
 use Rattle.pagable_laws.proofs.Shelves.{KeepsKeys, keys-on, keys-same}
 use Rattle.pagable_laws.proofs.Stepping.{all-known, stands-for}
 
@@ -119,9 +119,6 @@ module _ {N E : Type 0} (v : Values N) (s : MachineState N E) (trees : ℕ → T
 
 -- ---- an event
 
-pub at-self : {X : Type 0} (k : ℕ) (x : X) (f : ℕ → X) → updated k x f k ≡ x
-at-self k x f = let e : (k == k) ≡ true = grind (arith, nat_tests) in ap (λ b. if b then x else f k) e
-
 done-on : {N : Type 0} (v : Values N) {shelf shelf' : Shelf} → KeepsKeys shelf shelf' → (task : Task) (key : ℕ) → IsDone v shelf task key → IsDone v shelf' task key
 done-on v keeps (of_item written) key (keys, known, is) = (keys, keys-on keeps written.references keys known, is)
 done-on v keeps (of_entry h i) key (height, p) = (height, keeps i key height p)
@@ -164,12 +161,12 @@ module _ {N B W E : Type 0} (m : Seen N B W) (s s' : MachineState N E) (trees tr
     done key is =
         let a = answered m n.0 (ground_of s trees) w.walking.task site w.after w.walking.todo reply.took w.does.does (before.walks n.0 w.walking w.at) key (sym w.answers ∙ is) in
         let table = w.work.same_shelves w.walking.table in
-        done-on m.values (keys-same (λ i. table.slots i ∙ ap (λ (z : Shelf). z.slots i) (at-self w.walking.table w.after.shelf s.work.shelves) ∙ a.same i)) w.walking.task key a.done
+        done-on m.values (keys-same (λ i. table.slots i ∙ ap (λ (z : Shelf). z.slots i) (updated-at w.walking.table w.after.shelf s.work.shelves) ∙ a.same i)) w.walking.task key a.done
 
     -- the worker as it is afterwards
     is-after : (P : Walking → Type 0) → P (record w.walking { todo = w.after.todo; steps = reply.steps; answer = reply.answer }) → (walking : Walking) → s'.work.walkings n.0 ≡ Some walking → P walking
     is-after P p walking there =
-        let same : record w.walking { todo = w.after.todo; steps = reply.steps; answer = reply.answer } ≡ walking = same_some _ _ (sym (at-self n.0 (Some (record w.walking { todo = w.after.todo; steps = reply.steps; answer = reply.answer })) s.work.walkings) ∙ sym (w.work.same_walkings n.0) ∙ there) in
+        let same : record w.walking { todo = w.after.todo; steps = reply.steps; answer = reply.answer } ≡ walking = same_some _ _ (sym (updated-at n.0 (Some (record w.walking { todo = w.after.todo; steps = reply.steps; answer = reply.answer })) s.work.walkings) ∙ sym (w.work.same_walkings n.0) ∙ there) in
         subst P same p
 
   left-all : (t : ℕ) (task : Task) (key : ℕ) → IsDone m.values (s'.work.shelves t) task key → LeavesAll m.values s'.pager (s'.work.shelves t) trees' task

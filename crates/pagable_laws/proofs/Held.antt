@@ -27,7 +27,7 @@ use Rattle.pagable_laws.proofs.Calling.{pins, begins}
 use Rattle.pagable_laws.proofs.WalkSteps.{works-free, walk-goes}
 use Rattle.pagable_laws.proofs.Changing.{PutsSlot, puts-slot, put-cases, is-same}
 use Rattle.pagable_laws.proofs.Shelves.{keys-same}
-use Rattle.pagable_laws.proofs.Answering.{at-self}
+use Rattle.pagable_laws.proofs.Coming.{updated-at}
 use Rattle.pagable_laws.proofs.Naming.{stands-on, key-on, all-on, claimed-stands, clone-stands}
 
 -- ---- lists
@@ -91,7 +91,7 @@ key-set {w} {w'} v r through key u s call kind = elim call.does [
       record {
         given = let a = s.node_given in let b = goes.nodes in omega arith;
         keyed = λ cell live. let now = (fell f).cells row.node.0 cell (subst (λ n. w'.cells n.0 ≡ Some cell) (sym same) live) in
-            cell-keyed key (w.cells row.node.0) cell (sym (at-self row.node.0 (if_there (λ (x : Cell). Some (record x { key = optional.Some key })) None (w.cells row.node.0)) w.cells) ∙ now);
+            cell-keyed key (w.cells row.node.0) cell (sym (updated-at row.node.0 (if_there (λ (x : Cell). Some (record x { key = optional.Some key })) None (w.cells row.node.0)) w.cells) ∙ now);
       }
 ]
 
