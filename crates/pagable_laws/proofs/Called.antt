@@ -207,9 +207,6 @@ module _ {N B W : Type 0} (m : Seen N B W) (w : Core) (me : Owner) (free : NotLo
   ends-load l x (Err (e, Some y)) c = quiet (λ n z b. inr (alike-away c.refused.1.stays n)) (alike c.refused.1.stays)
   ends-load l x (Err (e, None)) c = quiet (λ n z b. inr (fell-away c.refused.closes n)) (closes l c.refused.closes)
 
-  none-come : {call : Call N B} {reply : Reply N B} → ((n : ℕ) (x : N) → CallBrings w call n x → ⊥) → Quiet w w' → CG call reply
-  none-come none q = quiet (λ n x b. absurd (none n x b)) q
-
   pub calls-go : (call : Call N B) (reply : Reply N B) → KeepsOpen {N = N} {B = B} {W = W} (events.Call call) → Does m w me call reply w' → CG call reply
   calls-go (calls.NewPinned x) (replies.Made r) stays c = births (calls.NewPinned x) x modes.Pinned (λ n y b. b) r c
   calls-go (calls.NewPinned x) reply stays c = absurd c

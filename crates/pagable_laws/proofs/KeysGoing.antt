@@ -1,15 +1,15 @@
 -- Workers go on holding what they hold.
-use Rattle.std.proofs.Common.{◌≡◌, ℕ, true, false, List, ◌∷◌, inl, inr, Some, None, Ok, Err, refl, sym, ap, subst, ◌∙◌}
-use Rattle.pagable_world.specs.Plain.{ArcRef, Identity, WorkerNumber, Tree, ReadsTree, is_loose_kind, updated}
-use Rattle.pagable_world.specs.declared.events.Event.TheVariants as events
+use Rattle.std.proofs.Common.{◌≡◌, ℕ, Bool, true, false, List, [], ◌∷◌, arith, inl, inr, Some, None, refl, sym, ap, subst, ◌∙◌}
+use Rattle.std.specs.Prelude.{nat_eq}
+use Rattle.std.proofs.lemmas.Bool.Decides.{nat_tests}
+use Rattle.pagable_world.specs.Plain.{ArcRef, Identity, WorkerNumber, Tree, ReadsTree, is_loose_kind}
 use Rattle.pagable_world.specs.declared.events.Event.{Event}
-use Rattle.pagable_world.specs.declared.events.EventReply.TheVariants as answers
 use Rattle.pagable_world.specs.declared.events.EventReply.{EventReply}
 use Rattle.pagable_world.specs.declared.events.WorkerReply.{WorkerReply}
 use Rattle.pagable_world.specs.Kinds.{find_row}
 use Rattle.pagable_world.specs.World.{Core, Alike, Shelf, Todo, to_publish, Task, of_item, of_entry, Walking, World, Values, Seen}
 use Rattle.pagable_world.specs.Workers.{Site, IsPublished, answer_after, first_todo}
-use Rattle.pagable_world.specs.Events.{WorkStays, WorkIs, no_shelf, new_walking, Ends, WorkerSteps, Happens}
+use Rattle.pagable_world.specs.Events.{Ends, WorkerSteps}
 use Rattle.pagable_world.specs.Pager.{MachineState, world_of, HandlesAreWhole, IsMachineWhole, IsIdle}
 use Rattle.pagable_world.specs.Runs.{ReadsItsTypes, KeepsOpen, Does}
 use Rattle.pagable_laws.specs.TreeSteps.{Change, nothing_felt, KeysAreReady}
@@ -24,8 +24,10 @@ use Rattle.pagable_laws.proofs.Answering.{sets-key}
 use Rattle.pagable_laws.proofs.Naming.{key-on, all-on}
 use Rattle.pagable_laws.proofs.Held.{walk-leaves, item-started, first-quiet}
 use Rattle.pagable_laws.proofs.Outlasting.{stands-whole}
-use Rattle.pagable_laws.proofs.Sparing.{Spares, spares-alike}
-use Rattle.pagable_laws.proofs.SparingSteps.{IsOthers, event-spares}
+use Rattle.pagable_laws.proofs.Sparing.{Spares}
+use Rattle.pagable_laws.proofs.SparingSteps.{event-spares}
+use Rattle.pagable_laws.proofs.Coming.{EventTurns, OwnTurn, rests, begins, steps, updated-at}
+use Rattle.pagable_world.specs.Order.{step_of}
 
 -- ---- what workers hold
 
@@ -45,100 +47,75 @@ module _ {N B W : Type 0} (m : Seen N B W) (u u' : World) {c : Change} (goes : G
   slots-stay : (t : ℕ) (shelf : Shelf) → ((i : Identity) → shelf.slots i ≡ (u.work.shelves t).slots i) → SlotsHeld shelf
   slots-stay t shelf same i key height p kind = key-on goes (held.slots t i key height (keys-same (λ j. sym (same j)) i key height p) kind)
 
-  -- what a worker publishes next that stays as it is
-  publishes-on : (n : ℕ) → Spares n u.core u'.core → (walking : Walking) (r : ArcRef) (key height : ℕ) (below : List Todo) → u.work.walkings n ≡ Some walking → walking.todo ≡ to_publish r key height ∷ below → HasHandle u'.core n r.node.0
-  publishes-on n spares walking r key height below is front = handle-on whole spares (held.publishing n walking r key height below is front)
-
-  work-stays : ((n : ℕ) → Spares n u.core u'.core) → WorkStays u.work u'.work → KeysHeld u'
-  work-stays spares stays =
-      record {
-        publishing = λ n walking r key height below is. publishes-on n (spares n) walking r key height below (sym (stays.walkings n) ∙ is);
-        walks = λ n walking is. all-on goes walking.todo (held.walks n walking (sym (stays.walkings n) ∙ is));
-        slots = λ t. slots-stay t (u'.work.shelves t) (stays.shelves t).slots;
-      }
-
-  -- a new table
-  new-table : (t : ℕ) (last : ℕ) → ((n : ℕ) → Spares n u.core u'.core) → WorkIs (updated t no_shelf u.work.shelves) last u.work.walkings u'.work → KeysHeld u'
-  new-table t last spares is =
-      record {
-        publishing = λ n walking r key height below there. publishes-on n (spares n) walking r key height below (sym (is.same_walkings n) ∙ there);
-        walks = λ n walking there. all-on goes walking.todo (held.walks n walking (sym (is.same_walkings n) ∙ there));
-        slots = λ q. at-number (λ shelf. ((j : Identity) → (u'.work.shelves q).slots j ≡ shelf.slots j) → SlotsHeld (u'.work.shelves q)) t no_shelf u.work.shelves q
-            (λ same none i key height p kind. let f = sym (none i) ∙ p.claimed in absurd (cc)) (λ other same. slots-stay q (u'.work.shelves q) same) (is.same_shelves q).slots;
-      }
-
   first-hold : (w : Core) (task : Task) → AllHold w (first_todo task)
   unfolding AllHold
   first-hold w (of_item written) = item-started w written
   first-hold w (of_entry h i) = (tt, refl, tt)
 
-  -- a new worker
-  new-worker : (v : ℕ) (w : Walking) (last : ℕ) → w.todo ≡ first_todo w.task → ((n : ℕ) → Spares n u.core u'.core) → WorkIs u.work.shelves last (updated v (Some w) u.work.walkings) u'.work → KeysHeld u'
-  new-worker v w last first spares is =
-      record {
-        publishing = λ n walking r key height below there front. at-number (λ found. found ≡ Some walking → HasHandle u'.core n r.node.0) v (Some w) u.work.walkings n
-            (λ same e. let f : true ≡ false = sym (ap is_publishing front) ∙ ap (λ (z : Walking). is_publishing z.todo) (sym (same_some _ _ e)) ∙ ap is_publishing first ∙ first-quiet w.task in absurd (cc))
-            (λ other e. publishes-on n (spares n) walking r key height below e front) (sym (is.same_walkings n) ∙ there);
-        walks = λ n walking there. at-number (λ found. found ≡ Some walking → AllHold u'.core walking.todo) v (Some w) u.work.walkings n
-            (λ same e. subst (λ (z : Walking). AllHold u'.core z.todo) (same_some _ _ e) (subst (λ t. AllHold u'.core t) (sym first) (first-hold u'.core w.task)))
-            (λ other e. all-on goes walking.todo (held.walks n walking e)) (sym (is.same_walkings n) ∙ there);
-        slots = λ t. slots-stay t (u'.work.shelves t) (is.same_shelves t).slots;
-      }
+  module _ (event : Event N B W) (reply : EventReply N B W) (turns : EventTurns m u event reply u') (spares : (n : ℕ) → step_of n event reply ≡ [] → Spares n u.core u'.core) where
+    abbrev WalkHolds : ℕ → Walking → Type 0
+    WalkHolds n w = AllHold u'.core w.todo × ((r : ArcRef) (key height : ℕ) (below : List Todo) → w.todo ≡ to_publish r key height ∷ below → HasHandle u'.core n r.node.0)
 
-  -- a worker's step
-  worker-steps : (v : WorkerNumber) (reply : WorkerReply W) → ((n : ℕ) → (v.0 ≡ n → ⊥) → Spares n u.core u'.core) → WorkerSteps m u v reply u' → KeysHeld u'
-  worker-steps v reply spares s =
-      let w : Walking = s.walking in
-      let site : Site = record { core = u.core; shelf = u.work.shelves w.table; todo = w.todo } in
-      let l = walk-leaves m v.0 site s.after whole reply.took s.does.does (held.walks v.0 w s.at) in
-      let ends = quiet-goes nothing_felt (ends-quiet reply.answer v.0 s.ends) in
-      let now : Walking = record w { todo = s.after.todo; steps = reply.steps; answer = reply.answer } in
-      record {
-        publishing = λ n walking r key height below there front. at-number (λ found. found ≡ Some walking → HasHandle u'.core n r.node.0) v.0 (Some now) u.work.walkings n
-            (λ same e. subst (λ k. HasHandle u'.core k r.node.0) (sym same) (mine l.front (ap (λ (z : Walking). z.todo) (same_some _ _ e) ∙ front)))
-            (λ apart e. publishes-on n (spares n (λ at. apart (sym at))) walking r key height below e front) (sym (s.work.same_walkings n) ∙ there);
-        walks = λ n walking there. at-number (λ found. found ≡ Some walking → AllHold u'.core walking.todo) v.0 (Some now) u.work.walkings n
-            (λ same e. subst (λ (z : Walking). AllHold u'.core z.todo) (same_some _ _ e) (all-on ends s.after.todo l.all))
-            (λ other e. all-on goes walking.todo (held.walks n walking e)) (sym (s.work.same_walkings n) ∙ there);
-        slots = λ t. at-number (λ shelf. ((j : Identity) → (u'.work.shelves t).slots j ≡ shelf.slots j) → SlotsHeld (u'.work.shelves t)) w.table s.after.shelf u.work.shelves t
-            (λ at same i key height p kind. elim (l.reveals i key height (keys-same (λ j. sym (same j)) i key height p)) [
-              | inl was ↦ key-on goes (held.slots w.table i key height was kind)
-              | inr set ↦ key-on ends (set kind)
-            ])
-            (λ other same. slots-stay t (u'.work.shelves t) same) (s.work.same_shelves t).slots;
-      }
-    where
-      -- its answer is none yet, so what it has stays
-      mine : {r : ArcRef} {key height : ℕ} {below : List Todo}
-          → ((r : ArcRef) (key height : ℕ) (below : List Todo) → s.after.todo ≡ to_publish r key height ∷ below → HasHandle s.after.core v.0 r.node.0 × (answer_after s.walking.todo reply.took ≡ None))
-          → s.after.todo ≡ to_publish r key height ∷ below → HasHandle u'.core v.0 r.node.0
-      mine {r} {key} {height} {below} front is =
-          let f = front r key height below is in
-          let a : Alike s.after.core u'.core = subst (λ z. Ends z v.0 s.after.core u'.core) (s.answers ∙ f.1) s.ends in
-          record { h = f.0.h; row = f.0.row; live = subst (λ rows. find_row f.0.h.0 rows ≡ Some f.0.row) (sym a.rows) f.0.live; own = f.0.own; at = f.0.at }
+    stays-so : (n : ℕ) → step_of n event reply ≡ [] → (w : Walking) → u.work.walkings n ≡ Some w → WalkHolds n w
+    stays-so n none w there = (all-on goes w.todo (held.walks n w there), λ r key height below front. handle-on whole (spares n none) (held.publishing n w r key height below there front))
 
-  event-holds : (event : Event N B W) (reply : EventReply N B W) → ((n : ℕ) → IsOthers m n event → Spares n u.core u'.core) → Happens m u event reply u' → KeysHeld u'
-  event-holds (events.Call call) (answers.CallReply r) spares h = work-stays (λ n. spares n tt) h.work
-  event-holds (events.LoadStart k) (answers.Started r) spares h = work-stays (λ n. spares n tt) h.work
-  event-holds (events.LoadKey key t) (answers.Started r) spares h = work-stays (λ n. spares n tt) h.work
-  event-holds (events.LoadStep l) (answers.LoadMoved (Ok reply)) spares h = let x = h.moves in work-stays (λ n. spares n tt) x.work
-  event-holds (events.LoadStep l) (answers.LoadMoved (Err e)) spares h = work-stays (λ n. spares n tt) h.refused.1.work
-  event-holds events.TableNew (answers.TableMade (Ok t)) spares h = let x = h.made in new-table t.0 t.0 (λ n. spares n tt) x.3
-  event-holds events.TableNew (answers.TableMade (Err e)) spares h = work-stays (λ n. spares n tt) h.refused.1.work
-  event-holds (events.WorkerItem t item) (answers.WorkerMade (Ok v)) spares h = let x = h.starts in new-worker v.0 (new_walking t _) u.work.last_table refl (λ n. spares n tt) x.work
-  event-holds (events.WorkerItem t item) (answers.WorkerMade (Err e)) spares h = work-stays (λ n. spares n tt) h.refused.1.work
-  event-holds (events.WorkerListed t i) (answers.WorkerMade (Ok v)) spares h = let x = h.starts.5 in new-worker v.0 (new_walking t _) u.work.last_table refl (λ n. spares n tt) x.work
-  event-holds (events.WorkerListed t i) (answers.WorkerMade (Err e)) spares h = work-stays (λ n. spares n tt) h.refused.1.work
-  event-holds (events.WorkerStep v) (answers.WorkerMoved (Ok reply)) spares h = worker-steps v reply spares h.moves
-  event-holds (events.WorkerStep v) (answers.WorkerMoved (Err e)) spares h = work-stays (λ n. spares-alike n h.refused.2.core) h.refused.2.work
-  event-holds event reply spares h = absurd h
+    all-hold : ((t : ℕ) → SlotsHeld (u'.work.shelves t)) → ((w : Walking) → u'.work.walkings turns.who ≡ Some w → WalkHolds turns.who w) → KeysHeld u'
+    all-hold slots own =
+        record {
+          publishing = λ n w r key height below there. let h = of n w there (nat_eq n turns.who) refl in h.1 r key height below;
+          walks = λ n w there. let h = of n w there (nat_eq n turns.who) refl in h.0;
+          slots = slots;
+        }
+      where
+        of : (n : ℕ) (w : Walking) → u'.work.walkings n ≡ Some w → (b : Bool) → nat_eq n turns.who ≡ b → WalkHolds n w
+        of n w there true e = let f : n ≡ turns.who = grind (arith, nat_tests) in subst (λ k. WalkHolds k w) (sym f) (own w (sym (ap u'.work.walkings f) ∙ there))
+        of n w there false e = let turned = turns.turned in stays-so n (turns.others n e) w (sym (turned.others n e) ∙ there)
+
+    a-step : (k : WorkerNumber) (r : WorkerReply W) → k.0 ≡ turns.who → WorkerSteps m u k r u' → KeysHeld u'
+    a-step k r at s =
+        let w : Walking = s.walking in
+        let site : Site = record { core = u.core; shelf = u.work.shelves w.table; todo = w.todo } in
+        let l = walk-leaves m k.0 site s.after whole r.took s.does.does (held.walks k.0 w s.at) in
+        let ends = quiet-goes nothing_felt (ends-quiet r.answer k.0 s.ends) in
+        let now : Walking = record w { todo = s.after.todo; steps = r.steps; answer = r.answer } in
+        let at_now : u'.work.walkings turns.who ≡ Some now = sym (ap u'.work.walkings at) ∙ s.work.same_walkings k.0 ∙ updated-at k.0 (Some now) u.work.walkings in
+        let holds : WalkHolds k.0 now = (all-on ends s.after.todo l.all, λ q key height below front. mine l.front front) in
+        all-hold
+        (λ t. at-number (λ shelf. ((j : Identity) → (u'.work.shelves t).slots j ≡ shelf.slots j) → SlotsHeld (u'.work.shelves t)) w.table s.after.shelf u.work.shelves t
+        (λ here same i key height p kind. elim (l.reveals i key height (keys-same (λ j. sym (same j)) i key height p)) [
+          | inl was ↦ key-on goes (held.slots w.table i key height was kind)
+          | inr set ↦ key-on ends (set kind)
+        ])
+        (λ other same. slots-stay t (u'.work.shelves t) same) (s.work.same_shelves t).slots)
+        (λ x there. subst (λ (z : Walking). WalkHolds turns.who z) (same_some _ _ (sym at_now ∙ there)) (subst (λ n. WalkHolds n now) at holds))
+      where
+        -- its answer is none yet, so what it has stays
+        mine : {q : ArcRef} {key height : ℕ} {below : List Todo}
+            → ((q : ArcRef) (key height : ℕ) (below : List Todo) → s.after.todo ≡ to_publish q key height ∷ below → HasHandle s.after.core k.0 q.node.0 × (answer_after s.walking.todo r.took ≡ None))
+            → s.after.todo ≡ to_publish q key height ∷ below → HasHandle u'.core k.0 q.node.0
+        mine {q} {key} {height} {below} front is =
+            let f = front q key height below is in
+            let a : Alike s.after.core u'.core = subst (λ z. Ends z k.0 s.after.core u'.core) (s.answers ∙ f.1) s.ends in
+            record { h = f.0.h; row = f.0.row; live = subst (λ rows. find_row f.0.h.0 rows ≡ Some f.0.row) (sym a.rows) f.0.live; own = f.0.own; at = f.0.at }
+
+    by-own : OwnTurn m u turns.who (step_of turns.who event reply) u' → KeysHeld u'
+    by-own (rests none same still) = all-hold (λ t. slots-stay t (u'.work.shelves t) (same t)) (λ w there. stays-so turns.who none w (sym still ∙ there))
+    by-own (begins t task none same nobody new) =
+        all-hold (λ q. slots-stay q (u'.work.shelves q) (same q))
+        (λ w there. subst (λ (z : Walking). WalkHolds turns.who z) (same_some _ _ (sym new ∙ there))
+        (first-hold u'.core task, λ r key height below front. let f : true ≡ false = sym (ap is_publishing front) ∙ first-quiet task in absurd (cc)))
+    by-own (steps k r at one s) = a-step k r at s
+
+    keys-hold : KeysHeld u'
+    keys-hold = by-own turns.own
 
 -- and after each event of a whole machine that doesn't close the storage
-pub held-on : {N B W E : Type 0} (m : Seen N B W) (s s' : MachineState N E) (event : Event N B W) (reply : EventReply N B W) → IsMachineWhole m.values s → KeepsOpen event → Does m s event reply s' → KeysHeld (world_of s) → KeysHeld (world_of s')
-held-on m s s' event reply whole stays does held =
+pub held-on : {N B W E : Type 0} (m : Seen N B W) (s s' : MachineState N E) (event : Event N B W) (reply : EventReply N B W) → EventTurns m (world_of s) event reply (world_of s')
+    → IsMachineWhole m.values s → KeepsOpen event → Does m s event reply s' → KeysHeld (world_of s) → KeysHeld (world_of s')
+held-on m s s' event reply turns whole stays does held =
     let happens = does.step.happens in
-    event-holds m (world_of s) (world_of s') (event-goes m (world_of s) (world_of s') event reply stays happens).goes held whole.pager.whole.handles event reply
-    (λ n others. event-spares m n (world_of s) (world_of s') whole.pager.whole.owners_there event reply others stays happens) happens
+    keys-hold m (world_of s) (world_of s') (event-goes m (world_of s) (world_of s') event reply stays happens).goes held whole.pager.whole.handles event reply turns
+    (λ n others. event-spares m n (world_of s) (world_of s') whole.pager.whole.owners_there event reply others stays happens)
 
 -- ---- what is set
 

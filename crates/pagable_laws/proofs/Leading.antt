@@ -156,7 +156,3 @@ module _ {N E : Type 0} {v : Values N} {s : PagerState N E} {trees : ℕ → Tre
 
   pub stands-again : (n : ℕ) → 0 < held n s.core.rows → NodeStands v s n (trees n)
   stands-again n live = node-by n live (λ z l k. stand (trees n).meaning l refl k)
-
-  -- and a value that leads to a tree, of references that are live, stands for it
-  pub value-stands : {own : Meaning ArcRef} {a : Meaning ⊥} → LeadsTo trees own a → AreLive s.core own → MeaningStands v s own a
-  value-stands {own} {a} l h = stand a l refl h

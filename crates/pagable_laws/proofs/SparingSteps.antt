@@ -1,5 +1,5 @@
 -- Each event leaves each handle of a worker as it is that doesn't make it.
-use Rattle.std.proofs.Common.{◌≡◌, ℕ, ◌==◌, ◌&&◌, ◌||◌, Bool, true, false, List, ◌∷◌, Option, Some, None, Ok, Err, ◌⊎◌, inl, inr, refl, ap, ◌∙◌, arith}
+use Rattle.std.proofs.Common.{◌≡◌, ℕ, ◌==◌, ◌&&◌, ◌||◌, Bool, true, false, List, [], ◌∷◌, Option, Some, None, Ok, Err, ◌⊎◌, inl, inr, if◌then◌else◌, refl, ap, subst, ◌∙◌, arith}
 use Rattle.std.proofs.lemmas.Bool.Decides.{nat_tests}
 use Rattle.pagable_world.specs.declared.events.Claim.TheVariants as claims
 use Rattle.pagable_world.specs.declared.events.LoadAnswer.TheVariants as ends
@@ -26,6 +26,7 @@ use Rattle.pagable_world.specs.Workers.{Site, Does, PinsAtOnce, PinsByLoad, PinR
 use Rattle.pagable_world.specs.Events.{Starts, Ends, Happens}
 use Rattle.pagable_world.specs.Pager.{OwnersAreThere}
 use Rattle.pagable_world.specs.Runs.{KeepsOpen}
+use Rattle.pagable_world.specs.Order.{step_of}
 use Rattle.pagable_laws.proofs.Sparing.{Spares, Free, spares-then, spares-alike, then-alike, then-fell, itself, moved-free, listed-free}
 use Rattle.pagable_laws.proofs.SparingCalls.{stores, clones, begins, begins-key, asks, adopting, lazily, closes, pins, sets, schedules, ends-load, hands-over, calls-spare}
 
@@ -151,18 +152,19 @@ module _ {N B W : Type 0} (m : Seen N B W) (v : ℕ) where
 
   -- ---- events
 
-  -- the event isn't a step of the worker's
-  abbrev pub IsOthers : Event N B W → Type 0
-  IsOthers (events.WorkerStep k) = k.0 ≡ v → ⊥
-  IsOthers event = Unit {0}
-
   callers : owners.Caller ≡ owner_worker v → ⊥
   callers e = cc
 
   started : {u u' : World} {core : Core} (t : TableNumber) (task : Task) (k : WorkerNumber) → Spares v u.core core → Starts u t task core k u' → Spares v u.core u'.core
   started t task k a s = then-alike v s.pager (record { each = a.each })
 
-  pub event-spares : (u u' : World) → OwnersAreThere u.core → (event : Event N B W) (reply : EventReply N B W) → IsOthers event → KeepsOpen event → Happens m u event reply u' → Spares v u.core u'.core
+  -- who makes no step isn't the one that makes this
+  isnt-own : {X : Type 0} (x : X) (k : ℕ) → (if k == v then x ∷ [] else []) ≡ [] → k ≡ v → ⊥
+  isnt-own x k none at =
+      let e : (k == v) ≡ true = grind (arith, nat_tests) in
+      let f : (if true then x ∷ [] else []) ≡ [] = subst (λ b. (if b then x ∷ [] else []) ≡ []) e none in absurd (cc)
+
+  pub event-spares : (u u' : World) → OwnersAreThere u.core → (event : Event N B W) (reply : EventReply N B W) → step_of v event reply ≡ [] → KeepsOpen event → Happens m u event reply u' → Spares v u.core u'.core
   event-spares u u' there (events.Call call) (answers.CallReply r) others stays h = calls-spare v u.core u'.core owners.Caller callers m there call r stays h.step.does
   event-spares u u' there (events.LoadStart k) (answers.Started r) others stays h = begins v u.core u'.core r h.step
   event-spares u u' there (events.LoadKey key t) (answers.Started r) others stays h = begins-key v u.core u'.core r h.step
@@ -177,6 +179,7 @@ module _ {N B W : Type 0} (m : Seen N B W) (v : ℕ) where
   event-spares u u' there (events.WorkerListed t i) (answers.WorkerMade (Err e)) others stays h = spares-alike v h.refused.1.core
   event-spares u u' there (events.WorkerStep k) (answers.WorkerMoved (Ok reply)) others stays h =
       let x = h.moves in
-      spares-then v (walk-spares k.0 others (record { core = u.core; shelf = u.work.shelves x.walking.table; todo = x.walking.todo }) x.after x.walking.todo reply.took x.does.does) (ended k.0 others reply.answer x.ends)
+      let apart = isnt-own reply.took k.0 others in
+      spares-then v (walk-spares k.0 apart (record { core = u.core; shelf = u.work.shelves x.walking.table; todo = x.walking.todo }) x.after x.walking.todo reply.took x.does.does) (ended k.0 apart reply.answer x.ends)
   event-spares u u' there (events.WorkerStep k) (answers.WorkerMoved (Err e)) others stays h = spares-alike v h.refused.2.core
   event-spares u u' there event reply others stays h = absurd h
