@@ -34,7 +34,8 @@ use Rattle.pagable_laws.proofs.Stepping.{all-known, stands-for}
 -- ---- one step of a worker
 
 module _ {N B W : Type 0} (m : Seen N B W) (n : ℕ) (g : Ground) (task : Task) (s s' : Site) where
-  of-publish : (todo : List Todo) (i : Identity) (key height : ℕ) → Does m n s todo (took.Publish i key height) s' → Walks m.values g s.shelf task todo → KeyOf m.values.hash m.values.types (g.trees i.node.0) key
+  of-publish : (todo : List Todo) (i : Identity) (key height : ℕ) → Does m n s todo (took.Publish i key height) s' → Walks m.values g s.shelf task todo
+      → KeyOf m.values.hash m.values.types (g.trees i.node.0) key
   of-publish (to_publish r k h ∷ below) i key height (is, same_key, same_height, t) (blob, above) =
       subst (λ (j : Identity). KeyOf m.values.hash m.values.types (g.trees j.node.0) key) (sym is) (subst (λ q. KeyOf m.values.hash m.values.types (g.trees r.node.0) q) (sym same_key) blob.stands.right.is_key)
   of-publish todo i key height does walks = absurd does

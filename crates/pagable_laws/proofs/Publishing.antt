@@ -44,7 +44,8 @@ at-number P k x f q here there = of (q == k) refl
     of false e = there (different q k e)
 
 -- what a worker wrote in its step is of the node
-took-writes : {N B W E : Type 0} (m : Seen N B W) (s : PagerState N E) (n : ℕ) (event : Event N B W) (reply : EventReply N B W) (taken : Took W) → step_of n event reply ≡ taken ∷ [] → ReplyWrites m s reply
+took-writes : {N B W E : Type 0} (m : Seen N B W) (s : PagerState N E) (n : ℕ) (event : Event N B W) (reply : EventReply N B W) (taken : Took W) → step_of n event reply ≡ taken ∷ []
+    → ReplyWrites m s reply
     → TookWrites m.values m.written_of s taken
 took-writes {W = W} m s n (events.WorkerStep u) (answers.WorkerMoved (Ok r)) taken is writes = of (u.0 == n) is
   where

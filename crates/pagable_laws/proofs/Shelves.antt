@@ -137,7 +137,8 @@ module _ {N : Type 0} {v : Values N} {g g' : Ground} {shelf shelf' : Shelf} (goe
     pub slots-failed : ((i : Identity) → shelf'.slots i ≡ (with_failed shelf n).slots i) → SlotsFit v g' shelf'
     slots-failed same i slot' now = of (shelf.slots i) refl (sym (same i) ∙ now)
       where
-        of : (old : Option Slot) → shelf.slots i ≡ old → if_there (λ (slot : Slot). Some (if nat_eq slot.worker n then with_outcome failed slot else slot)) None old ≡ Some slot' → SlotFits v g' shelf' i slot'
+        of : (old : Option Slot) → shelf.slots i ≡ old → if_there (λ (slot : Slot). Some (if nat_eq slot.worker n then with_outcome failed slot else slot)) None old ≡ Some slot'
+            → SlotFits v g' shelf' i slot'
         of None none is = absurd (cc)
         of (Some slot) there is =
             subst (λ (z : Slot). SlotFits v g' shelf' i z) (some-same refl is)

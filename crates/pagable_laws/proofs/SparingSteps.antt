@@ -164,7 +164,8 @@ module _ {N B W : Type 0} (m : Seen N B W) (v : ℕ) where
       let e : (k == v) ≡ true = grind (arith, nat_tests) in
       let f : (if true then x ∷ [] else []) ≡ [] = subst (λ b. (if b then x ∷ [] else []) ≡ []) e none in absurd (cc)
 
-  pub event-spares : (u u' : World) → OwnersAreThere u.core → (event : Event N B W) (reply : EventReply N B W) → step_of v event reply ≡ [] → KeepsOpen event → Happens m u event reply u' → Spares v u.core u'.core
+  pub event-spares : (u u' : World) → OwnersAreThere u.core → (event : Event N B W) (reply : EventReply N B W) → step_of v event reply ≡ [] → KeepsOpen event → Happens m u event reply u'
+      → Spares v u.core u'.core
   event-spares u u' there (events.Call call) (answers.CallReply r) others stays h = calls-spare v u.core u'.core owners.Caller callers m there call r stays h.step.does
   event-spares u u' there (events.LoadStart k) (answers.Started r) others stays h = begins v u.core u'.core r h.step
   event-spares u u' there (events.LoadKey key t) (answers.Started r) others stays h = begins-key v u.core u'.core r h.step

@@ -39,23 +39,27 @@ module _ (shelf : Shelf) where
   all-known (r ∷ rs) (k ∷ ks) e (q, known) = (q, all-known rs ks (omega arith) known)
 
 module _ {N : Type 0} (v : Values N) (g : Ground) (shelf : Shelf) (task : Task) where
-  pub started-node : (o : Open) (below : List Todo) (rs : List ArcRef) → drop (length o.keys) o.written.references ≡ rs → Waits shelf task (to_finish o ∷ below) → Walks v g shelf task (next_start o.place rs ++ to_finish o ∷ below)
+  pub started-node : (o : Open) (below : List Todo) (rs : List ArcRef) → drop (length o.keys) o.written.references ≡ rs → Waits shelf task (to_finish o ∷ below)
+      → Walks v g shelf task (next_start o.place rs ++ to_finish o ∷ below)
   started-node o below [] e waits = waits
   started-node o below (r ∷ rs) e waits = ((rs, e), waits)
 
-  pub started-item : (written : Written) (ks : List ℕ) (below : List Todo) (rs : List ArcRef) → drop (length ks) written.references ≡ rs → Waits shelf task (to_item written ks ∷ below) → Walks v g shelf task (next_start 0 rs ++ to_item written ks ∷ below)
+  pub started-item : (written : Written) (ks : List ℕ) (below : List Todo) (rs : List ArcRef) → drop (length ks) written.references ≡ rs → Waits shelf task (to_item written ks ∷ below)
+      → Walks v g shelf task (next_start 0 rs ++ to_item written ks ∷ below)
   started-item written ks below [] e waits = waits
   started-item written ks below (r ∷ rs) e waits = ((rs, e), waits)
 
   -- a key goes to what waits for it
-  pub given : (r : ArcRef) (key height : ℕ) → IsPublished shelf (identity_of r) key height → (below : List Todo) → Expects task r below → Waits shelf task below → Walks v g shelf task (give r key height below)
+  pub given : (r : ArcRef) (key height : ℕ) → IsPublished shelf (identity_of r) key height → (below : List Todo) → Expects task r below → Waits shelf task below
+      → Walks v g shelf task (give r key height below)
   unfolding Waits
   given r key height p [] expects waits = tt
   given r key height p (to_finish o ∷ below) (more, e) (known, expects, waits) = started-node _ below _ refl (so-far-more shelf _ _ r more key height e known p, expects, waits)
   given r key height p (to_item written ks ∷ below) (more, e) (is, known) = started-item written _ below _ refl (is, so-far-more shelf _ _ r more key height e known p)
   given r key height p (_ ∷ below) expects waits = absurd expects
 
-  pub given-known : (r : ArcRef) (key height : ℕ) → IsPublished shelf (identity_of r) key height → (below : List Todo) → Expects task r below → Waits shelf task below → Walks v g shelf task (give_known r key height below)
+  pub given-known : (r : ArcRef) (key height : ℕ) → IsPublished shelf (identity_of r) key height → (below : List Todo) → Expects task r below → Waits shelf task below
+      → Walks v g shelf task (give_known r key height below)
   given-known r key height p [] expects waits = (p, (expects, waits))
   given-known r key height p (x ∷ below) expects waits = given r key height p (x ∷ below) expects waits
 
@@ -88,7 +92,8 @@ module _ {N B W : Type 0} (m : Seen N B W) (n : ℕ) {g g' : Ground} (task : Tas
     fails : {back : Option HandleNumber} (fault : Fault) → s'.todo ≡ to_fail fault back ∷ [] → Fits
     fails fault e = did kept e tt
 
-    finishes : (o : Open) (below : List Todo) (key : ℕ) → HasClaim s.shelf n (identity_of o.reference) (λ w. w ≡ Some o.written) → Waits s.shelf task (to_finish o ∷ below) → length o.keys ≡ length o.written.references
+    finishes : (o : Open) (below : List Todo) (key : ℕ) → HasClaim s.shelf n (identity_of o.reference) (λ w. w ≡ Some o.written) → Waits s.shelf task (to_finish o ∷ below)
+        → length o.keys ≡ length o.written.references
         → key ≡ digest m.values (blob_of o.written.bytes o.keys) → g'.stored key ≡ Some (blob_of o.written.bytes o.keys) → Walks m.values g' s'.shelf task (to_set o.reference o.through key o.height ∷ below)
     unfolding Waits
     finishes o below key claim (known, expects, waits) all is there =
@@ -121,7 +126,8 @@ module _ {N B W : Type 0} (m : Seen N B W) (n : ℕ) {g g' : Ground} (task : Tas
       } in
       did (slots-but goes more fits puts fits_new) e (still r below above)
 
-  writes : (r : ArcRef) (place : ℕ) (through : HandleNumber) (below : List Todo) (written : Written) (claim : HasClaim s.shelf n (identity_of r) (λ w. w ≡ None)) → WroteTree m.values.types g r.node.0 written
+  writes : (r : ArcRef) (place : ℕ) (through : HandleNumber) (below : List Todo) (written : Written) (claim : HasClaim s.shelf n (identity_of r) (λ w. w ≡ None))
+      → WroteTree m.values.types g r.node.0 written
       → Puts r (record claim.slot { written = Some written }) → Above s.shelf task r below → s'.todo ≡ open_node r place through written below → Fits
   unfolding Waits KeysSoFar
   writes r place through below written claim w puts above e =
