@@ -23,7 +23,6 @@ mod Sums
 mod Existing
 mod Two
 mod Joining
-mod Telling
 mod Nexts
 mod Goes
 mod Outlasting

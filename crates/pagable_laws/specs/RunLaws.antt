@@ -5,7 +5,6 @@ use Rattle.pagable_world.specs.World.{Frame, Places, Values, Seen}
 use Rattle.pagable_world.specs.Loads.{reads, asks, is_faulty, next_in}
 use Rattle.pagable_world.specs.Pager.{MachineState, IsNew, IsIdle, IsMachineWhole, StandsFor}
 use Rattle.pagable_world.specs.Runs.{Moment, AreMoments, state_after}
-use Rattle.pagable_world.specs.OneWorker.{KeysTellTrees}
 use Rattle.pagable_laws.specs.SmallWorlds.{new_machine}
 
 -- A chain goes on with another.
@@ -28,7 +27,3 @@ pub record NextIsOne (types : Types) (frame : Frame) : Type 0 where
 
 abbrev pub NextIsOneOf : Type 0
 NextIsOneOf = (types : Types) (frame : Frame) → NextIsOne types frame
-
--- In every store, keys tell stored trees of canonical types apart.
-abbrev pub KeysTellTheirTrees : {N : Type 0} → Values N → Type 0
-KeysTellTheirTrees v = (store : ℕ → Option Blob) → KeysTellTrees v store

@@ -3,9 +3,7 @@
 ghost use Rattle.pagable_world.specs.World.{Seen};
 ghost use Rattle.pagable_laws.specs.FallLaws.{IsThere, IsOne, IsGivenAlone, PinsAreAFilter, TwoLevelsFall, LoneIsListed};
 ghost use Rattle.pagable_laws.specs.LevelLaws.{TwoLevelsMeetTheHeadline};
-ghost use Rattle.pagable_laws.specs.RunLaws.{ChainsJoin, NewIsWhole, NextIsOneOf, KeysTellTheirTrees};
-
-use crate::values::is_key_of_one_tree;
+ghost use Rattle.pagable_laws.specs.RunLaws.{ChainsJoin, NewIsWhole, NextIsOneOf};
 
 /// How values of this type are seen, with blobs B and what is written W: any values, so that a law is one of all.
 pub trait SeenAs<B, W>: Sized {
@@ -65,12 +63,6 @@ pub fn next_is_one()
     ensures { NextIsOneOf }
 {}
 
-/// Of stored trees of canonical types the keys are equal exactly if the trees are: the law of values, in every store.
-pub fn keys_tell_trees<N: SeenAs<B, W>, B, W>()
-    ensures { KeysTellTheirTrees N.seen.values }
-{
-    is_key_of_one_tree()
-}
 
 /// The headline is met with all that it asks by a chain of two levels: births, a page-out, an eviction, and loads of cells and of a key.
 #[tactic(auto, using(crate::proofs::Level::headline_met))]

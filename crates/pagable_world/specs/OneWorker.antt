@@ -1,11 +1,10 @@
--- What holds besides where each load's and each worker's steps stand together, and of one cache and one store.
-use Rattle.std.specs.Prelude.{ℕ, ◌≡◌, ◌≢◌, ◌<◌, ◌⊎◌, ◌↔◌, max, true, false, List, [], ◌∷◌, Option, Some, Ok, slice_get}
+-- What holds besides where each load's and each worker's steps stand together, and of one cache.
+use Rattle.std.specs.Prelude.{ℕ, ◌≡◌, ◌≢◌, ◌<◌, ◌⊎◌, max, true, false, List, [], ◌∷◌, Some, Ok, slice_get}
 use Rattle.pagable_model.specs.Deep.{Kid, kind_of_kid}
 use Rattle.pagable_model.specs.Form.{Form}
 use Rattle.pagable_model.specs.Meaning.{pair, variant, followed}
-use Rattle.pagable_model.specs.Merkle.{StoredTree, HasOwnKeys, TreeForm, unfolded}
-use Rattle.pagable_model.specs.Canonical.{IsCanonicalTree, IsReadableTree}
-use Rattle.pagable_world.specs.Plain.{Error, ArcRef, HandleNumber, Identity, Kind, LoadNumber, NodeNumber, Blob, Meaning, Shape, Tree, Types, tree, type_of, Owner, HandleRow, Event, EventReply, Among, longest_path, above, height, deepest_path}
+use Rattle.pagable_model.specs.Merkle.{TreeForm, unfolded}
+use Rattle.pagable_world.specs.Plain.{Error, ArcRef, HandleNumber, Identity, Kind, LoadNumber, NodeNumber, Meaning, Shape, Tree, Types, tree, type_of, Owner, HandleRow, Event, EventReply, Among, longest_path, above, height, deepest_path}
 use Rattle.pagable_model.specs.declared.error.Error.TheVariants as errors
 use Rattle.pagable_model.specs.declared.data_key.OptionalDataKey.TheVariants as optional
 use Rattle.pagable_world.specs.declared.answers.Beginning.TheVariants as beginnings
@@ -184,17 +183,6 @@ OneIdentityLaw {N} {B} {W} E m =
     → ((x : Moment N E B W) → Among between x → LeavesCache x.event)
     → GetsReference (state_after first between).pager.core other_kind other_key other_n last
     → HaveOneIdentity kind other_kind key other_key n other_n between
-
--- each blob of the one store stands in the other
-abbrev pub IsPartOf : (ℕ → Option Blob) → (ℕ → Option Blob) → Type 0
-IsPartOf part store = (key : ℕ) (b : Blob) → part key ≡ Some b → store key ≡ Some b
-
--- Of two trees of one type that are stored with all that they reach, each blob under its own key, and of which the first is of canonical types that
--- are read, the keys are equal exactly if the trees are. What else stands in the store may stand under any keys.
-abbrev pub KeysTellTrees : {N : Type 0} → Values N → (ℕ → Option Blob) → Type 0
-KeysTellTrees v store =
-    (part : ℕ → Option Blob) (a b : Tree) (key other : ℕ) → IsPartOf part store → HasOwnKeys v.hash part → IsCanonicalTree v.types a → IsReadableTree v.types a → b.type ≡ a.type
-    → StoredTree part v.types key a → StoredTree part v.types other b → (other ≡ key) ↔ (b ≡ a)
 
 -- all that holds of one event besides where turns stand together
 pub record IsRightAlone {N E B W : Type 0} (v : Values N) (s : MachineState N E) (trees : ℕ → Tree) (event : Event N B W) (reply : EventReply N B W) (s' : MachineState N E) (trees' : ℕ → Tree) : Type 0 where
