@@ -42,14 +42,22 @@ pub bears : AreMoments two.sample_seen two.new_one two.births
 unfolding find_row is_named_by is_in references_fault two.value_at
 bears = (
   record {
-    step = record { happens = only-pager two.new_core two.child_born no_work _ (record { does = record { made = (refl, omega arith, record { above = refl; is_left = omega arith }, alike-self two.child_born); refused = tt } }) };
+    step = record {
+      happens = only-pager two.new_core two.child_born no_work _ (record {
+        does = record { made = (refl, omega arith, record { above = refl; is_left = omega arith }, alike-self two.child_born); refused = tt };
+      });
+    };
     moves = record { each = leaf-comes; environment = refl };
     writes = tt;
     whole = idle-whole two.child_born two.one_value (λ t. no_shelf) 0 child-passes refl;
   },
   (
     record {
-      step = record { happens = only-pager two.child_born two.both_born no_work _ (record { does = record { made = (refl, omega arith, record { above = refl; is_left = omega arith }, alike-self two.both_born); refused = tt } }) };
+      step = record {
+        happens = only-pager two.child_born two.both_born no_work _ (record {
+          does = record { made = (refl, omega arith, record { above = refl; is_left = omega arith }, alike-self two.both_born); refused = tt };
+        });
+      };
       moves = record { each = parent-comes; environment = refl };
       writes = tt;
       whole = idle-whole two.both_born two.two_values (λ t. no_shelf) 0 both-passes refl;
@@ -82,7 +90,8 @@ bears = (
           };
           moves = record { each = λ n x is. inl is; environment = refl };
           writes = tt;
-          whole = work-whole two.begun two.two_values no_shelf (two.walking (to_start two.to_parent 0 ∷ two.item_waits []) 0 None) (λ l. None) begun-passes refl refl refl (λ l r is. reads-none two.begun l r is);
+          whole = work-whole two.begun two.two_values no_shelf (two.walking (to_start two.to_parent 0 ∷ two.item_waits []) 0 None)
+              (λ l. None) begun-passes refl refl refl (λ l r is. reads-none two.begun l r is);
         },
         tt,
       ),

@@ -29,4 +29,10 @@ child-least = record { holds = refl; closed = child-closed; least = least }
 
 pub evicts : UnpinCall two.answered owners.Caller (two.handle 2) (Ok tt) two.evicted
 unfolding find_row is_named_by
-evicts = record { does = inr (row_of 2 (two.node 2) modes.LoosePinned owners.Caller, record { live = refl; own = refl; as_asked = refl }, inr (refl, falls-so two.answered unpinned nobody two.child_handle refl refl refl child-least)) }
+evicts = record {
+  does = inr (
+    row_of 2 (two.node 2) modes.LoosePinned owners.Caller,
+    record { live = refl; own = refl; as_asked = refl },
+    inr (refl, falls-so two.answered unpinned nobody two.child_handle refl refl refl child-least),
+  );
+}

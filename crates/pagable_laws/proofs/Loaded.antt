@@ -36,13 +36,17 @@ child-brings : (n : ℕ) (x : two.Sample) → two.value_at two.last_values n ≡
     → (two.value_at two.parent_value n ≡ Some x) ⊎ ((two.value_at two.parent_value n ≡ None) × ReadingBrings two.sample two.child_loading two.child_fetched n x)
 child-brings n x is = elim (child-back n x is) [
   | inl same ↦ inl same
-  | inr (none_before, third, read) ↦ inr (none_before, inr (subst (λ y. ReadsRoot two.sample two.child_fetched y) (sym read) reads-child, subst (λ k. IsCellOf two.child_loading (two.load_number 2) k) (sym third) of-child))
+  | inr (none_before, third, read) ↦ inr (
+    none_before,
+    inr (subst (λ y. ReadsRoot two.sample two.child_fetched y) (sym read) reads-child, subst (λ k. IsCellOf two.child_loading (two.load_number 2) k) (sym third) of-child),
+  )
 ]
 
 -- a step of the caller's load, after which the machine is whole
 step-does : (core core' : Core) (vs vs' : List (Option two.Sample)) (before after : ℕ → Option Reading) (l steps : ℕ) (reading : Reading) (frames : List Frame) (ended : Option (LoadAnswer two.Sample))
     → let s = two.machine core vs (record two.done_work { readings = before }) in let s' = two.machine core' vs' (record two.done_work { readings = after }) in
-    load_fault core owners.Caller (two.load_number l) ≡ None → reading_at (world_of s) (two.load_number l) ≡ Some reading → ReadingDoes two.sample core owners.Caller reading ended frames core' → steps ≡ one_more reading.steps
+    load_fault core owners.Caller (two.load_number l) ≡ None
+    → reading_at (world_of s) (two.load_number l) ≡ Some reading → ReadingDoes two.sample core owners.Caller reading ended frames core' → steps ≡ one_more reading.steps
     → ReadingsAre (updated l (reading_after ended reading frames) before) (world_of s')
     → ((n : ℕ) (x : two.Sample) → two.value_at vs' n ≡ Some x → (two.value_at vs n ≡ Some x) ⊎ ((two.value_at vs n ≡ None) × ReadingBrings two.sample core reading n x))
     → IsMachineWhole two.sample s' → Does two.sample_seen s (events.LoadStep (two.load_number l)) (answers.LoadMoved (Ok (record { ended = ended; steps = steps }))) s'
@@ -50,7 +54,16 @@ step-does core core' vs vs' before after l steps reading frames ended may at doe
     record {
       step = record {
         happens = record {
-          moves = record { reading = reading; frames = frames; may = may; at = at; does = does; counts = counts; readings = readings; work = work-stays (record two.done_work { readings = before }) after };
+          moves = record {
+            reading = reading;
+            frames = frames;
+            may = may;
+            at = at;
+            does = does;
+            counts = counts;
+            readings = readings;
+            work = work-stays (record two.done_work { readings = before }) after;
+          };
           refused = tt;
         };
       };
@@ -84,7 +97,8 @@ loads-parent = (
     },
     (
       step-does two.parent_loading two.parent_loading [] [] (λ l. None) (two.only 1 two.parent_fetched) 1 1 (fresh (two.load_number 1) 0) two.parent_fetched.frames None refl refl
-          (fetches-it two.parent_loading 1 0 (cell_load 2 0 2 24) two.parent_blob refl refl refl) refl (reads-on two.parent_loading 1 two.parent_fetched (λ l. None) refl (λ l e. refl)) (λ n x is. inl is)
+          (fetches-it two.parent_loading 1 0 (cell_load 2 0 2 24) two.parent_blob refl refl refl) refl
+          (reads-on two.parent_loading 1 two.parent_fetched (λ l. None) refl (λ l e. refl)) (λ n x is. inl is)
           (read-whole two.parent_loading [] 1 (cell_load 2 0 2 24) two.parent_fetched parent-loading-passes refl refl refl refl refl refl),
       (
         step-does two.parent_loading two.child_got [] [] (two.only 1 two.parent_fetched) (two.only 1 two.parent_read) 1 2 two.parent_fetched two.parent_read.frames None refl refl
@@ -92,7 +106,8 @@ loads-parent = (
             (read-whole two.child_got [] 1 (cell_load 2 0 2 24) two.parent_read got-passes refl refl refl refl refl refl),
         (
           step-does two.child_got two.parent_loaded [] two.parent_value (two.only 1 two.parent_read) (λ l. None) 1 3 two.parent_read [] (Some (ends.Pinned (two.handle 9))) refl refl
-              (ends-it two.child_got 1 2 2 24 2 (two.parent (two.to_leaf 3 8)) (record (root_frame 24 0 two.parent_blob) { got = two.to_leaf 3 8 ∷ [] }) refl refl refl refl refl refl refl refl refl refl refl refl)
+              (ends-it two.child_got 1 2 2 24 2 (two.parent (two.to_leaf 3 8)) (record (root_frame 24 0 two.parent_blob) { got = two.to_leaf 3 8 ∷ [] })
+              refl refl refl refl refl refl refl refl refl refl refl refl)
               refl (reads-over two.parent_loaded 1 two.parent_read) (λ n x is. inr (refl, parent-brings n x is)) (done-whole two.parent_loaded two.parent_value parent-loaded-passes refl refl),
           tt,
         ),
@@ -108,7 +123,12 @@ loads-child = (
   record {
     step = record {
       happens = only-pager two.parent_loaded two.child_cloned two.done_work _
-          (record { does = record { made = (row_of 8 (two.node 3) modes.LooseUnpinned (owners.Value (two.node 2)), refl, record { above = refl; is_left = omega arith }, alike-self two.child_cloned); refused = tt } });
+          (record {
+            does = record {
+              made = (row_of 8 (two.node 3) modes.LooseUnpinned (owners.Value (two.node 2)), refl, record { above = refl; is_left = omega arith }, alike-self two.child_cloned);
+              refused = tt;
+            };
+          });
     };
     moves = record { each = λ n x is. inl is; environment = refl };
     writes = tt;
@@ -122,12 +142,14 @@ loads-child = (
       whole = done-whole two.child_loading two.parent_value child-loading-passes refl refl;
     },
     (
-      step-does two.child_loading two.child_loading two.parent_value two.parent_value (λ l. None) (two.only 2 two.child_fetched) 2 1 (fresh (two.load_number 2) 1) two.child_fetched.frames None refl refl
+      step-does two.child_loading two.child_loading two.parent_value two.parent_value (λ l. None) (two.only 2 two.child_fetched) 2 1 (fresh (two.load_number 2) 1)
+          two.child_fetched.frames None refl refl
           (fetches-it two.child_loading 2 1 (cell_load 3 1 10 8) two.leaf_blob refl refl refl) refl (reads-on two.child_loading 2 two.child_fetched (λ l. None) refl (λ l e. refl)) (λ n x is. inl is)
           (read-whole two.child_loading two.parent_value 2 (cell_load 3 1 10 8) two.child_fetched child-loading-passes refl refl refl refl refl refl),
       (
         step-does two.child_loading two.child_loaded two.parent_value two.last_values (two.only 2 two.child_fetched) (λ l. None) 2 2 two.child_fetched [] (Some (ends.Pinned (two.handle 12))) refl refl
-            (ends-it two.child_loading 2 3 10 8 1 two.leaf (root_frame 8 1 two.leaf_blob) refl refl refl refl refl refl refl refl refl refl refl refl) refl (reads-over two.child_loaded 2 two.child_fetched) child-brings
+            (ends-it two.child_loading 2 3 10 8 1 two.leaf (root_frame 8 1 two.leaf_blob) refl refl refl refl refl refl refl refl refl refl refl refl) refl
+            (reads-over two.child_loaded 2 two.child_fetched) child-brings
             (done-whole two.child_loaded two.last_values child-loaded-passes refl refl),
         tt,
       ),
@@ -154,7 +176,8 @@ loads-key = (
   },
   (
     step-does two.key_loading two.key_loading two.last_values two.last_values (two.only 3 two.key_begun) (two.only 3 two.key_fetched) 3 1 two.key_begun two.key_fetched.frames None refl refl
-        (fetches-it two.key_loading 3 0 key_load two.parent_blob refl refl refl) refl (reads-on two.key_loading 3 two.key_fetched (two.only 3 two.key_begun) refl (only-before 3 two.key_begun)) (λ n x is. inl is)
+        (fetches-it two.key_loading 3 0 key_load two.parent_blob refl refl refl) refl
+        (reads-on two.key_loading 3 two.key_fetched (two.only 3 two.key_begun) refl (only-before 3 two.key_begun)) (λ n x is. inl is)
         (read-whole two.key_loading two.last_values 3 key_load two.key_fetched key-loading-passes refl refl refl refl refl tt),
     (
       step-does two.key_loading two.child_known two.last_values two.last_values (two.only 3 two.key_fetched) (two.only 3 two.key_read) 3 2 two.key_fetched two.key_read.frames None refl refl

@@ -30,7 +30,8 @@ done-whole core vs passes none gone = work-whole core vs two.both_shown done (λ
 pub read-whole : (core : Core) (vs : List (Option two.Sample)) (l : ℕ) (load : OpenLoad) (r : Reading) → Passes core vs → core.workers 0 ≡ false → core.workers 1 ≡ false
     → core.loads l ≡ Some load → load.owner ≡ owners.Caller → r.load.0 ≡ l → FitsRoot load.root r → IsMachineWhole two.sample (two.machine core vs (two.read_work l r))
 read-whole core vs l load r passes none gone stands_open own number typed =
-    work-whole core vs two.both_shown done (two.only l r) passes refl none gone (only-at l r (λ q x. IsReadingWhole core q x) (record { number = number; load = load; open_load = stands_open; owned = own; typed = typed }))
+    work-whole core vs two.both_shown done (two.only l r) passes refl none gone
+    (only-at l r (λ q x. IsReadingWhole core q x) (record { number = number; load = load; open_load = stands_open; owned = own; typed = typed }))
 
 -- the child's cell is made with its key, and nothing is read of it
 pub gets-child : ReadingDoes two.sample two.parent_loading owners.Caller two.parent_fetched None two.parent_read.frames two.child_got
@@ -43,7 +44,10 @@ gets-child =
         k = two.handle 8;
         row = row_of 8 (two.node 3) modes.LooseUnpinned (owners.Load (two.load_number 1));
         needs = refl;
-        asked = record { makes = (cell_load 2 0 2 24, record { stands_open = refl; own = refl }, refl, inr (refl, omega arith, record { above = refl; is_left = omega arith }, alike-self two.child_got)); refused = tt };
+        asked = record {
+          makes = (cell_load 2 0 2 24, record { stands_open = refl; own = refl }, refl, inr (refl, omega arith, record { above = refl; is_left = omega arith }, alike-self two.child_got));
+          refused = tt;
+        };
         made = refl;
         goes = refl;
       }))));
@@ -64,7 +68,15 @@ gets-known =
         k = two.handle 13;
         row = row_of 13 (two.node 3) modes.LooseUnpinned (owners.Load (two.load_number 3));
         needs = refl;
-        asked = record { makes = (key_load, record { stands_open = refl; own = refl }, refl, inl (record { n = 3; known = refl; next = record { above = refl; is_left = omega arith }; leaves = alike-self two.child_known })); refused = tt };
+        asked = record {
+          makes = (
+            key_load,
+            record { stands_open = refl; own = refl },
+            refl,
+            inl (record { n = 3; known = refl; next = record { above = refl; is_left = omega arith }; leaves = alike-self two.child_known }),
+          );
+          refused = tt;
+        };
         made = refl;
         goes = refl;
       }))));
@@ -77,7 +89,11 @@ reads-out =
     record {
       does = (
         record {
-          reads_root = record { root = record (root_frame 24 0 two.parent_blob) { got = two.to_leaf 3 13 ∷ [] }; frames = refl; decoded = record { own = two.sample_meaning (two.parent (two.to_leaf 3 13)); read = refl; typed = refl; means = refl } };
+          reads_root = record {
+            root = record (root_frame 24 0 two.parent_blob) { got = two.to_leaf 3 13 ∷ [] };
+            frames = refl;
+            decoded = record { own = two.sample_meaning (two.parent (two.to_leaf 3 13)); read = refl; typed = refl; means = refl };
+          };
           of_key_load = record { load = key_load; open_load = refl; sort = tt };
           handed = record { hands = (refl, record { told = Ok tt; falls = falls-alone two.child_known two.handed two.not_handed refl refl refl refl refl }); refused = tt };
         },
@@ -89,7 +105,11 @@ reads-out =
 
 pub reads-parent : ReadsRoot two.sample two.parent_read (two.parent (two.to_leaf 3 8))
 unfolding grammar.read grammar.read_with answers_from
-reads-parent = record { root = record (root_frame 24 0 two.parent_blob) { got = two.to_leaf 3 8 ∷ [] }; frames = refl; decoded = record { own = two.sample_meaning (two.parent (two.to_leaf 3 8)); read = refl; typed = refl; means = refl } }
+reads-parent = record {
+  root = record (root_frame 24 0 two.parent_blob) { got = two.to_leaf 3 8 ∷ [] };
+  frames = refl;
+  decoded = record { own = two.sample_meaning (two.parent (two.to_leaf 3 8)); read = refl; typed = refl; means = refl };
+}
 
 pub reads-child : ReadsRoot two.sample two.child_fetched two.leaf
 unfolding grammar.read grammar.read_with answers_from

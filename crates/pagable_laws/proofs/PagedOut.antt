@@ -34,7 +34,8 @@ claims-it core shelf r below good free =
 
 -- a loose pinned handle is cloned, and the clone is pinned
 pub pins-it : (core : Core) (shelf : Shelf) (n : ℕ) (r : ArcRef) (owner : Owner) (below : List Todo) → let q = core.last.handle + 1 in
-    row_at core r.handle ≡ Some (row_of r.handle.0 (two.node n) modes.LoosePinned owner) → row_at (two.cloned core n) (two.handle q) ≡ Some (row_of q (two.node n) modes.LoosePinned two.worker) → is_here (two.cloned core n) n ≡ true → nat_le core.last.handle 10 ≡ true
+    row_at core r.handle ≡ Some (row_of r.handle.0 (two.node n) modes.LoosePinned owner)
+    → row_at (two.cloned core n) (two.handle q) ≡ Some (row_of q (two.node n) modes.LoosePinned two.worker) → is_here (two.cloned core n) n ≡ true → nat_le core.last.handle 10 ≡ true
     → Walks core shelf (to_pin r 0 ∷ below) (took.Pin (identity_of r) (Ok (pinsteps.Held (two.handle (q + 1))))) (two.pinned_at core n) shelf (to_write r 0 (two.handle q) ∷ below)
 pins-it core shelf n r owner below live clone_live is_there few =
     record {
@@ -52,13 +53,20 @@ pins-it core shelf n r owner below live clone_live is_there few =
     }
   where
     cloned : CloneCall core two.worker r.handle (Ok (two.handle (core.last.handle + 1))) (two.cloned core n)
-    cloned = let left : core.last.handle ≤ 10 = grind (arith, nat_tests) in record { made = (row_of r.handle.0 (two.node n) modes.LoosePinned owner, live, record { above = refl; is_left = omega arith }, alike-self (two.cloned core n)); refused = tt }
+    cloned = let left : core.last.handle ≤ 10 = grind (arith, nat_tests) in record {
+      made = (row_of r.handle.0 (two.node n) modes.LoosePinned owner, live, record { above = refl; is_left = omega arith }, alike-self (two.cloned core n));
+      refused = tt;
+    }
 
     clone_pinned : PinCall (two.cloned core n) two.worker (two.handle (core.last.handle + 1)) (Ok (pinnings.Pinned (two.handle (core.last.handle + 1 + 1)))) (two.pinned_at core n)
     clone_pinned =
         let left : core.last.handle ≤ 10 = grind (arith, nat_tests) in
         record {
-          pins = (row_of (core.last.handle + 1) (two.node n) modes.LoosePinned two.worker, record { live = clone_live; own = refl; as_asked = refl }, (is_there, record { above = refl; is_left = omega arith }, alike-self (two.pinned_at core n)));
+          pins = (
+            row_of (core.last.handle + 1) (two.node n) modes.LoosePinned two.worker,
+            record { live = clone_live; own = refl; as_asked = refl },
+            (is_there, record { above = refl; is_left = omega arith }, alike-self (two.pinned_at core n)),
+          );
           refused = tt;
         }
 
@@ -79,7 +87,12 @@ pub stores-it : (core : Core) (shelf : Shelf) (o : Open) (key : ℕ) (below : Li
     length o.keys ≡ length o.written.references → key ≡ digest two.sample blob → core.closed ≡ false → core.stored key ≡ None
     → Walks core shelf (to_finish o ∷ below) (took.Store (Some (identity_of o.reference)) (Ok key)) (two.with_blob core key blob) shelf (to_set o.reference o.through key o.height ∷ below)
 stores-it core shelf o key below all is open_still free =
-    record { does = (refl, record { all = all; stored = stored-so core key (blob_of o.written.bytes o.keys) is open_still free; goes = record { table_stays = same-shelf shelf; list_is = refl }; refused = tt }) }
+    record {
+      does = (
+        refl,
+        record { all = all; stored = stored-so core key (blob_of o.written.bytes o.keys) is open_still free; goes = record { table_stays = same-shelf shelf; list_is = refl }; refused = tt },
+      );
+    }
 
 -- the key is set through a loose handle of the worker's, and nothing falls
 pub keys-it : (core : Core) (shelf : Shelf) (n : ℕ) (r : ArcRef) (through : HandleNumber) (key height : ℕ) (below : List Todo) → let w = with_key core (two.node n) key in
@@ -91,7 +104,13 @@ keys-it core shelf n r through key height below live low low_then few none ok =
       does = (
         refl,
         record {
-          sets = record { does = inr (row_of through.0 (two.node n) modes.LoosePinned two.worker, record { live = live; own = refl; as_asked = refl }, inr (refl, falls-alone core (with_key core (two.node n) key) nobody low low_then few none ok)) };
+          sets = record {
+            does = inr (
+              row_of through.0 (two.node n) modes.LoosePinned two.worker,
+              record { live = live; own = refl; as_asked = refl },
+              inr (refl, falls-alone core (with_key core (two.node n) key) nobody low low_then few none ok),
+            );
+          };
           goes = record { table_stays = same-shelf shelf; list_is = refl };
           refused = tt;
         },
@@ -112,4 +131,6 @@ pub ends-it : (core : Core) (shelf : Shelf) (written : Written) (keys : List ℕ
     length keys ≡ length written.references → key ≡ digest two.sample blob → core.closed ≡ false → core.stored key ≡ None
     → Walks core shelf (to_item written keys ∷ []) (took.Store None (Ok key)) (two.with_blob core key blob) shelf []
 ends-it core shelf written keys key all is open_still free =
-    record { does = (refl, record { all = all; stored = stored-so core key (blob_of written.bytes keys) is open_still free; goes = record { table_stays = same-shelf shelf; list_is = refl }; refused = tt }) }
+    record {
+      does = (refl, record { all = all; stored = stored-so core key (blob_of written.bytes keys) is open_still free; goes = record { table_stays = same-shelf shelf; list_is = refl }; refused = tt });
+    }

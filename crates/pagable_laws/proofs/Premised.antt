@@ -48,7 +48,8 @@ nothing-readable s is = subst (λ x. Throughout IsReadable two.sample_types.part
 
 reference-readable : (s : shapes.Shape) → s ≡ shapes.reference 4 → Throughout IsReadable two.sample_types.parts s
 unfolding IsReadable LiesIn
-reference-readable s is = subst (λ x. Throughout IsReadable two.sample_types.parts x) (sym is) (throughout-in IsReadable two.sample_types.parts (λ n. Unit {0}) (λ n it. (tt, tt)) (shapes.reference 4) tt tt)
+reference-readable s is =
+    subst (λ x. Throughout IsReadable two.sample_types.parts x) (sym is) (throughout-in IsReadable two.sample_types.parts (λ n. Unit {0}) (λ n it. (tt, tt)) (shapes.reference 4) tt tt)
 
 pub reads-types : ReadsItsTypes two.sample_types
 reads-types zero s is = reference-readable s (cc)
@@ -86,7 +87,11 @@ load-asked s l r reply after at well = asked _ _ tt (λ trees reading is. let e 
 -- the child's key reads as a leaf
 child-reads : (s : PagerState two.Sample (Unit {0})) → s.core.stored 8 ≡ Some two.leaf_blob → ReadsAsType two.sample s 1 8
 unfolding grammar.read grammar.read_with
-child-reads s stored = record { read = tree 1 none; typed = refl; reads = record { own = none; reads = record { blob = two.leaf_blob; stored = stored; rest = rest_of two.leaf_blob; reads = refl }; follows = none-followed } }
+child-reads s stored = record {
+  read = tree 1 none;
+  typed = refl;
+  reads = record { own = none; reads = record { blob = two.leaf_blob; stored = stored; rest = rest_of two.leaf_blob; reads = refl }; follows = none-followed };
+}
 
 pub takes-child : (s : PagerState two.Sample (Unit {0})) (r : Reading) → s.core.stored 8 ≡ Some two.leaf_blob → need_of two.sample_types r.frames ≡ needs_lazy (record { 0 = 4 }) 8
     → TakesWell two.sample s r

@@ -53,13 +53,18 @@ cell_load n t h key = record { owner = owners.Caller; key = key; root = of_cell 
 
 -- a load of a cell without a value begins by the caller's handle
 pub begins-it : (core : Core) (n t h key : ℕ) → let l = core.last.load + 1 in
-    row_at core (two.handle h) ≡ Some (row_of h (two.node n) modes.LooseUnpinned owners.Caller) → is_here core n ≡ false → key_at core n ≡ optional.Some key → type_at core n ≡ Some t → nat_le core.last.load 2 ≡ true → nat_le core.last.handle 12 ≡ true
+    row_at core (two.handle h) ≡ Some (row_of h (two.node n) modes.LooseUnpinned owners.Caller) → is_here core n ≡ false
+    → key_at core n ≡ optional.Some key → type_at core n ≡ Some t → nat_le core.last.load 2 ≡ true → nat_le core.last.handle 12 ≡ true
     → BeginCall core owners.Caller (two.handle h) (Ok (beginnings.Load (two.load_number l) key)) (two.load_of core n t h key)
 begins-it core n t h key live away keyed typed few_loads few =
     let a : core.last.load ≤ 2 = grind (arith, nat_tests) in
     let b : core.last.handle ≤ 12 = grind (arith, nat_tests) in
     record {
-      begins = (row_of h (two.node n) modes.LooseUnpinned owners.Caller, record { live = live; own = refl; as_asked = refl }, (away, keyed, record { above = refl; is_left = omega arith }, omega arith, (t, typed, alike-self (two.load_of core n t h key))));
+      begins = (
+        row_of h (two.node n) modes.LooseUnpinned owners.Caller,
+        record { live = live; own = refl; as_asked = refl },
+        (away, keyed, record { above = refl; is_left = omega arith }, omega arith, (t, typed, alike-self (two.load_of core n t h key))),
+      );
       refused = tt;
     }
 
@@ -73,7 +78,10 @@ fetches-it core l t load blob stands_open own stored =
         blob = blob;
         first = refl;
         open_load = stands_open;
-        asked = record { gives = (load, record { stands_open = stands_open; own = own }, record { asked = record { fails = omega arith; leaves = alike-self core }; found = stored; refused = tt }); refused = tt };
+        asked = record {
+          gives = (load, record { stands_open = stands_open; own = own }, record { asked = record { fails = omega arith; leaves = alike-self core }; found = stored; refused = tt });
+          refused = tt;
+        };
         goes = refl;
       });
     }
@@ -85,7 +93,8 @@ pub ends-it : (core : Core) (l n h key steps : ℕ) (x : two.Sample) (root : Fra
     → two.sample_type x ≡ root.node_type → next_in two.sample_types root ≡ reads (two.sample_meaning x) → references_fault core (owners.Load (two.load_number l)) [] references ≡ None
     → row_at core (two.handle h) ≡ Some (row_of h (two.node n) modes.LooseUnpinned owners.Caller) → is_here core n ≡ false → nat_le core.last.handle 11 ≡ true
     → is_low core ≡ true → is_low w ≡ true → nat_le w.last.handle 13 ≡ true → agree_below (lists_none core w given) never 4 ≡ true → agree_below (takes_more w given) never 4 ≡ true
-    → ReadingDoes two.sample core owners.Caller (record { load = two.load_number l; node_type = two.sample_type x; frames = root ∷ []; steps = steps }) (Some (ends.Pinned (two.handle (core.last.handle + 1)))) [] (two.end_of core l n h references)
+    → ReadingDoes two.sample core owners.Caller (record { load = two.load_number l; node_type = two.sample_type x; frames = root ∷ []; steps = steps })
+    (Some (ends.Pinned (two.handle (core.last.handle + 1)))) [] (two.end_of core l n h references)
 ends-it core l n h key steps x root stands_open typed read good live away left low low_then few none ok =
     let a : core.last.handle ≤ 11 = grind (arith, nat_tests) in
     let references = two.sample_references x in

@@ -1,0 +1,386 @@
+-- A handle is given up: handles and nodes fit again.
+use Rattle.std.proofs.Common.{◌≡◌, ℕ, ◌+◌, ◌-◌, ◌<◌, ◌≤◌, ◌==◌, ◌&&◌, ◌||◌, Bool, true, false, if◌then◌else◌, List, [], ◌∷◌, ◌++◌, length, sum_by, refl, ap, sym, ◌∙◌, subst, arith, Option, Some, None, suc, zero, inl, inr}
+use Rattle.std.specs.Prelude.{◌⊎◌, ◌≢◌, is_some, nat_lt, not}
+use Rattle.std.proofs.lemmas.Bool.Decides.{nat_tests}
+use Rattle.std.proofs.lemmas.Bool.{cases_eq}
+use Rattle.std.proofs.lemmas.List.Sums.{sum_by-cons, sum_by-le-sum_by, sum_by_push}
+use Rattle.pagable_model.specs.declared.numbers.ArcRef.{ArcRef}
+use Rattle.pagable_model.specs.declared.numbers.NodeNumber.{NodeNumber}
+use Rattle.pagable_world.specs.declared.handles.HandleRow.{HandleRow}
+use Rattle.pagable_world.specs.declared.handles.Owner.{Owner}
+use Rattle.pagable_world.specs.declared.handles.Owner.TheVariants as owners
+use Rattle.pagable_world.specs.Plain.{one}
+use Rattle.pagable_world.specs.Kinds.{held, pins, is_pin, is_at, is_pinning, is_handle, is_owner, owner_value}
+use Rattle.pagable_tables.specs.declared.rows.Counts.{Counts}
+use Rattle.pagable_tables.specs.Falling.{pins_in, holds_in, falls_in, next_in, keyed_in, Chain, is_bare, is_right, Right, is_fallen_by, after, is_new, Fits, entry, owns, owns_nothing, named, often, cell_in, CellsStay, HasFallen}
+
+-- 1 for a handle that pins the node, for one of it, for the handle q that its value owns, and for the handle q
+abbrev pub pin_of : ℕ → HandleRow → ℕ
+pin_of n h = one (is_pin n h)
+
+abbrev pub handle_of : ℕ → HandleRow → ℕ
+handle_of n h = one (is_at n h)
+
+abbrev pub is_owned : ℕ → ℕ → HandleRow → ℕ
+is_owned n q h = owns h n q
+
+abbrev pub is_number : ℕ → HandleRow → ℕ
+is_number q h = one (is_handle q h)
+
+-- a chain stands on the next numbers of its own nodes alone
+pub chain-frame : (at at' : ℕ → Option Counts) (top : ℕ) (stack : List ℕ) → ((n : ℕ) → 0 < often n stack → next_in (at' n) ≡ next_in (at n)) → Chain at top stack → Chain at' top stack
+chain-frame at at' top [] same h = h
+chain-frame at at' top (n ∷ ns) same h =
+    let here : next_in (at' n) ≡ next_in (at n) = same n (let a = sum_by-cons (λ x. one (x == n)) n ns in grind (arith, nat_tests)) in
+    let rest : Chain at' (next_in (at n)) ns = chain-frame at at' (next_in (at n)) ns (λ m some. same m (let a = sum_by-cons (λ x. one (x == m)) n ns in omega arith)) h.1 in
+    (h.0, subst (λ t. Chain at' t ns) (sym here) rest)
+
+pub pin-here : (x : HandleRow) → pin_of x.node.0 x ≡ one (is_pinning x.mode)
+pin-here x = grind (arith, nat_tests)
+
+pub held-here : (x : HandleRow) → handle_of x.node.0 x ≡ 1
+held-here x = grind (arith, nat_tests)
+
+pin-other : (n : ℕ) (x : HandleRow) → n ≢ x.node.0 → pin_of n x ≡ 0
+pin-other n x other = grind (arith, nat_tests)
+
+held-other : (n : ℕ) (x : HandleRow) → n ≢ x.node.0 → handle_of n x ≡ 0
+held-other n x other = grind (arith, nat_tests)
+
+pin-entry : (listed : Bool) (n k : ℕ) (m : NodeNumber) → (if listed then pin_of n (entry k m) else 0) ≡ 0
+pin-entry true n k m = grind (arith, nat_tests)
+pin-entry false n k m = refl
+
+held-entry : (listed : Bool) (k : ℕ) (m : NodeNumber) → (if listed then handle_of m.0 (entry k m) else 0) ≡ one listed
+held-entry true k m = grind (arith, nat_tests)
+held-entry false k m = refl
+
+held-entry-other : (listed : Bool) (n k : ℕ) (m : NodeNumber) → n ≢ m.0 → (if listed then handle_of n (entry k m) else 0) ≡ 0
+held-entry-other true n k m other = grind (arith, nat_tests)
+held-entry-other false n k m other = refl
+
+owned-entry : (listed : Bool) (n q k : ℕ) (m : NodeNumber) → (if listed then is_owned n q (entry k m) else 0) ≡ 0
+owned-entry true n q k m = grind (arith, nat_tests)
+owned-entry false n q k m = refl
+
+holds-after : (listed : Bool) (h : ℕ) → 1 ≤ h → (if listed then h else h - 1) + 1 ≡ h + one listed
+holds-after true h some = refl
+holds-after false h some = omega arith
+
+right-plain : (waits key pinning bare : Bool) (pins holds pins' holds' : ℕ) → pins' + one pinning ≡ pins → 1 ≤ holds → (if waits then holds == 0 || (pins == 0 && key) else nat_lt 0 holds && (nat_lt 0 pins || not key || bare)) ≡ true
+    → (if waits || (not waits && (holds' == 0 || (pinning && pins' == 0 && key))) then holds' == 0 || (pins' == 0 && key) else nat_lt 0 holds' && (nat_lt 0 pins' || not key || bare)) ≡ true
+right-plain true key pinning bare pins holds pins' holds' e some h = grind (arith, nat_tests)
+right-plain false true true bare pins holds pins' holds' e some h = grind (arith, nat_tests)
+right-plain false true false bare pins holds pins' holds' e some h = grind (arith, nat_tests)
+right-plain false false true bare pins holds pins' holds' e some h = grind (arith, nat_tests)
+right-plain false false false bare pins holds pins' holds' e some h = grind (arith, nat_tests)
+
+-- what a node keeps is right still
+right-after : (c : Counts) (pinning listed bare : Bool) (top : ℕ) → one pinning ≤ c.pins → 1 ≤ c.holds → is_right c bare ≡ true → is_right (after c pinning listed top) bare ≡ true
+right-after c pinning listed bare top some live right =
+    right-plain c.is_falling (nat_lt 0 c.key) pinning bare c.pins c.holds (c.pins - one pinning) (if listed then c.holds else c.holds - 1) (omega arith) live right
+
+not-both : (w g : Bool) → (not w && g) ≡ true → w ≡ false
+not-both true g h = sym h
+not-both false g h = refl
+
+is-new : (w g : Bool) → is_new w (w || (not w && g)) ≡ (not w && g)
+is-new true true = refl
+is-new true false = refl
+is-new false true = refl
+is-new false false = refl
+
+if-true : (b : Bool) (m n : ℕ) → b ≡ true → (if b then m else n) ≡ m
+if-true true m n h = refl
+if-true false m n h = absurd (cc)
+
+if-false : (b : Bool) (m n : ℕ) → b ≡ false → (if b then m else n) ≡ n
+if-false false m n h = refl
+if-false true m n h = absurd (cc)
+
+in-none : (n : ℕ) (stack : List ℕ) (m : ℕ) → often n stack ≡ 0 → 0 < often m stack → m ≢ n
+in-none n stack m none some e = let a = ap (λ k. often k stack) e in absurd (omega arith)
+
+-- one handle less, and perhaps an entry more
+module _ (at at' : ℕ → Option Counts) (refs refs' : ℕ → List ArcRef) (rows rows' : List HandleRow) (top : ℕ) (stack : List ℕ) (x : HandleRow) (c : Counts) (listed : Bool) (k : ℕ)
+    (fits : Fits at refs rows top stack (λ n q. is_owned n q x)) (is : at x.node.0 ≡ Some c) (leaves : (f : HandleRow → ℕ) → sum_by f rows' + f x ≡ sum_by f rows + (if listed then f (entry k x.node) else 0))
+    (here : at' x.node.0 ≡ Some (after c (is_pinning x.mode) listed top)) (others : (n : ℕ) → n ≢ x.node.0 → at' n ≡ at n) (same : (n : ℕ) → refs' n ≡ refs n) (some : one (is_pinning x.mode) ≤ c.pins) (live : 1 ≤ c.holds) where
+  given-pinned : (n : ℕ) → pins_in (at' n) ≡ pins n rows'
+  given-pinned n =
+      elim (cases_eq n x.node.0) [
+        | inl e ↦
+            let a : pins_in (at x.node.0) ≡ pins x.node.0 rows = fits.pinned x.node.0 in
+            let b : pins_in (at x.node.0) ≡ c.pins = ap pins_in is in
+            let d : pins_in (at' x.node.0) ≡ c.pins - one (is_pinning x.mode) = ap pins_in here in
+            let l = leaves (pin_of x.node.0) in
+            let p = pin-here x in
+            let z = pin-entry listed x.node.0 k x.node in
+            let goal : pins_in (at' x.node.0) ≡ pins x.node.0 rows' = omega arith in
+            subst (λ m. pins_in (at' m) ≡ pins m rows') (sym e) goal
+        | inr e ↦
+            let a = fits.pinned n in
+            let b = ap pins_in (others n e) in
+            let l = leaves (pin_of n) in
+            let p = pin-other n x e in
+            let z = pin-entry listed n k x.node in
+            omega arith
+      ]
+
+  given-holding : (n : ℕ) → holds_in (at' n) ≡ held n rows'
+  given-holding n =
+      elim (cases_eq n x.node.0) [
+        | inl e ↦
+            let a : holds_in (at x.node.0) ≡ held x.node.0 rows = fits.holding x.node.0 in
+            let b : holds_in (at x.node.0) ≡ c.holds = ap holds_in is in
+            let d : holds_in (at' x.node.0) ≡ (if listed then c.holds else c.holds - 1) = ap holds_in here in
+            let l = leaves (handle_of x.node.0) in
+            let p = held-here x in
+            let z = held-entry listed k x.node in
+            let y = holds-after listed c.holds live in
+            let goal : holds_in (at' x.node.0) ≡ held x.node.0 rows' = omega arith in
+            subst (λ m. holds_in (at' m) ≡ held m rows') (sym e) goal
+        | inr e ↦
+            let a = fits.holding n in
+            let b = ap holds_in (others n e) in
+            let l = leaves (handle_of n) in
+            let p = held-other n x e in
+            let z = held-entry-other listed n k x.node e in
+            omega arith
+      ]
+
+  given-owned : (n q : ℕ) → named q (refs' n) + 0 ≡ sum_by (is_owned n q) rows'
+  given-owned n q =
+      let a = fits.owned n q in
+      let b = ap (named q) (same n) in
+      let l = leaves (is_owned n q) in
+      let z = owned-entry listed n q k x.node in
+      omega arith
+
+  given-one : at' 0 ≡ None
+  given-one =
+      elim (cases_eq 0 x.node.0) [
+        | inl e ↦ absurd (let a : at 0 ≡ Some c = ap at e ∙ is in cc (a, fits.from_one))
+        | inr e ↦ others 0 e ∙ fits.from_one
+      ]
+
+  -- whether the node waits from now on
+  abbrev now_falls : Bool
+  now_falls = is_fallen_by c (is_pinning x.mode) (c.pins - one (is_pinning x.mode)) (if listed then c.holds else c.holds - 1)
+
+  given-chain : (b : Bool) → now_falls ≡ b → Chain at' (if b then x.node.0 else top) (if b then x.node.0 ∷ stack else stack)
+  given-chain true e =
+      let next : next_in (at' x.node.0) ≡ top = ap next_in here ∙ if-true now_falls top c.next e in
+      let free : c.is_falling ≡ false = not-both c.is_falling _ e in
+      let none : often x.node.0 stack ≡ 0 = fits.marked x.node.0 ∙ ap (λ o. one (falls_in o)) is ∙ ap one free in
+      (refl, subst (λ t. Chain at' t stack) (sym next) (chain-frame at at' top stack (λ m within. ap next_in (others m (in-none x.node.0 stack m none within))) fits.chain))
+  given-chain false e =
+      let next : next_in (at' x.node.0) ≡ c.next = ap next_in here ∙ if-false now_falls top c.next e in
+      chain-frame at at' top stack (λ m within. elim (cases_eq m x.node.0) [
+        | inl same' ↦ ap (λ k. next_in (at' k)) same' ∙ next ∙ sym (ap next_in is) ∙ sym (ap (λ k. next_in (at k)) same')
+        | inr other ↦ ap next_in (others m other)
+      ]) fits.chain
+
+  given-marked : (b : Bool) → now_falls ≡ b → (n : ℕ) → often n (if b then x.node.0 ∷ stack else stack) ≡ one (falls_in (at' n))
+  given-marked true e n =
+      let free : c.is_falling ≡ false = not-both c.is_falling _ e in
+      let none : often x.node.0 stack ≡ 0 = fits.marked x.node.0 ∙ ap (λ o. one (falls_in o)) is ∙ ap one free in
+      let waits : falls_in (at' x.node.0) ≡ (c.is_falling || now_falls) = ap falls_in here in
+      elim (cases_eq n x.node.0) [
+        | inl same' ↦
+            let goal : often x.node.0 (x.node.0 ∷ stack) ≡ one (falls_in (at' x.node.0)) = let a = sum_by-cons (λ y. one (y == x.node.0)) x.node.0 stack in grind (arith, nat_tests) in
+            subst (λ m. often m (x.node.0 ∷ stack) ≡ one (falls_in (at' m))) (sym same') goal
+        | inr other ↦ let a = sum_by-cons (λ y. one (y == n)) x.node.0 stack in let b = fits.marked n in let d = ap (λ o. one (falls_in o)) (others n other) in grind (arith, nat_tests)
+      ]
+  given-marked false e n =
+      let waits : falls_in (at' x.node.0) ≡ (c.is_falling || now_falls) = ap falls_in here in
+      elim (cases_eq n x.node.0) [
+        | inl same' ↦
+            let a : often x.node.0 stack ≡ one c.is_falling = fits.marked x.node.0 ∙ ap (λ o. one (falls_in o)) is in
+            let goal : often x.node.0 stack ≡ one (falls_in (at' x.node.0)) = grind (arith, nat_tests) in
+            subst (λ m. often m stack ≡ one (falls_in (at' m))) (sym same') goal
+        | inr other ↦ fits.marked n ∙ sym (ap (λ o. one (falls_in o)) (others n other))
+      ]
+
+  given-right : (n : ℕ) → Right (at' n) (refs' n)
+  given-right n =
+      elim (cases_eq n x.node.0) [
+        | inl e ↦
+            let old : Right (Some c) (refs x.node.0) = subst (λ o. Right o (refs x.node.0)) is (fits.right x.node.0) in
+            let goal : Right (Some (after c (is_pinning x.mode) listed top)) (refs x.node.0) = right-after c (is_pinning x.mode) listed (is_bare (refs x.node.0)) top some live old in
+            let at-node : Right (at' x.node.0) (refs' x.node.0) = subst (λ o. Right o (refs' x.node.0)) (sym here) (subst (λ r. Right (Some (after c (is_pinning x.mode) listed top)) r) (sym (same x.node.0)) goal) in
+            subst (λ m. Right (at' m) (refs' m)) (sym e) at-node
+        | inr e ↦ subst (λ o. Right o (refs' n)) (sym (others n e)) (subst (λ r. Right (at n) r) (sym (same n)) (fits.right n))
+      ]
+
+  pub given-fits : (b : Bool) → now_falls ≡ b → Fits at' refs' rows' (if b then x.node.0 else top) (if b then x.node.0 ∷ stack else stack) owns_nothing
+  given-fits b e =
+      record { pinned = given-pinned; holding = given-holding; owned = given-owned; chain = given-chain b e; marked = given-marked b e; right = given-right; from_one = given-one }
+
+  pub given-cells : CellsStay at at'
+  given-cells n some' =
+      elim (cases_eq n x.node.0) [
+        | inl e ↦ (ap (λ m. is_some (at m)) e ∙ ap is_some is, ap (λ m. cell_in (at' m)) e ∙ ap cell_in here ∙ sym (ap (λ m. cell_in (at m)) e ∙ ap cell_in is))
+        | inr e ↦ (sym (ap is_some (others n e)) ∙ some', ap cell_in (others n e))
+      ]
+
+  pub given-gone : (n : ℕ) → held n rows ≡ 0 → held n rows' ≡ 0
+  given-gone n none =
+      elim (cases_eq n x.node.0) [
+        | inl e ↦ absurd (let a : holds_in (at x.node.0) ≡ held x.node.0 rows = fits.holding x.node.0 in let b : holds_in (at x.node.0) ≡ c.holds = ap holds_in is in let d = ap (λ m. held m rows) e in omega arith)
+        | inr e ↦ let l = leaves (handle_of n) in let z = held-entry-other listed n k x.node e in omega arith
+      ]
+
+pub new-top : (c : Counts) (pinning listed : Bool) (top node : ℕ) → (b : Bool) → is_fallen_by c pinning (c.pins - one pinning) (if listed then c.holds else c.holds - 1) ≡ b → (if is_new c.is_falling (after c pinning listed top).is_falling then node else top) ≡ (if b then node else top)
+new-top c pinning listed top node b e = ap (λ (t : Bool). if t then node else top) (is-new c.is_falling _ ∙ e)
+
+pub long-if : (b : Bool) (n : ℕ) (stack : List ℕ) → length (if b then n ∷ stack else stack) ≤ length stack + 1
+long-if true n stack = omega arith
+long-if false n stack = omega arith
+
+-- the first node that waits is done: it is gone, or waits no more
+module _ (at at' : ℕ → Option Counts) (refs refs' : ℕ → List ArcRef) (rows : List HandleRow) (n : ℕ) (ns : List ℕ) (c : Counts)
+    (fits : Fits at refs rows n (n ∷ ns) owns_nothing) (is : at n ≡ Some c) (pins' : pins_in (at' n) ≡ c.pins) (holds' : holds_in (at' n) ≡ c.holds) (free : falls_in (at' n) ≡ false) (right' : Right (at' n) (refs' n))
+    (others : (m : ℕ) → m ≢ n → at' m ≡ at m) (same : (m : ℕ) → refs' m ≡ refs m) (one' : n ≢ 0) where
+  once : often n ns ≡ 0
+  once =
+      let a = sum_by-cons (λ y. one (y == n)) n ns in
+      let b : often n (n ∷ ns) ≡ one c.is_falling = fits.marked n ∙ ap (λ o. one (falls_in o)) is in
+      grind (arith, nat_tests)
+
+  pub done-fits : Fits at' refs' rows c.next ns owns_nothing
+  done-fits =
+      record {
+        pinned = λ m. elim (cases_eq m n) [
+          | inl e ↦ ap (λ k. pins_in (at' k)) e ∙ pins' ∙ sym (ap pins_in is) ∙ fits.pinned n ∙ sym (ap (λ k. pins k rows) e)
+          | inr e ↦ ap pins_in (others m e) ∙ fits.pinned m
+        ];
+        holding = λ m. elim (cases_eq m n) [
+          | inl e ↦ ap (λ k. holds_in (at' k)) e ∙ holds' ∙ sym (ap holds_in is) ∙ fits.holding n ∙ sym (ap (λ k. held k rows) e)
+          | inr e ↦ ap holds_in (others m e) ∙ fits.holding m
+        ];
+        owned = λ m q. ap (λ r. named q r + 0) (same m) ∙ fits.owned m q;
+        chain = chain-frame at at' c.next ns (λ m within. ap next_in (others m (in-none n ns m once within))) (subst (λ t. Chain at t ns) (ap next_in is) fits.chain.1);
+        marked = λ m. elim (cases_eq m n) [
+          | inl e ↦ ap (λ k. often k ns) e ∙ once ∙ sym (ap one (ap (λ k. falls_in (at' k)) e ∙ free))
+          | inr e ↦ let a = sum_by-cons (λ y. one (y == m)) n ns in let b = fits.marked m in let d = ap (λ o. one (falls_in o)) (others m e) in let z : one (n == m) ≡ 0 = grind (arith, nat_tests) in omega arith
+        ];
+        right = λ m. elim (cases_eq m n) [
+          | inl e ↦ subst (λ k. Right (at' k) (refs' k)) (sym e) right'
+          | inr e ↦ subst (λ o. Right o (refs' m)) (sym (others m e)) (subst (λ r. Right (at m) r) (sym (same m)) (fits.right m))
+        ];
+        from_one = others 0 (λ e. one' (sym e)) ∙ fits.from_one;
+      }
+
+-- what waits first is there and waits
+pub first-waits : (at : ℕ → Option Counts) (refs : ℕ → List ArcRef) (rows : List HandleRow) (n : ℕ) (ns : List ℕ) (extra : ℕ → ℕ → ℕ) → Fits at refs rows n (n ∷ ns) extra → falls_in (at n) ≡ true
+first-waits at refs rows n ns extra fits = let a = sum_by-cons (λ y. one (y == n)) n ns in let b = fits.marked n in grind (arith, nat_tests)
+
+still-right : (w a b b' : Bool) → w ≡ true → (if w then a else b) ≡ true → (if w then a else b') ≡ true
+still-right true a b b' e h = h
+still-right false a b b' e h = absurd (cc)
+
+owner-value : (n : ℕ) (o : Owner) → is_owner (owner_value n) o ≡ true → o ≡ owner_value n
+owner-value n owners.Caller h = absurd (cc)
+owner-value n (owners.Value m) h = let same : m.0 ≡ n = grind (arith, nat_tests) in ap owner_value same
+owner-value n owners.List h = absurd (cc)
+owner-value n (owners.Load l) h = absurd (cc)
+owner-value n (owners.Worker v) h = absurd (cc)
+
+-- what waits may lose references
+still : (o : Option Counts) (refs refs' : List ArcRef) → falls_in o ≡ true → Right o refs → Right o refs'
+still None refs refs' waits right = absurd (cc)
+still (Some c) refs refs' waits right = still-right c.is_falling (c.holds == 0 || (c.pins == 0 && nat_lt 0 c.key)) _ _ waits right
+
+-- a node has no more pins than handles
+pub pins-le-held : (n : ℕ) (rows : List HandleRow) → pins n rows ≤ held n rows
+pins-le-held n rows = sum_by-le-sum_by (pin_of n) (handle_of n) rows (λ h. grind (arith, nat_tests))
+
+-- an owned row's owner
+pub owner-is : (n q : ℕ) (x : HandleRow) → is_owned n q x ≡ 1 → (x.owner ≡ owner_value n) × ((m r : ℕ) → is_owned m r x ≡ one (n == m && q == r))
+owner-is n q x h =
+    let e : x.owner ≡ owner_value n = owner-value n x.owner (grind (arith, nat_tests)) in
+    let number : x.number.0 ≡ q = grind (arith, nat_tests) in
+    (e, λ m r. ap (λ o. one (x.number.0 == r && is_owner (owner_value m) o)) e ∙ ap (λ k. one (k == r && n == m)) number ∙ grind (arith, nat_tests))
+
+pub settled-right : (c : Counts) → c.is_falling ≡ false → 0 < c.holds → is_right c true ≡ true
+settled-right c free live = grind (arith, nat_tests)
+
+-- the last reference of the first node that waits is taken: its row is owned by that node's value
+module _ (at at' : ℕ → Option Counts) (refs refs' : ℕ → List ArcRef) (rows : List HandleRow) (n : ℕ) (ns : List ℕ) (p : ArcRef)
+    (fits : Fits at refs rows n (n ∷ ns) owns_nothing) (popped : refs n ≡ refs' n ++ p ∷ []) (others : (m : ℕ) → m ≢ n → refs' m ≡ refs m) (same : (m : ℕ) → at' m ≡ at m) where
+  times-popped : (r : ℕ) → named r (refs n) ≡ named r (refs' n) + one (p.handle.0 == r)
+  times-popped r = ap (named r) popped ∙ sum_by_push (λ (y : ArcRef). one (y.handle.0 == r)) (refs' n) p
+
+  -- it is owned
+  pub taken-owned : 1 ≤ sum_by (is_owned n p.handle.0) rows
+  taken-owned = let a = fits.owned n p.handle.0 in let b = times-popped p.handle.0 in grind (arith, nat_tests)
+
+  pub taken-there : 1 ≤ sum_by (is_number p.handle.0) rows
+  taken-there = let a = taken-owned in let b = sum_by-le-sum_by (is_owned n p.handle.0) (is_number p.handle.0) rows (λ h. grind (arith, nat_tests)) in omega arith
+
+  taken-right : (m : ℕ) → Right (at' m) (refs' m)
+  taken-right m =
+      elim (cases_eq m n) [
+        | inl e ↦ subst (λ k. Right (at' k) (refs' k)) (sym e) (subst (λ o. Right o (refs' n)) (sym (same n)) (still (at n) (refs n) (refs' n) (first-waits at refs rows n ns owns_nothing fits) (fits.right n)))
+        | inr e ↦ subst (λ o. Right o (refs' m)) (sym (same m)) (subst (λ r. Right (at m) r) (sym (others m e)) (fits.right m))
+      ]
+
+  -- where the row is that one, the tables fit but for it
+  pub taken-fits : (x : HandleRow) → ((m r : ℕ) → is_owned m r x ≡ one (n == m && p.handle.0 == r)) → Fits at' refs' rows n (n ∷ ns) (λ m r. is_owned m r x)
+  taken-fits x owner =
+      record {
+        pinned = λ m. ap pins_in (same m) ∙ fits.pinned m;
+        holding = λ m. ap holds_in (same m) ∙ fits.holding m;
+        owned = λ m r. elim (cases_eq m n) [
+          | inl e ↦
+              let a : named r (refs n) + 0 ≡ sum_by (is_owned n r) rows = fits.owned n r in
+              let b = times-popped r in
+              let o = owner n r in
+              let z : one (n == n && p.handle.0 == r) ≡ one (p.handle.0 == r) = grind (arith, nat_tests) in
+              let g : named r (refs' n) + is_owned n r x ≡ sum_by (is_owned n r) rows = omega arith in
+              subst (λ k. named r (refs' k) + is_owned k r x ≡ sum_by (is_owned k r) rows) (sym e) g
+          | inr e ↦
+              let a = fits.owned m r in
+              let b = ap (named r) (others m e) in
+              let o = owner m r in
+              let z : one (n == m && p.handle.0 == r) ≡ 0 = grind (arith, nat_tests) in
+              omega arith
+        ];
+        chain = chain-frame at at' n (n ∷ ns) (λ m within. ap next_in (same m)) fits.chain;
+        marked = λ m. fits.marked m ∙ sym (ap (λ o. one (falls_in o)) (same m));
+        right = taken-right;
+        from_one = same 0 ∙ fits.from_one;
+      }
+
+-- the same tables, by look-ups that agree
+pub fits-same : (at at' : ℕ → Option Counts) (refs refs' : ℕ → List ArcRef) (rows : List HandleRow) (top : ℕ) (stack : List ℕ) → Fits at refs rows top stack owns_nothing → ((m : ℕ) → at' m ≡ at m) → ((m : ℕ) → refs' m ≡ refs m) → Fits at' refs' rows top stack owns_nothing
+fits-same at at' refs refs' rows top stack fits same refs-same =
+    record {
+      pinned = λ m. ap pins_in (same m) ∙ fits.pinned m;
+      holding = λ m. ap holds_in (same m) ∙ fits.holding m;
+      owned = λ m q. ap (λ r. named q r + 0) (refs-same m) ∙ fits.owned m q;
+      chain = chain-frame at at' top stack (λ m within. ap next_in (same m)) fits.chain;
+      marked = λ m. fits.marked m ∙ sym (ap (λ o. one (falls_in o)) (same m));
+      right = λ m. subst (λ o. Right o (refs' m)) (sym (same m)) (subst (λ r. Right (at m) r) (sym (refs-same m)) (fits.right m));
+      from_one = same 0 ∙ fits.from_one;
+    }
+
+-- the first node that waits has lost its value
+fallen-plain : (w k : Bool) (p h : ℕ) (b : Bool) → w ≡ true → (if w then h == 0 || (p == 0 && k) else b) ≡ true → (h ≡ 0) ⊎ ((k ≡ true) × (p ≡ 0))
+fallen-plain true k zero zero b e h' = inl refl
+fallen-plain true true zero (suc h) b e h' = inr (refl, refl)
+fallen-plain true false zero (suc h) b e h' = absurd (grind (arith, nat_tests))
+fallen-plain true k (suc p) zero b e h' = inl refl
+fallen-plain true k (suc p) (suc h) b e h' = absurd (grind (arith, nat_tests))
+fallen-plain false k p h b e h' = absurd (cc)
+
+fallen-at : (o : Option Counts) (refs : List ArcRef) → falls_in o ≡ true → Right o refs → (holds_in o ≡ 0) ⊎ ((keyed_in o ≡ true) × (pins_in o ≡ 0))
+fallen-at None refs w r = absurd (cc)
+fallen-at (Some c) refs w r = fallen-plain c.is_falling (nat_lt 0 c.key) c.pins c.holds _ w r
+
+pub fallen : (at : ℕ → Option Counts) (refs : ℕ → List ArcRef) (rows : List HandleRow) (n : ℕ) (ns : List ℕ) → Fits at refs rows n (n ∷ ns) owns_nothing → HasFallen at rows n
+fallen at refs rows n ns fits =
+    elim (fallen-at (at n) (refs n) (first-waits at refs rows n ns owns_nothing fits) (fits.right n)) [
+      | inl none ↦ inl (sym (fits.holding n) ∙ none)
+      | inr both ↦ inr (both.0, sym (fits.pinned n) ∙ both.1)
+    ]

@@ -1,0 +1,22 @@
+-- A handle leaves, and an entry may come: what is counted of rows.
+use Rattle.std.proofs.Common.{◌≡◌, ℕ, ◌+◌, Bool, true, false, if◌then◌else◌, List, ◌++◌, sum_by, ap, arith}
+use Rattle.std.proofs.lemmas.List.{append-nil}
+use Rattle.std.proofs.lemmas.List.Sums.{sum_by_push}
+use Rattle.pagable_model.specs.declared.numbers.NodeNumber.{NodeNumber}
+use Rattle.pagable_world.specs.declared.handles.HandleRow.{HandleRow}
+use Rattle.pagable_tables.specs.declared.holdings.Holdings.{Holdings}
+use Rattle.pagable_tables.specs.Live.{live}
+use Rattle.pagable_tables.specs.Falling.{entry, entries_of, Leaves}
+
+with-entry : (f : HandleRow → ℕ) (rows : List HandleRow) (listed : Bool) (k : ℕ) (node : NodeNumber) → sum_by f (rows ++ entries_of listed k node) ≡ sum_by f rows + (if listed then f (entry k node) else 0)
+with-entry f rows true k node = sum_by_push f rows (entry k node)
+with-entry f rows false k node = let a = ap (sum_by f) (append-nil rows) in omega arith
+
+pub leaves-sums : (old new : Holdings) (x : HandleRow) (wanted listed : Bool) → Leaves old x wanted listed new → (f : HandleRow → ℕ)
+    → sum_by f (live new.handles.places.items) + f x ≡ sum_by f (live old.handles.places.items) + (if listed then f (entry (old.last_handle + 1) x.node) else 0)
+leaves-sums old new x wanted listed leaves f =
+    let a = leaves.sums f in
+    let b = ap (sum_by f) leaves.lists.comes.rows in
+    let c = with-entry f (live leaves.between.handles.places.items) listed (leaves.between.last_handle + 1) x.node in
+    let d = ap (λ (t : Holdings). if listed then f (entry (t.last_handle + 1) x.node) else 0) leaves.same in
+    omega arith

@@ -1,0 +1,4 @@
+mod Alive
+mod Order
+mod Fitting
+mod Leaving

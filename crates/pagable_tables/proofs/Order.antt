@@ -1,0 +1,60 @@
+-- Rows in the order of their numbers, and how halving finds one.
+use Rattle.std.proofs.Common.{◌≡◌, ℕ, ◌+◌, ◌<◌, ◌≤◌, List, length, get_or, set, ap, sym, ◌∙◌, arith, Some, slice_get, inl, inr}
+use Rattle.std.specs.List.{AllPairs}
+use Rattle.std.specs.Prelude.{◌⊎◌}
+use Rattle.std.proofs.lemmas.List.{get_or_default, get_or-set_other, length-set}
+use Rattle.std.proofs.lemmas.Grind.{get_or-set_at}
+use Rattle.std.proofs.lemmas.Bool.{cases_eq}
+use Rattle.std.proofs.lemmas.Option.{get_or_from_slice_get, slice_get_within}
+
+split_less : (k m : ℕ) → k < m + 1 → (k < m) ⊎ (k ≡ m)
+split_less k m h = grind arith
+
+-- all rows up to a smaller one are smaller
+pub smaller-up : {A : Type 0} (f : A → ℕ) (xs : List A) (m q : ℕ) (e : A) → AllPairs (λ a b. f a < f b) xs → m < length xs → f (get_or xs m e) < q → (k : ℕ) (d : A) → k < m + 1 → f (get_or xs k d) < q
+smaller-up f xs m q e ordered lt less k d h =
+    let at : f (get_or xs m e) ≡ f (get_or xs m d) = ap f (get_or_default xs m e d lt) in
+    elim (split_less k m h) [
+      | inl before ↦ let b = ordered k m d before lt in omega arith
+      | inr same ↦ let s = ap (λ n. f (get_or xs n d)) same in omega arith
+    ]
+
+split_more : (k m : ℕ) → m ≤ k → (m < k) ⊎ (k ≡ m)
+split_more k m h = grind arith
+
+-- all rows from a greater one on are greater
+pub greater-from : {A : Type 0} (f : A → ℕ) (xs : List A) (m q : ℕ) (e : A) → AllPairs (λ a b. f a < f b) xs → m < length xs → q ≤ f (get_or xs m e) → (f (get_or xs m e) ≡ q → ⊥) → (k : ℕ) (d : A) → m ≤ k → k < length xs → q < f (get_or xs k d)
+greater-from f xs m q e ordered lt more other k d h within =
+    let at : f (get_or xs m e) ≡ f (get_or xs m d) = ap f (get_or_default xs m e d lt) in
+    elim (split_more k m h) [
+      | inl after ↦ let b = ordered m k d after within in omega arith
+      | inr same ↦ let s = ap (λ n. f (get_or xs n d)) same in omega arith
+    ]
+
+le_or_lt : (a b : ℕ) → (a ≤ b) ⊎ (b < a)
+le_or_lt a b = grind arith
+
+-- what is smaller below a place and greater from one that isn't above it on has the number nowhere
+pub outside : {A : Type 0} (f : A → ℕ) (xs : List A) (q low high : ℕ) → high ≤ low → ((k : ℕ) (d : A) → k < low → f (get_or xs k d) < q) → ((k : ℕ) (d : A) → high ≤ k → k < length xs → q < f (get_or xs k d)) → (k : ℕ) (d : A) → k < length xs → (f (get_or xs k d) ≡ q → ⊥)
+outside f xs q low high meet below above k d lt e =
+    elim (le_or_lt high k) [ inl from ↦ let a = above k d from lt in absurd (omega arith) | inr before ↦ let b = below k d (omega arith) in absurd (omega arith) ]
+
+-- each row keeps its number
+number-set : {A : Type 0} (f : A → ℕ) (xs : List A) (i : ℕ) (x y : A) (k : ℕ) (d : A) → slice_get xs i ≡ Some x → f y ≡ f x → k < length xs → f (get_or (set xs i y) k d) ≡ f (get_or xs k d)
+number-set f xs i x y k d at same lt =
+    elim (cases_eq k i) [
+      | inl here ↦ ap f (get_or-set_at xs i k y d here (slice_get_within xs i x at)) ∙ same ∙ ap f (sym (get_or_from_slice_get xs i x d at) ∙ ap (λ n. get_or xs n d) (sym here))
+      | inr other ↦ ap f (get_or-set_other xs i k y d other)
+    ]
+
+-- a row changes, but not its number
+pub rises-set : {A : Type 0} (f : A → ℕ) (xs : List A) (i : ℕ) (x y : A) → AllPairs (λ a b. f a < f b) xs → slice_get xs i ≡ Some x → f y ≡ f x → AllPairs (λ a b. f a < f b) (set xs i y)
+rises-set f xs i x y ordered at same j k d less within =
+    let lt : k < length xs = let n = length-set xs i y in omega arith in
+    let a = number-set f xs i x y j d at same (omega arith) in
+    let b = number-set f xs i x y k d at same lt in
+    let c = ordered j k d less lt in
+    omega arith
+
+pub greater-from-row : {A : Type 0} (f : A → ℕ) (xs : List A) (m q : ℕ) (x : A) → AllPairs (λ a b. f a < f b) xs → m < length xs → x ≡ get_or xs m x → q ≤ f x → (f x ≡ q → ⊥) → (k : ℕ) (d : A) → m ≤ k → k < length xs → q < f (get_or xs k d)
+greater-from-row f xs m q x ordered lt e more other = let is = ap f e in greater-from f xs m q x ordered lt (omega arith) (λ s. other (is ∙ s))

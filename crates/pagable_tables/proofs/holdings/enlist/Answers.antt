@@ -1,0 +1,24 @@
+use Rattle.std.proofs.Common.{refl, sym, ◌∙◌, ◌≡◌, inl, ◌≤◌, length, rules}
+use Rattle.std.specs.Prelude.{vec_capacity}
+use Rattle.std.proofs.lemmas.List.{append-nil}
+use Rattle.pagable_tables.specs.Live.{live}
+use Rattle.pagable_tables.proofs.holdings.enlist.Goals as goal
+
+pub returns-then-is_err : goal.returns-then-is_err
+returns-then-is_err c =
+    let rows : live c.push.new.handles.places.items ≡ live c.args.t.now.handles.places.items = search rules in
+    let full : vec_capacity c.args.t.now.handles.places ≤ length (live c.args.t.now.handles.places.items) = search rules in
+    record {
+      comes = record {
+        sound = search rules;
+        next = search rules;
+        rows = rows ∙ sym (append-nil _);
+        list = c.make_place.ensures.items ∙ sym (append-nil _);
+        last = search rules;
+        places = record { handles = search rules; entries = search rules };
+        nodes = refl;
+        top = refl;
+      };
+      told = refl;
+      why = (search rules, inl full);
+    }

@@ -1,0 +1,95 @@
+use Rattle.std.proofs.Common.{◌≡◌, ℕ, false, arith, refl, ap, sym, ◌∙◌, subst, Some, None, List, [], ◌∷◌}
+use Rattle.std.specs.Prelude.{◌≢◌, is_some}
+use Rattle.std.proofs.lemmas.Bool.{cases_eq}
+use Rattle.std.proofs.Common.{inl, inr}
+use Rattle.pagable_tables.specs.Live.{live}
+use Rattle.pagable_tables.specs.ByNumber.{counts_at, refs_at}
+use Rattle.pagable_tables.specs.Falling.{IsFalling, Fits, pins_in, holds_in, falls_in, cell_in, Right, owns_nothing}
+use Rattle.pagable_tables.specs.declared.rows.Counts.{Counts}
+use Rattle.pagable_tables.specs.declared.holdings.Holdings.{Holdings}
+use Rattle.pagable_tables.proofs.Fitting.{done-fits, first-waits, pins-le-held, settled-right}
+use Rattle.pagable_tables.proofs.holdings.settle.Goals as goal
+
+there : (t : Holdings) (stack : List ℕ) → IsFalling t stack owns_nothing → t.top ≢ 0 → counts_at t.nodes t.top ≡ None → ⊥
+there t [] w some none = some w.fits.chain
+there t (n ∷ ns) w some none =
+    let top : t.top ≡ n = w.fits.chain.0 in
+    let fits : Fits (counts_at t.nodes) (refs_at t.nodes) (live t.handles.places.items) n (n ∷ ns) owns_nothing = subst (λ m. Fits (counts_at t.nodes) (refs_at t.nodes) (live t.handles.places.items) m (n ∷ ns) owns_nothing) top w.fits in
+    let waits = first-waits _ _ _ _ _ _ fits in
+    let is : counts_at t.nodes n ≡ None = subst (λ m. counts_at t.nodes m ≡ None) top none in
+    let a : falls_in (counts_at t.nodes n) ≡ false = ap falls_in is in
+    absurd (cc)
+
+pub unreachable-requires : goal.unreachable-requires
+unreachable-requires c = there c.args.t.now c.requires.falling.0 c.requires.falling.1 c.requires.some (sym c.counts_of.ensures ∙ c.in_default.is)
+
+-- the top stands first in the stack
+first : (t : Holdings) (n : ℕ) (ns : List ℕ) → IsFalling t (n ∷ ns) owns_nothing → IsFalling t (t.top ∷ ns) owns_nothing
+first t n ns w = subst (λ m. IsFalling t (m ∷ ns) owns_nothing) (sym w.fits.chain.0) w
+
+pub returns-then-counts-eq0 : goal.returns-then-counts-eq0
+returns-then-counts-eq0 c [] w = absurd (c.requires.some w.fits.chain)
+returns-then-counts-eq0 c (n ∷ ns) w =
+    let old = c.args.t.now in
+    let top = old.top in
+    let counts = c.in-Some.counts in
+    let v = first old n ns w in
+    let at = counts_at old.nodes in
+    let at' = counts_at c.remove.new.nodes in
+    let refs = refs_at old.nodes in
+    let refs' = refs_at c.remove.new.nodes in
+    let rows = live old.handles.places.items in
+    let e = c.remove.ensures in
+    let is : at top ≡ Some counts = sym c.counts_of.ensures ∙ c.in-Some.is in
+    let zero : counts.holds ≡ 0 = c.if-counts-eq0.true in
+    let gone : at' top ≡ None = e.gone in
+    let holds' : holds_in (at' top) ≡ counts.holds = ap holds_in gone ∙ sym zero in
+    let none : counts.pins ≡ 0 = (let a = v.fits.pinned top in let b = v.fits.holding top in let d = ap pins_in is in let f = ap holds_in is in let l = pins-le-held top rows in omega arith) in
+    let same : (m : ℕ) → refs' m ≡ refs m = λ m. elim (cases_eq m top) [ inl eq ↦ ap refs' eq ∙ e.no_refs ∙ sym c.requires.none ∙ sym (ap refs eq) | inr ne ↦ e.refs m ne ] in
+    record {
+      rest = ns;
+      falling = record {
+        sound = w.sound;
+        next = w.next;
+        fits = done-fits at at' refs refs' rows top ns counts v.fits is (ap pins_in gone ∙ sym none) holds' (ap falls_in gone) (subst (λ o. Right o (refs' top)) (sym gone) e.no_refs) e.others same c.requires.some;
+      };
+      shorter = omega arith;
+      same = refl;
+      cells = λ m some. elim (cases_eq m top) [
+        | inl eq ↦ absurd (let a : is_some (at' m) ≡ false = ap (λ k. is_some (at' k)) eq ∙ ap is_some gone in cc)
+        | inr ne ↦ (sym (ap is_some (e.others m ne)) ∙ some, ap cell_in (e.others m ne))
+      ];
+    }
+
+pub returns-else-counts-eq0 : goal.returns-else-counts-eq0
+returns-else-counts-eq0 c [] w = absurd (c.requires.some w.fits.chain)
+returns-else-counts-eq0 c (n ∷ ns) w =
+    let old = c.args.t.now in
+    let top = old.top in
+    let counts = c.in-Some.counts in
+    let v = first old n ns w in
+    let at = counts_at old.nodes in
+    let at' = counts_at c.set_counts.new.nodes in
+    let refs = refs_at old.nodes in
+    let refs' = refs_at c.set_counts.new.nodes in
+    let rows = live old.handles.places.items in
+    let e = c.set_counts.ensures in
+    let is : at top ≡ Some counts = sym c.counts_of.ensures ∙ c.in-Some.is in
+    let now : Counts = record counts { is_falling = false; next = 0 } in
+    let here : at' top ≡ Some now = e.here in
+    let bare : refs' top ≡ [] = e.refs top ∙ c.requires.none in
+    let right : Right (Some now) [] = settled-right now refl (let z = c.if-counts-eq0.false in omega arith) in
+    record {
+      rest = ns;
+      falling = record {
+        sound = w.sound;
+        next = w.next;
+        fits = done-fits at at' refs refs' rows top ns counts v.fits is (ap pins_in here) (ap holds_in here) (ap falls_in here) (subst (λ o. Right o (refs' top)) (sym here) (subst (λ r. Right (Some now) r) (sym bare) right)) e.others e.refs c.requires.some;
+      };
+      shorter = omega arith;
+      same = refl;
+      cells = λ m some. elim (cases_eq m top) [
+        | inl eq ↦ (ap (λ k. is_some (at k)) eq ∙ ap is_some is, ap (λ k. cell_in (at' k)) eq ∙ ap cell_in here ∙ sym (ap (λ k. cell_in (at k)) eq ∙ ap cell_in is))
+        | inr ne ↦ (sym (ap is_some (e.others m ne)) ∙ some, ap cell_in (e.others m ne))
+      ];
+    }

@@ -1,0 +1,26 @@
+-- Nodes, loads and what the cache knows, as functions of numbers and keys.
+use Rattle.std.specs.Prelude.{ℕ, Bool, ◌&&◌, List, [], Option, nat_eq}
+use Rattle.std.specs.Option.{option_map, option_map_or}
+use Rattle.indexmap.specs.IndexMap.{IndexMap, get}
+use Rattle.pagable_model.specs.declared.numbers.ArcRef.{ArcRef}
+use Rattle.pagable_model.specs.declared.numbers.NodeNumber.{NodeNumber}
+use Rattle.pagable_tables.specs.declared.rows.NodeRow.{NodeRow}
+use Rattle.pagable_tables.specs.declared.rows.Counts.{Counts}
+use Rattle.pagable_tables.specs.declared.rows.LoadRow.{LoadRow}
+
+-- whether kind and key are the same
+abbrev pub is_same : ℕ × ℕ → ℕ × ℕ → Bool
+is_same x y = nat_eq x.0 y.0 && nat_eq x.1 y.1
+
+module _ {S : Type 0} where
+  abbrev pub counts_at : IndexMap ℕ NodeRow S → ℕ → Option Counts
+  counts_at nodes n = option_map (λ (r : NodeRow). r.counts) (get nat_eq nodes n)
+
+  abbrev pub refs_at : IndexMap ℕ NodeRow S → ℕ → List ArcRef
+  refs_at nodes n = option_map_or (λ (r : NodeRow). r.references.items) (get nat_eq nodes n) []
+
+  abbrev pub load_at : IndexMap ℕ LoadRow S → ℕ → Option LoadRow
+  load_at loads l = get nat_eq loads l
+
+  abbrev pub known_at : IndexMap (ℕ × ℕ) NodeNumber S → ℕ → ℕ → Option NodeNumber
+  known_at cache kind key = get is_same cache (kind, key)

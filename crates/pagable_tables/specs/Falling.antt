@@ -1,0 +1,233 @@
+-- Handles, nodes and list in the midst of giving handles up.
+use Rattle.std.specs.Prelude.{ℕ, zero, suc, ◌≡◌, ◌+◌, ◌*◌, ◌-◌, ◌<◌, ◌≤◌, ◌==◌, ◌&&◌, ◌||◌, ◌⊎◌, ◌++◌, Bool, true, false, not, if◌then◌else◌, List, [], ◌∷◌, length, sum_by, Option, Some, None, is_some, nat_lt, Result, Ok, Err, IfErr, vec_capacity}
+use Rattle.pagable_model.specs.declared.data_key.OptionalDataKey.{OptionalDataKey}
+use Rattle.pagable_model.specs.declared.data_key.OptionalDataKey.TheVariants as optional
+use Rattle.pagable_model.specs.declared.error.Error.{Error}
+use Rattle.pagable_model.specs.declared.error.Error.TheVariants as errors
+use Rattle.pagable_model.specs.declared.numbers.ArcRef.{ArcRef}
+use Rattle.pagable_model.specs.declared.numbers.NodeNumber.{NodeNumber}
+use Rattle.pagable_world.specs.declared.handles.HandleRow.{HandleRow}
+use Rattle.pagable_world.specs.declared.rows.Mode.{Mode}
+use Rattle.pagable_world.specs.declared.rows.Mode.TheVariants as modes
+use Rattle.pagable_world.specs.declared.handles.Owner.{Owner}
+use Rattle.pagable_world.specs.declared.handles.Owner.TheVariants as owners
+use Rattle.pagable_world.specs.Plain.{one, times}
+use Rattle.pagable_world.specs.Kinds.{held, pins, is_handle, is_owned_by, owner_value}
+use Rattle.pagable_world.specs.World.{greatest, Cell}
+use Rattle.pagable_world.specs.Calls.{row_of}
+use Rattle.pagable_world.specs.Cascade.{left_rows, only_handle}
+use Rattle.pagable_tables.specs.declared.rows.Counts.{Counts}
+use Rattle.pagable_tables.specs.declared.holdings.Holdings.{Holdings}
+use Rattle.pagable_tables.specs.Live.{live, AreSound, IsNext}
+use Rattle.pagable_tables.specs.ByNumber.{counts_at, refs_at}
+
+abbrev pub pins_in : Option Counts → ℕ
+pins_in None = 0
+pins_in (Some c) = c.pins
+
+abbrev pub holds_in : Option Counts → ℕ
+holds_in None = 0
+holds_in (Some c) = c.holds
+
+abbrev pub falls_in : Option Counts → Bool
+falls_in None = false
+falls_in (Some c) = c.is_falling
+
+abbrev pub next_in : Option Counts → ℕ
+next_in None = 0
+next_in (Some c) = c.next
+
+abbrev pub keyed_in : Option Counts → Bool
+keyed_in None = false
+keyed_in (Some c) = nat_lt 0 c.key
+
+-- a new entry of the list
+abbrev pub entry : ℕ → NodeNumber → HandleRow
+entry q node = row_of q node modes.LooseUnpinned owners.List
+
+abbrev pub entries_of : Bool → ℕ → NodeNumber → List HandleRow
+entries_of listed q node = if listed then entry q node ∷ [] else []
+
+-- the nodes that fall, from the first one on, by the numbers in their rows
+abbrev pub Chain : (ℕ → Option Counts) → ℕ → List ℕ → Type 0
+Chain at top [] = top ≡ 0
+Chain at top (n ∷ ns) = (top ≡ n) × Chain at (next_in (at n)) ns
+
+abbrev pub is_bare : List ArcRef → Bool
+is_bare [] = true
+is_bare (r ∷ rs) = false
+
+-- A node that falls has lost its value. Another has a handle, and refers to something only where its value is in memory.
+abbrev pub is_right : Counts → Bool → Bool
+is_right c bare = if c.is_falling then c.holds == 0 || (c.pins == 0 && nat_lt 0 c.key) else nat_lt 0 c.holds && (nat_lt 0 c.pins || not (nat_lt 0 c.key) || bare)
+
+abbrev pub Right : Option Counts → List ArcRef → Type 0
+Right None refs = refs ≡ []
+Right (Some c) refs = is_right c (is_bare refs) ≡ true
+
+-- whether the last pin of a cell without a key goes with a handle of this mode
+abbrev pub is_listing : Counts → Mode → Bool
+is_listing c modes.LoosePinned = c.pins == 1 && not (nat_lt 0 c.key)
+is_listing c modes.LooseUnpinned = false
+is_listing c modes.Pinned = c.pins == 1 && not (nat_lt 0 c.key)
+is_listing c modes.Shared = false
+
+-- The counts after a handle has left. A node falls from now on where its last handle went, or its last pin and it has a key.
+abbrev pub is_fallen_by : Counts → Bool → ℕ → ℕ → Bool
+is_fallen_by c pinning pins holds = not c.is_falling && (holds == 0 || (pinning && pins == 0 && nat_lt 0 c.key))
+
+abbrev pub after : Counts → Bool → Bool → ℕ → Counts
+after c pinning listed top =
+    let pins = c.pins - one pinning in
+    let holds = if listed then c.holds else c.holds - 1 in
+    let falls = is_fallen_by c pinning pins holds in
+    record c { pins = pins; holds = holds; is_falling = c.is_falling || falls; next = if falls then top else c.next }
+
+abbrev pub is_new : Bool → Bool → Bool
+is_new before falls = falls && not before
+
+-- whether the handle of this row has the number and is owned by the node's value
+abbrev pub owns : HandleRow → ℕ → ℕ → ℕ
+owns h n q = one (is_handle q h && is_owned_by (owner_value n) h)
+
+abbrev pub owns_nothing : ℕ → ℕ → ℕ
+owns_nothing n q = 0
+
+-- how often a handle is named, and a node in a list
+abbrev pub named : ℕ → List ArcRef → ℕ
+named q refs = times (λ (r : ArcRef). r.handle.0 == q) refs
+
+abbrev pub often : ℕ → List ℕ → ℕ
+often n ns = times (λ m. m == n) ns
+
+-- Nodes by their counts and references, live handles, and what falls. Besides its references a value may own the handles that extra tells.
+pub record Fits (at : ℕ → Option Counts) (refs : ℕ → List ArcRef) (rows : List HandleRow) (top : ℕ) (stack : List ℕ) (extra : ℕ → ℕ → ℕ) : Type 0 where
+  pub pinned : (n : ℕ) → pins_in (at n) ≡ pins n rows
+  pub holding : (n : ℕ) → holds_in (at n) ≡ held n rows
+  pub owned : (n q : ℕ) → named q (refs n) + extra n q ≡ sum_by (λ h. owns h n q) rows
+  pub chain : Chain at top stack
+  pub marked : (n : ℕ) → often n stack ≡ one (falls_in (at n))
+  pub right : (n : ℕ) → Right (at n) (refs n)
+  pub from_one : at 0 ≡ None
+
+pub record IsFalling (t : Holdings) (stack : List ℕ) (extra : ℕ → ℕ → ℕ) : Type 0 where
+  pub sound : AreSound t.handles
+  pub next : IsNext (t.last_handle + 1) t.handles.places.items
+  pub fits : Fits (counts_at t.nodes) (refs_at t.nodes) (live t.handles.places.items) t.top stack extra
+
+-- why no entry can come: no number is left, or no place
+abbrev pub IsUnlisted : Holdings → Error → Type 0
+IsUnlisted t errors.NumbersSpent = greatest ≤ t.last_handle
+IsUnlisted t errors.OutOfMemory = (t.last_handle < greatest) × ((vec_capacity t.handles.places ≤ length (live t.handles.places.items)) ⊎ (vec_capacity t.list ≤ length t.list.items))
+IsUnlisted t e = ⊥
+
+-- places are never fewer
+pub record HasPlaces (old new : Holdings) : Type 0 where
+  pub handles : vec_capacity old.handles.places ≤ vec_capacity new.handles.places
+  pub entries : vec_capacity old.list ≤ vec_capacity new.list
+
+-- an entry for the node came to the end of handles and list, or it couldn't
+pub record Comes (old : Holdings) (node : NodeNumber) (listed : Bool) (new : Holdings) : Type 0 where
+  pub sound : AreSound new.handles
+  pub next : IsNext (new.last_handle + 1) new.handles.places.items
+  pub rows : live new.handles.places.items ≡ live old.handles.places.items ++ entries_of listed (old.last_handle + 1) node
+  pub list : new.list.items ≡ old.list.items ++ (if listed then record { 0 = old.last_handle + 1 } ∷ [] else [])
+  pub last : new.last_handle ≡ old.last_handle + one listed
+  pub places : HasPlaces old new
+  pub nodes : new.nodes ≡ old.nodes
+  pub top : new.top ≡ old.top
+
+abbrev pub is_ok : Result (Unit {0}) Error → Bool
+is_ok (Ok u) = true
+is_ok (Err e) = false
+
+pub record Lists (old : Holdings) (node : NodeNumber) (r : Result (Unit {0}) Error) (new : Holdings) : Type 0 where
+  pub comes : Comes old node (is_ok r) new
+  pub told : new.unlisted ≡ old.unlisted
+  pub why : IfErr r (IsUnlisted old)
+
+-- the first cause why an entry couldn't come is kept
+abbrev pub first_cause : Option Error → Error → Option Error
+first_cause None e = Some e
+first_cause (Some f) e = Some f
+
+-- where an entry is wanted it came, or there is a cause; where none is wanted nothing changes
+pub record MayList (old : Holdings) (node : NodeNumber) (wanted listed : Bool) (new : Holdings) : Type 0 where
+  pub comes : Comes old node listed new
+  pub only : listed ≡ true → wanted ≡ true
+  pub told : (listed ≡ true) ⊎ (wanted ≡ false) → new.unlisted ≡ old.unlisted
+  pub why : listed ≡ false → wanted ≡ true → (e : Error) × IsUnlisted old e × (new.unlisted ≡ first_cause old.unlisted e)
+
+-- the handle of the row x leaves, and then an entry for its node may come
+pub record Leaves (old : Holdings) (x : HandleRow) (wanted listed : Bool) (new : Holdings) : Type 0 where
+  pub between : Holdings
+  pub rows : live between.handles.places.items ≡ left_rows (only_handle x.number) (live old.handles.places.items)
+  pub sums : (f : HandleRow → ℕ) → sum_by f (live between.handles.places.items) + f x ≡ sum_by f (live old.handles.places.items)
+  pub places : HasPlaces old between
+  pub same : between ≡ record old { handles = between.handles }
+  pub lists : MayList between x.node wanted listed new
+
+-- the key of this number, if it is one
+abbrev pub key_in : ℕ → OptionalDataKey
+key_in zero = optional.None
+key_in (suc n) = optional.Some (suc n)
+
+-- a node by its type and key
+abbrev pub cell_in : Option Counts → Option Cell
+cell_in None = None
+cell_in (Some c) = Some (record { node_type = c.node_type; key = key_in c.key })
+
+-- the nodes that are left are the same cells
+abbrev pub CellsStay : (ℕ → Option Counts) → (ℕ → Option Counts) → Type 0
+CellsStay old new = (n : ℕ) → is_some (new n) ≡ true → (is_some (old n) ≡ true) × (cell_in (new n) ≡ cell_in (old n))
+
+-- The handle of the row x is given up.
+pub record GivesUp (old : Holdings) (stack : List ℕ) (x : HandleRow) (listing : Bool) (new : Holdings) : Type 0 where
+  pub counts : Counts
+  pub is : counts_at old.nodes x.node.0 ≡ Some counts
+  pub listed : Bool
+  pub between : Holdings
+  pub leaves : Leaves old x (listing && is_listing counts x.mode) listed between
+  pub same : new ≡ record between { nodes = new.nodes; top = new.top }
+  pub cells : CellsStay (counts_at old.nodes) (counts_at new.nodes)
+  pub more : List ℕ
+  pub falling : IsFalling new more owns_nothing
+  pub long : length more ≤ length stack + 1
+
+-- The first node that falls is done.
+pub record Settles (old : Holdings) (stack : List ℕ) (new : Holdings) : Type 0 where
+  pub same : new ≡ record old { nodes = new.nodes; top = new.top }
+  pub cells : CellsStay (counts_at old.nodes) (counts_at new.nodes)
+  pub rest : List ℕ
+  pub falling : IsFalling new rest owns_nothing
+  pub shorter : length rest + 1 ≡ length stack
+
+-- the value of the node has gone
+abbrev pub HasFallen : (ℕ → Option Counts) → List HandleRow → ℕ → Type 0
+HasFallen at rows n = (held n rows ≡ 0) ⊎ ((keyed_in (at n) ≡ true) × (pins n rows ≡ 0))
+
+-- how many handles values own
+abbrev pub is_valued : Owner → Bool
+is_valued (owners.Value n) = true
+is_valued o = false
+
+abbrev pub valued : List HandleRow → ℕ
+valued rows = times (λ h. is_valued h.owner) rows
+
+-- a handle of the row x is given up, which the value of the node n owned, that has gone
+pub record FallsBy (old : Holdings) (x : HandleRow) (n : ℕ) (lists : Bool) (new : Holdings) : Type 0 where
+  pub owner : x.owner ≡ owner_value n
+  pub fallen : HasFallen (counts_at old.nodes) (live old.handles.places.items) n
+  pub popped : Holdings
+  pub same : popped ≡ record old { nodes = popped.nodes }
+  pub counts : (m : ℕ) → counts_at popped.nodes m ≡ counts_at old.nodes m
+  pub stack : List ℕ
+  pub gives : GivesUp popped stack x lists new
+
+-- One step: a handle is given up, or the first node that falls is done.
+pub record Steps (old : Holdings) (stack : List ℕ) (lists : Bool) (r : Option NodeNumber) (new : Holdings) : Type 0 where
+  pub rest : List ℕ
+  pub falling : IsFalling new rest owns_nothing
+  pub less : 2 * valued (live new.handles.places.items) + length rest < 2 * valued (live old.handles.places.items) + length stack
+  pub cells : CellsStay (counts_at old.nodes) (counts_at new.nodes)
+  pub what : ((r ≡ Some (record { 0 = old.top })) × (new ≡ record old { nodes = new.nodes; top = new.top })) ⊎ ((x : HandleRow) × (n : ℕ) × (r ≡ None) × FallsBy old x n lists new)

@@ -1,0 +1,3 @@
+pub mod Live
+pub mod ByNumber
+pub mod Falling

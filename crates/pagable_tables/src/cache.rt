@@ -1,0 +1,44 @@
+//! The cache: which node is known under a kind and a key. It owns nothing.
+
+ghost use Rattle.std.specs.Prelude.{◌≡◌, ◌≢◌, ℕ, ◌⊎◌, Some, None, Option, OnOk, OnErr};
+ghost use Rattle.pagable_tables.specs.ByNumber.{known_at};
+
+use indexmap::IndexMap;
+use pagable_model::{DataKey, Kind, NodeNumber};
+use std::alloc::AllocError;
+
+/// The node that is known under a kind and a key.
+pub fn known_of(
+    cache: &IndexMap<(u32, DataKey), NodeNumber>,
+    kind: Kind,
+    key: DataKey,
+) -> Option<NodeNumber>
+    ensures { result ≡ known_at cache.now kind.0 key }
+{
+    match cache.get(&(kind.0, key)) {
+        Some(node) => Some(*node),
+        None => None,
+    }
+}
+
+/// A node is known under a kind and a key from now on.
+pub fn learn(
+    cache: &mut IndexMap<(u32, DataKey), NodeNumber>,
+    kind: Kind,
+    key: DataKey,
+    node: NodeNumber,
+) -> Result<(), AllocError>
+    ensures here { OnOk result (known_at cache.new kind.0 key ≡ Some node) }
+    ensures others { OnOk result ((k q : ℕ) → (k ≢ kind.0) ⊎ (q ≢ key) → known_at cache.new k q ≡ known_at cache.old k q) }
+    ensures err { OnErr result ((k q : ℕ) → known_at cache.new k q ≡ known_at cache.old k q) }
+{
+    cache.insert((kind.0, key), node)?;
+    Ok(())
+}
+
+/// Nothing is known any more.
+pub fn forget(cache: &mut IndexMap<(u32, DataKey), NodeNumber>)
+    ensures { (k q : ℕ) → known_at cache.new k q ≡ None }
+{
+    cache.clear();
+}

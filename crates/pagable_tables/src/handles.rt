@@ -1,0 +1,217 @@
+//! Live handles in the order of their numbers, found by halving. A dead row stays in its place until more than half are dead.
+
+ghost use Rattle.std.specs.Prelude.{vec_len, vec_capacity, ◌≡◌, ℕ, ◌+◌, ◌-◌, ◌*◌, ◌<◌, ◌≤◌, ◌++◌, ◌∷◌, [], length, sum_by, slice_get, Option, Some, None, IfNone, IfSome, OnOk, OnErr, IsOk, true, false};
+ghost use Rattle.std.specs.List.{AllPairs};
+ghost use Rattle.pagable_world.specs.Plain.{changed};
+ghost use Rattle.pagable_world.specs.Kinds.{find_row, is_handle};
+ghost use Rattle.pagable_world.specs.Cascade.{left_rows, only_handle};
+ghost use Rattle.pagable_world.specs.declared.handles.HandleRow.{HandleRow};
+ghost use Rattle.pagable_tables.specs.Live.{IsBefore, AreSound, live, alive, room, IsNext};
+
+use crate::rows::{HandleAt, Place};
+use pagable_model::HandleNumber;
+use pagable_world::handles::HandleRow;
+use std::alloc::{AllocError, Global};
+
+/// The handles. They are in order, and the dead are counted (`AreSound`).
+#[derive(Drop)]
+pub struct Handles {
+    pub places: Vec<Place>,
+    pub dead: usize,
+}
+
+/// No handle.
+pub fn empty(alloc: Global) -> Handles
+    ensures sound { AreSound result }
+    ensures rows { live result.places.items ≡ [] }
+    ensures places { result.places.items ≡ [] }
+{
+    Handles {
+        places: Vec::new(alloc),
+        dead: 0,
+    }
+}
+
+/// The live handle of this number, with its place.
+fn find(places: &[Place], number: u64) -> Option<HandleAt>
+    requires { AllPairs IsBefore places.now }
+    ensures none { IfNone result (find_row number (live places.now) ≡ None) }
+    ensures place { IfSome result (λ at. slice_get places.now at.place ≡ Some (alive at.row)) }
+    ensures found { IfSome result (λ at. find_row number (live places.now) ≡ Some at.row) }
+    ensures number { IfSome result (λ at. at.row.number.0 ≡ number) }
+{
+    let mut low = 0;
+    let mut high = places.len();
+    while low < high {
+        let middle = low + (high - low) / 2;
+        let place = places[middle];
+        if place.row.number.0 == number {
+            if place.is_live {
+                return Some(HandleAt {
+                    place: middle,
+                    row: place.row,
+                });
+            }
+            return None;
+        }
+        if place.row.number.0 < number {
+            low = middle + 1;
+        } else {
+            high = middle;
+        }
+    }
+    None
+}
+
+/// The same, if it stands where it would stand were no number missing.
+fn at_once(places: &[Place], number: u64) -> Option<HandleAt>
+    requires { AllPairs IsBefore places.now }
+    ensures place { IfSome result (λ at. slice_get places.now at.place ≡ Some (alive at.row)) }
+    ensures found { IfSome result (λ at. find_row number (live places.now) ≡ Some at.row) }
+    ensures number { IfSome result (λ at. at.row.number.0 ≡ number) }
+{
+    if places.is_empty() || number < places[0].row.number.0 {
+        return None;
+    }
+    let middle = (number - places[0].row.number.0) as usize;
+    if middle >= places.len() {
+        return None;
+    }
+    let place = places[middle];
+    if place.row.number.0 == number && place.is_live {
+        return Some(HandleAt {
+            place: middle,
+            row: place.row,
+        });
+    }
+    None
+}
+
+/// The live handle of this number, with its place. It costs a look where numbers are dense, and else the logarithm of their count.
+pub fn look(handles: &Handles, number: HandleNumber) -> Option<HandleAt>
+    requires { AreSound handles.now }
+    ensures none { IfNone result (find_row number.0 (live handles.now.places.items) ≡ None) }
+    ensures place { IfSome result (λ at. slice_get handles.now.places.items at.place ≡ Some (alive at.row)) }
+    ensures found { IfSome result (λ at. find_row number.0 (live handles.now.places.items) ≡ Some at.row) }
+    ensures number { IfSome result (λ at. at.row.number ≡ number) }
+{
+    match at_once(&handles.places, number.0) {
+        Some(at) => Some(at),
+        None => find(&handles.places, number.0),
+    }
+}
+
+/// How many handles can still be pushed without a request for memory.
+pub fn room_of(handles: &Handles) -> usize
+    requires { AreSound handles.now }
+    ensures { result ≡ room handles.now }
+{
+    handles.places.capacity() - (handles.places.len() - handles.dead)
+}
+
+/// Clears the dead rows away, in place.
+fn compact(handles: &mut Handles)
+    requires { AreSound handles.old }
+    ensures sound { AreSound handles.new }
+    ensures rows { live handles.new.places.items ≡ live handles.old.places.items }
+    ensures none_dead { handles.new.dead ≡ 0 }
+    ensures capacity { vec_capacity handles.new.places ≡ vec_capacity handles.old.places }
+    ensures next { (q : ℕ) → IsNext q handles.old.places.items → IsNext q handles.new.places.items }
+{
+    handles.places.retain(
+        |place: &Place| -> bool
+            ensures { result ≡ place.now.is_live }
+        { place.is_live },
+    );
+    handles.dead = 0;
+}
+
+/// The handle at this place dies.
+pub fn kill(handles: &mut Handles, at: HandleAt)
+    requires sound { AreSound handles.old }
+    requires place { slice_get handles.old.places.items at.place ≡ Some (alive at.row) }
+    ensures sound { AreSound handles.new }
+    ensures rows { live handles.new.places.items ≡ left_rows (only_handle at.row.number) (live handles.old.places.items) }
+    ensures sums { (f : HandleRow → ℕ) → sum_by f (live handles.new.places.items) + f at.row ≡ sum_by f (live handles.old.places.items) }
+    ensures capacity { vec_capacity handles.new.places ≡ vec_capacity handles.old.places }
+    ensures next { (q : ℕ) → IsNext q handles.old.places.items → IsNext q handles.new.places.items }
+{
+    handles.places[at.place] = Place {
+        row: at.row,
+        is_live: false,
+    };
+    handles.dead += 1;
+    if handles.dead > handles.places.len() - handles.dead {
+        compact(handles);
+    }
+}
+
+/// The handle at this place has another row from now on, of the same number.
+pub fn set(handles: &mut Handles, at: HandleAt, row: HandleRow)
+    requires sound { AreSound handles.old }
+    requires place { slice_get handles.old.places.items at.place ≡ Some (alive at.row) }
+    requires number { row.number ≡ at.row.number }
+    ensures sound { AreSound handles.new }
+    ensures rows { live handles.new.places.items ≡ changed (is_handle at.row.number.0) (λ _. row) (live handles.old.places.items) }
+    ensures sums { (f : HandleRow → ℕ) → sum_by f (live handles.new.places.items) + f at.row ≡ sum_by f (live handles.old.places.items) + f row }
+    ensures capacity { vec_capacity handles.new.places ≡ vec_capacity handles.old.places }
+    ensures next { (q : ℕ) → IsNext q handles.old.places.items → IsNext q handles.new.places.items }
+{
+    handles.places[at.place] = Place { row, is_live: true };
+}
+
+/// Makes a place free for one more row, if it can.
+fn make_room(handles: &mut Handles) -> Result<(), AllocError>
+    requires { AreSound handles.old }
+    ensures sound { AreSound handles.new }
+    ensures rows { live handles.new.places.items ≡ live handles.old.places.items }
+    ensures ok { OnOk result (vec_len handles.new.places < vec_capacity handles.new.places) }
+    ensures capacity { vec_capacity handles.old.places ≤ vec_capacity handles.new.places }
+    ensures full { OnErr result (vec_capacity handles.old.places ≤ length (live handles.old.places.items)) }
+    ensures next { (q : ℕ) → IsNext q handles.old.places.items → IsNext q handles.new.places.items }
+{
+    if handles.places.len() < handles.places.capacity() {
+        return Ok(());
+    }
+    if handles.places.reserve(1).is_err() {
+        if handles.dead == 0 {
+            return Err(AllocError);
+        }
+        compact(handles);
+    }
+    Ok(())
+}
+
+/// A handle comes, with a number above all that are there. It is refused only where no place is left.
+pub fn push(handles: &mut Handles, row: HandleRow) -> Result<(), AllocError>
+    requires sound { AreSound handles.old }
+    requires next { IsNext row.number.0 handles.old.places.items }
+    ensures sound { AreSound handles.new }
+    ensures rows { OnOk result (live handles.new.places.items ≡ live handles.old.places.items ++ row ∷ []) }
+    ensures err { OnErr result (live handles.new.places.items ≡ live handles.old.places.items) }
+    ensures full { OnErr result (vec_capacity handles.old.places ≤ length (live handles.old.places.items)) }
+    ensures capacity { vec_capacity handles.old.places ≤ vec_capacity handles.new.places }
+    ensures next { OnOk result (IsNext (row.number.0 + 1) handles.new.places.items) }
+    ensures err_next { OnErr result (IsNext row.number.0 handles.new.places.items) }
+{
+    make_room(handles)?;
+    handles.places.push(Place { row, is_live: true }).unwrap();
+    Ok(())
+}
+
+/// Makes places ready for so many more handles, if it can.
+pub fn reserve(handles: &mut Handles, more: usize) -> Result<(), AllocError>
+    requires { AreSound handles.old }
+    ensures sound { AreSound handles.new }
+    ensures rows { live handles.new.places.items ≡ live handles.old.places.items }
+    ensures ok { OnOk result (more ≤ room handles.new) }
+    ensures err { OnErr result (room handles.old < more) }
+    ensures capacity { vec_capacity handles.old.places ≤ vec_capacity handles.new.places }
+    ensures next { (q : ℕ) → IsNext q handles.old.places.items → IsNext q handles.new.places.items }
+{
+    if room_of(handles) < more {
+        compact(handles);
+        handles.places.reserve(more)?;
+    }
+    Ok(())
+}

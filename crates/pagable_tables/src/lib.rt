@@ -1,0 +1,10 @@
+//! The tables of a pager: handles by their numbers, nodes, loads and the cache by theirs, the list of cells that wait for page-out, and the way in which
+//! handles are given up with all that goes with them. No call of it knows of values or of the storage.
+#![tactic(auto)]
+
+pub mod cache;
+pub mod handles;
+pub mod holdings;
+pub mod loads;
+pub mod nodes;
+pub mod rows;
