@@ -223,13 +223,6 @@ module _ (at at' : ℕ → Option Counts) (refs refs' : ℕ → List ArcRef) (ro
         | inr e ↦ (sym (ap is_some (others n e)) ∙ some', ap cell_in (others n e))
       ]
 
-  pub given-gone : (n : ℕ) → held n rows ≡ 0 → held n rows' ≡ 0
-  given-gone n none =
-      elim (cases_eq n x.node.0) [
-        | inl e ↦ absurd (let a : holds_in (at x.node.0) ≡ held x.node.0 rows = fits.holding x.node.0 in let b : holds_in (at x.node.0) ≡ c.holds = ap holds_in is in let d = ap (λ m. held m rows) e in omega arith)
-        | inr e ↦ let l = leaves (handle_of n) in let z = held-entry-other listed n k x.node e in omega arith
-      ]
-
 pub new-top : (c : Counts) (pinning listed : Bool) (top node : ℕ) → (b : Bool) → is_fallen_by c pinning (c.pins - one pinning) (if listed then c.holds else c.holds - 1) ≡ b → (if is_new c.is_falling (after c pinning listed top).is_falling then node else top) ≡ (if b then node else top)
 new-top c pinning listed top node b e = ap (λ (t : Bool). if t then node else top) (is-new c.is_falling _ ∙ e)
 
