@@ -17,6 +17,7 @@ pub struct SerializedData {
 
 /// What has a session's context: one of its own, or one that it is lent.
 pub trait HasSession<K: Ord, V> {
+    /// The context. Which one it is, no clause says.
     fn session(&self) -> &SessionContext<K, V>;
 }
 
