@@ -90,3 +90,8 @@ mod Loaded
 mod Premised
 mod Asked
 mod Level
+mod Nested
+mod Heights
+mod HeightSteps
+mod Shallow
+mod Deeply

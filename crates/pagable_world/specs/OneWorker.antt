@@ -92,14 +92,20 @@ pub record IsTooDeepReading {N E : Type 0} (v : Values N) (s : MachineState N E)
   pub has : key_at s.pager.core i.node.0 ≡ optional.Some key
   pub deep : ReadsTooDeep v.types s.pager.core.stored (type_of i.kind.0) key
 
--- Too deep is answered only where one of these is so. Where one of the first two is so no key is answered; a reading may be cut short by the cache.
-abbrev pub DeepIsRefused : {N E B W : Type 0} → Values N → Fact N E B W
-DeepIsRefused v s trees (events.WorkerStep n) (answers.WorkerMoved (Ok reply)) s' trees' =
+-- Too deep is answered only where one of these is so. A reading may be cut short by the cache.
+abbrev pub DeepHasCause : {N E B W : Type 0} → Values N → Fact N E B W
+DeepHasCause v s trees (events.WorkerStep n) (answers.WorkerMoved (Ok reply)) s' trees' =
     (walking : Walking)
     → s.work.walkings n.0 ≡ Some walking
-    → (reply.answer ≡ Some (finals.Failed errors.TooDeep) → IsTooDeepTask trees walking.task ⊎ IsTooNestedTask v.types trees walking.task ⊎ IsTooDeepReading v s walking)
-    × ((key : ℕ) → reply.answer ≡ Some (finals.Key key) → (¬ IsTooDeepTask trees walking.task) × (¬ IsTooNestedTask v.types trees walking.task))
-DeepIsRefused v s trees event reply s' trees' = Unit {0}
+    → reply.answer ≡ Some (finals.Failed errors.TooDeep)
+    → IsTooDeepTask trees walking.task ⊎ IsTooNestedTask v.types trees walking.task ⊎ IsTooDeepReading v s walking
+DeepHasCause v s trees event reply s' trees' = Unit {0}
+
+-- And where one of the first two is so, no key is answered.
+abbrev pub KeyIsShallow : {N E B W : Type 0} → Values N → Fact N E B W
+KeyIsShallow v s trees (events.WorkerStep n) (answers.WorkerMoved (Ok reply)) s' trees' =
+    (walking : Walking) (key : ℕ) → s.work.walkings n.0 ≡ Some walking → reply.answer ≡ Some (finals.Key key) → (¬ IsTooDeepTask trees walking.task) × (¬ IsTooNestedTask v.types trees walking.task)
+KeyIsShallow v s trees event reply s' trees' = Unit {0}
 
 -- what a pin may still be refused for, once a page-out has set the cell's key
 abbrev pub IsOfChance : Error → Type 0
@@ -186,7 +192,8 @@ OneIdentityLaw {N} {B} {W} E m =
 
 -- all that holds of one event besides where turns stand together
 pub record IsRightAlone {N E B W : Type 0} (v : Values N) (s : MachineState N E) (trees : ℕ → Tree) (event : Event N B W) (reply : EventReply N B W) (s' : MachineState N E) (trees' : ℕ → Tree) : Type 0 where
-  pub deep : DeepIsRefused v s trees event reply s' trees'
+  pub deep : DeepHasCause v s trees event reply s' trees'
+  pub shallow : KeyIsShallow v s trees event reply s' trees'
   pub sound : LoadIsSound s trees event reply s' trees'
 
 -- what holds of a chain besides, where each load and each page-out is done in one piece
