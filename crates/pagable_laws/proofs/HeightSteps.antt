@@ -24,7 +24,7 @@ use Rattle.pagable_laws.proofs.Holding.{SameSlots}
 use Rattle.pagable_laws.proofs.Coming.{StandsIn, OwnTurn, rests, begins, steps, EventTurns, updated-at}
 use Rattle.pagable_laws.proofs.Shelves.{keys-grow}
 use Rattle.pagable_laws.proofs.Publishing.{at-number}
-use Rattle.pagable_laws.proofs.Heights.{IsLow, AllLow, FirstLow, SlotLow, SlotsLow, place_over, WaitsLow, WroteLow, PlacedLow, TodoLow, low-on, slots-low-on, slots-low-but, slots-low-failed, todo-low-on, all-low, started-low, started-item-low, given-low, given-known-low, opened-low}
+use Rattle.pagable_laws.proofs.Heights.{IsLow, IsAttained, AllLow, FirstLow, SlotLow, SlotsLow, place_over, WaitsLow, WroteLow, PlacedLow, TodoLow, low-on, attained-on, slots-low-on, slots-low-but, slots-low-failed, todo-low-on, all-low, started-low, started-item-low, given-low, given-known-low, opened-low}
 
 -- what one step of a worker leaves
 record DidLow (shelf : Shelf) (todo : List Todo) : Type 0 where
@@ -54,8 +54,8 @@ module _ {N B W : Type 0} (m : Seen N B W) (n : ℕ) (g : Ground) (task : Task) 
       → length o.keys ≡ length o.written.references
       → TodoLow s.shelf (to_set o.reference o.through key o.height ∷ below)
   unfolding WaitsLow
-  finishes o below key claim (first, fits, place, waits) all = (
-    record { slot = claim.slot; written = o.written; claimed = claim.claimed; wrote = claim.written_so; low = all-low s.shelf o.height o.written.references o.keys all first },
+  finishes o below key claim (first, attained, fits, place, waits) all = (
+    record { slot = claim.slot; written = o.written; claimed = claim.claimed; wrote = claim.written_so; low = all-low s.shelf o.height o.written.references o.keys all first; attained = attained },
     (subst (λ q. q + o.height ≤ longest_path) place fits, waits),
   )
 
@@ -67,9 +67,12 @@ module _ {N B W : Type 0} (m : Seen N B W) (n : ℕ) (g : Ground) (task : Task) 
       let same : claim.slot ≡ w.slot = some-same claim.claimed w.claimed in
       slots-low-but (keys-grow more) lows (subst (λ (z : Slot). Puts r z) new (puts claim.slot claim.claimed)) (λ k h is. let e : height ≡ h = cc in (
         omega arith,
-        λ written wrote q among.
-            let one : w.written ≡ written = same_some _ _ (sym w.wrote ∙ sym (ap (λ (z : Slot). z.written) same) ∙ wrote) in
-            subst (λ x. IsLow s'.shelf x q) e (low-on (keys-grow more) (w.low q (subst (λ (z : Written). Among z.references q) (sym one) among))),
+        λ written wrote.
+            let one : w.written ≡ written = same_some _ _ (sym w.wrote ∙ sym (ap (λ (z : Slot). z.written) same) ∙ wrote) in (
+              λ q among. subst (λ x. IsLow s'.shelf x q) e (low-on (keys-grow more) (w.low q (subst (λ (z : Written). Among z.references q) (sym one) among))),
+              subst (λ x. IsAttained s'.shelf x written.references) e (subst (λ (z : Written). IsAttained s'.shelf height z.references) one (attained-on
+                  (keys-grow more) height w.written.references w.attained)),
+            ),
       ))
 
   stepped : (todo : List Todo) → s.todo ≡ todo → (step : Took W) → Does m n s todo step s' → AllStand s.shelf n task todo → Walks m.values g s.shelf task todo → TodoLow s.shelf todo → Low

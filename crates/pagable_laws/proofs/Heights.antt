@@ -1,6 +1,7 @@
 -- Heights that are known are within the limit, and each is at least what the references of what was written add to theirs. What tables and to-do lists hold of it, and that it goes on.
-use Rattle.std.proofs.Common.{◌≡◌, ℕ, zero, suc, ◌+◌, ◌≤◌, Bool, true, false, List, [], ◌∷◌, ◌++◌, length, inl, inr, Option, Some, None, if◌then◌else◌, refl, sym, ap, subst, ◌∙◌, arith}
+use Rattle.std.proofs.Common.{◌≡◌, ℕ, zero, suc, ◌+◌, ◌≤◌, Bool, true, false, List, [], ◌∷◌, ◌++◌, length, ◌⊎◌, inl, inr, Option, Some, None, if◌then◌else◌, refl, sym, ap, subst, ◌∙◌, arith}
 use Rattle.std.specs.Prelude.{nat_eq, drop, max}
+use Rattle.std.proofs.lemmas.Bool.{cases_lt}
 use Rattle.pagable_world.specs.Plain.{ArcRef, Identity, Among, if_there, is_eager, above, longest_path}
 use Rattle.pagable_world.specs.Kinds.{identity_of}
 use Rattle.pagable_world.specs.World.{Shelf, Slot, published, failed, no_result, Written, Open, Todo, to_start, to_pin, to_load, to_write, to_finish, to_item, to_set, to_publish, to_release, to_fail, Task}
@@ -19,6 +20,19 @@ pub record IsLow (shelf : Shelf) (height : ℕ) (r : ArcRef) : Type 0 where
 abbrev pub AllLow : Shelf → ℕ → List ArcRef → Type 0
 AllLow shelf height rs = (r : ArcRef) → Among rs r → IsLow shelf height r
 
+-- one of the references adds so much
+pub record AddsSo (shelf : Shelf) (height : ℕ) (rs : List ArcRef) : Type 0 where
+  pub r : ArcRef
+  pub among : Among rs r
+  pub key : ℕ
+  pub below : ℕ
+  pub known : IsPublished shelf (identity_of r) key below
+  pub least : height ≤ above r.kind.0 below
+
+-- the height is no more than there is
+abbrev pub IsAttained : Shelf → ℕ → List ArcRef → Type 0
+IsAttained shelf height rs = (height ≡ 0) ⊎ AddsSo shelf height rs
+
 -- the first of them, as many as there are keys
 unfoldable pub FirstLow : Shelf → ℕ → List ArcRef → List ℕ → Type 0
 FirstLow shelf height rs [] = Unit {0}
@@ -27,7 +41,8 @@ FirstLow shelf height (r ∷ rs) (k ∷ ks) = IsLow shelf height r × FirstLow s
 
 -- a height that is known is within the limit, and what was written is within it
 abbrev pub SlotLow : Shelf → Slot → Type 0
-SlotLow shelf slot = (key height : ℕ) → slot.outcome ≡ published key height → (height ≤ longest_path) × ((written : Written) → slot.written ≡ Some written → AllLow shelf height written.references)
+SlotLow shelf slot = (key height : ℕ) → slot.outcome ≡ published key height → (height ≤ longest_path) ×
+    ((written : Written) → slot.written ≡ Some written → AllLow shelf height written.references × IsAttained shelf height written.references)
 
 abbrev pub SlotsLow : Shelf → Type 0
 SlotsLow shelf = (i : Identity) (slot : Slot) → shelf.slots i ≡ Some slot → SlotLow shelf slot
@@ -41,7 +56,8 @@ place_over r todo = 0
 -- what waits, by its places and by the heights of its first references
 unfoldable pub WaitsLow : Shelf → List Todo → Type 0
 WaitsLow shelf [] = Unit {0}
-WaitsLow shelf (to_finish o ∷ below) = FirstLow shelf o.height o.written.references o.keys × (o.place + o.height ≤ longest_path) × (o.place ≡ place_over o.reference below) × WaitsLow shelf below
+WaitsLow shelf (to_finish o ∷ below) = FirstLow shelf o.height o.written.references o.keys × IsAttained shelf o.height o.written.references ×
+    (o.place + o.height ≤ longest_path) × (o.place ≡ place_over o.reference below) × WaitsLow shelf below
 WaitsLow shelf (to_item written keys ∷ below) = FirstLow shelf longest_path written.references keys
 WaitsLow shelf (x ∷ below) = ⊥
 
@@ -56,6 +72,7 @@ pub record WroteLow (shelf : Shelf) (r : ArcRef) (height : ℕ) : Type 0 where
   pub claimed : shelf.slots (identity_of r) ≡ Some slot
   pub wrote : slot.written ≡ Some written
   pub low : AllLow shelf height written.references
+  pub attained : IsAttained shelf height written.references
 
 abbrev pub ReachesLow : Shelf → ArcRef → ℕ → List Todo → Type 0
 ReachesLow shelf r height below = (place_over r below + height ≤ longest_path) × WaitsLow shelf below
@@ -79,8 +96,19 @@ module _ {shelf shelf' : Shelf} (keys : KeepsKeys shelf shelf') where
   pub low-on : {height : ℕ} {r : ArcRef} → IsLow shelf height r → IsLow shelf' height r
   low-on {height} {r} low = record { key = low.key; below = low.below; known = keys (identity_of r) low.key low.below low.known; within = low.within }
 
+  pub attained-on : (height : ℕ) (rs : List ArcRef) → IsAttained shelf height rs → IsAttained shelf' height rs
+  attained-on height rs (inl none_there) = inl none_there
+  attained-on height rs (inr a) = inr (record { r = a.r; among = a.among; key = a.key; below = a.below; known = keys (identity_of a.r) a.key a.below a.known; least = a.least })
+
   slot-low-on : (slot : Slot) → SlotLow shelf slot → SlotLow shelf' slot
-  slot-low-on slot low key height is = let a = low key height is in (a.0, λ written wrote r among. low-on (a.1 written wrote r among))
+  slot-low-on slot low key height is = let a = low key height is in (
+    a.0,
+    λ written wrote. let b = a.1 written wrote in (
+      (λ r among. low-on
+          (b.0 r among)),
+      attained-on height written.references b.1,
+    ),
+  )
 
   first-on : (height : ℕ) (rs : List ArcRef) (ks : List ℕ) → FirstLow shelf height rs ks → FirstLow shelf' height rs ks
   unfolding FirstLow
@@ -91,7 +119,8 @@ module _ {shelf shelf' : Shelf} (keys : KeepsKeys shelf shelf') where
   pub waits-low-on : (todo : List Todo) → WaitsLow shelf todo → WaitsLow shelf' todo
   unfolding WaitsLow
   waits-low-on [] low = tt
-  waits-low-on (to_finish o ∷ below) (first, reach, place, low) = (first-on o.height o.written.references o.keys first, reach, place, waits-low-on below low)
+  waits-low-on (to_finish o ∷ below) (first, attained, reach, place, low) =
+      (first-on o.height o.written.references o.keys first, attained-on o.height o.written.references attained, reach, place, waits-low-on below low)
   waits-low-on (to_item written ks ∷ below) low = first-on longest_path written.references ks low
   waits-low-on (_ ∷ below) low = absurd low
 
@@ -124,7 +153,15 @@ module _ (shelf shelf' : Shelf) (more : ShelfGrows shelf shelf') where
   wrote-low-on : {r : ArcRef} {height : ℕ} → WroteLow shelf r height → WroteLow shelf' r height
   wrote-low-on {r} {height} w =
       let a = more (identity_of r) w.slot w.claimed in
-      record { slot = a.0; written = w.written; claimed = a.1; wrote = a.2.written w.written w.wrote; low = λ q among. low-on (keys-grow more) (w.low q among) }
+      record {
+        slot = a.0;
+        written = w.written;
+        claimed = a.1;
+        wrote = a.2.written w.written w.wrote;
+        low = λ q among. low-on (keys-grow more)
+            (w.low q among);
+        attained = attained-on (keys-grow more) height w.written.references w.attained;
+      }
 
   still-low : (todo : List Todo) → WaitsLow shelf todo → WaitsLow shelf' todo
   still-low todo low = waits-low-on (keys-grow more) todo low
@@ -176,6 +213,20 @@ module _ (shelf : Shelf) where
   started-item-low written ks below [] low = low
   started-item-low written ks below (r ∷ rs) low = (refl, low)
 
+  -- the next is one of them
+  pub next-among : (rs : List ArcRef) (ks : List ℕ) (r : ArcRef) (more : List ArcRef) → drop (length ks) rs ≡ r ∷ more → Among rs r
+  next-among [] [] r more e = absurd (cc)
+  next-among [] (k ∷ ks) r more e = absurd (cc)
+  next-among (x ∷ rs) [] r more e = let same : x ≡ r = cc in (0, ap (λ (z : ArcRef). Some z) same)
+  next-among (x ∷ rs) (k ∷ ks) r more e = let a = next-among rs ks r more e in (suc a.0, a.1)
+
+  -- of two heights that are there the greater one is
+  more-attained : (a b : ℕ) (rs : List ArcRef) → IsAttained shelf a rs → IsAttained shelf b rs → IsAttained shelf (max a b) rs
+  more-attained a b rs first second = elim (cases_lt a b) [
+    | inl lt ↦ subst (λ n. IsAttained shelf n rs) (omega arith) second
+    | inr le ↦ subst (λ n. IsAttained shelf n rs) (omega arith) first
+  ]
+
   -- what a reference adds is within the place's reach
   adds : (b : Bool) (place height limit : ℕ) → (if b then place + 1 else 0) + height ≤ limit → place ≤ limit → place + (if b then height + 1 else 0) ≤ limit
   adds true place height limit le few = omega arith
@@ -188,11 +239,13 @@ module _ (shelf : Shelf) where
       → TodoLow shelf (give r key height below)
   unfolding WaitsLow
   given-low task r key height p [] expects low = tt
-  given-low task r key height p (to_finish o ∷ below) (more, e) (reach, (first, fits, place, low)) =
+  given-low task r key height p (to_finish o ∷ below) (more, e) (reach, (first, attained, fits, place, low)) =
       let new : ℕ = max o.height (above r.kind.0 height) in
       let a = adds (is_eager r.kind.0) o.place height longest_path reach (omega arith) in
       started-low _ below _ (
         first-more o.height new o.written.references o.keys r more key (omega arith) e first (record { key = key; below = height; known = p; within = omega arith }),
+        more-attained o.height (above r.kind.0 height) o.written.references attained (inr
+            (record { r = r; among = next-among o.written.references o.keys r more e; key = key; below = height; known = p; least = omega arith })),
         within-max o.place o.height (above r.kind.0 height) longest_path fits a,
         place,
         low,
@@ -217,4 +270,4 @@ module _ (shelf : Shelf) where
       → WaitsLow shelf (to_finish o ∷ below)
   unfolding WaitsLow FirstLow
   opened-low r place o below no_keys no_height at of_it (few, is, low) =
-      (subst (λ ks. FirstLow shelf o.height o.written.references ks) (sym no_keys) tt, omega arith, at ∙ is ∙ ap (λ q. place_over q below) (sym of_it), low)
+      (subst (λ ks. FirstLow shelf o.height o.written.references ks) (sym no_keys) tt, inl no_height, omega arith, at ∙ is ∙ ap (λ q. place_over q below) (sym of_it), low)

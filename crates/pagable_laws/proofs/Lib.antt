@@ -94,4 +94,5 @@ mod Nested
 mod Heights
 mod HeightSteps
 mod Shallow
+mod Climbing
 mod Deeply

@@ -64,7 +64,7 @@ module _ {N E : Type 0} (v : Values N) (s : MachineState N E) (trees : ℕ → T
       let h = low.slots t (identity_of r) l.known.slot l.known.claimed l.key l.below l.known.known in
       let kinds : kind ≡ r.kind.0 = cc in
       let meanings : a ≡ c = cc in
-      let p = shallow l.below b.0.references h.0 (h.1 b.0 b.1) w.follows c (is ∙ meanings) in
+      let p = shallow l.below b.0.references h.0 (h.1 b.0 b.1).0 w.follows c (is ∙ meanings) in
       let one : above kind (height c) ≤ limit = subst (λ k. above k (height c) ≤ limit) (sym kinds) (less (above-grows r.kind.0 (height c) l.below p.top) l.within) in
       record { top = one; deepest = let u = p.deepest in omega arith }
     where
@@ -79,7 +79,7 @@ module _ {N E : Type 0} (v : Values N) (s : MachineState N E) (trees : ℕ → T
       let b = f.publishes key h p.known in
       let w = f.writes b.0 b.1 in
       let a = low.slots t i p.slot p.claimed key h p.known in
-      shallow h b.0.references a.0 (a.1 b.0 b.1) w.follows (trees i.node.0).meaning refl
+      shallow h b.0.references a.0 (a.1 b.0 b.1).0 w.follows (trees i.node.0).meaning refl
 
   less-than : {A : Type 0} {a b : ℕ} → a < b → b ≤ a → A
   less-than lt le = absurd (omega arith)

@@ -1,7 +1,7 @@
 //! The laws of runs: what holds of every chain of moments, however loads and workers take turns.
 
 ghost use Rattle.pagable_world.specs.Headline.{HeadlineLaw};
-ghost use Rattle.pagable_laws.specs.DeepLaws.{ShallowLaw};
+ghost use Rattle.pagable_laws.specs.DeepLaws.{ShallowLaw, DeepClaimLaw};
 
 use crate::world::SeenAs;
 
@@ -14,4 +14,10 @@ pub fn headline<N: SeenAs<B, W>, B, W, E>()
 #[tactic(auto, using(crate::proofs::Deeply::shallow_law))]
 pub fn keys_are_shallow<N: SeenAs<B, W>, B, W, E>()
     ensures { ShallowLaw E N.seen }
+{}
+
+/// A claim is refused as too deep only where its task leads down a path that is too long, or whoever is at it waits for the one who claims.
+#[tactic(auto, using(crate::proofs::Deeply::deep_claim_law))]
+pub fn deep_claims_have_a_cause<N: SeenAs<B, W>, B, W, E>()
+    ensures { DeepClaimLaw E N.seen }
 {}
