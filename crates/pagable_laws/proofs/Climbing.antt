@@ -1,5 +1,5 @@
 -- Heights that are known are those of trees; so where a place and a height pass the limit, the task leads down too long a path.
-use Rattle.std.proofs.Common.{◌≡◌, ℕ, zero, suc, ◌+◌, ◌<◌, ◌≤◌, ◌==◌, Bool, true, false, not, List, [], ◌∷◌, ◌⊎◌, inl, inr, if◌then◌else◌, refl, sym, ap, subst, ◌∙◌, arith}
+use Rattle.std.proofs.Common.{◌≡◌, ℕ, zero, suc, ◌+◌, ◌<◌, ◌≤◌, ◌==◌, ◌||◌, Bool, true, false, not, List, [], ◌∷◌, ◌⊎◌, inl, inr, if◌then◌else◌, refl, sym, ap, subst, ◌∙◌, arith}
 use Rattle.std.specs.Prelude.{max, Some, None, Option, Err}
 use Rattle.pagable_model.specs.Meaning.{number, integer, text, pattern, none, pair, variant, reference, followed}
 use Rattle.pagable_model.specs.Deep.{is_eager, longest_path, above, height, deepest_path}
@@ -8,7 +8,7 @@ use Rattle.pagable_model.specs.declared.error.Error.TheVariants as errors
 use Rattle.pagable_world.specs.declared.handles.HandleRow.{HandleRow}
 use Rattle.pagable_world.specs.Plain.{ArcRef, Error, Identity, Meaning, Tree, Types, Among, type_of, if_there, or_else}
 use Rattle.pagable_world.specs.Kinds.{identity_of, fits_mode}
-use Rattle.pagable_world.specs.World.{Core, Shelf, Written, Todo, to_finish, to_item, Task, of_item, of_entry, Values, row_at, type_at}
+use Rattle.pagable_world.specs.World.{Core, Shelf, Written, Todo, to_start, to_finish, to_item, Task, of_item, of_entry, Values, is_identity, row_at, type_at}
 use Rattle.pagable_world.specs.Refusals.{row_fault, is_type, refused_if}
 use Rattle.pagable_world.specs.Workers.{Site, Claims, IsPublished, IsTooDeep, claim_fault}
 use Rattle.pagable_world.specs.Pager.{MachineState, world_of}
@@ -16,7 +16,8 @@ use Rattle.pagable_world.specs.OneWorker.{IsTooDeepTask}
 use Rattle.pagable_laws.specs.DeepLaws.{WaitsForAsker}
 use Rattle.pagable_laws.specs.PageOutLaws.{Ground, ground_of, FollowsTo, number-follows, integer-follows, text-follows, pattern-follows, none-follows, pair-follows, variant-follows, reference-follows, WroteTree, Expects, Waits, WorkFits}
 use Rattle.pagable_laws.proofs.Along.{Along, number-along, integer-along, text-along, pattern-along, none-along, pair-along, variant-along, reference-along, AllTwo, no-two, more-two, form-along}
-use Rattle.pagable_laws.proofs.Standing.{AllStand}
+use Rattle.pagable_laws.proofs.Standing.{AllStand, Covers, is_open_in}
+use Rattle.pagable_laws.proofs.Changing.{is-same}
 use Rattle.pagable_laws.proofs.Heights.{IsAttained, place_over, WaitsLow, next-among}
 use Rattle.pagable_laws.proofs.HeightSteps.{HeightsIn}
 
@@ -122,6 +123,13 @@ no-claim-deep w r is = by (row_at w r.handle) is
     by None e = cc
     by (Some h) e = row (not (h.node.0 == r.node.0)) (not (fits_mode r.kind.0 h.mode)) (not (is_type (type_of r.kind.0) (type_at w r.node.0))) e
 
+either : (a b : Bool) → (a || b) ≡ true → (a ≡ true) ⊎ (b ≡ true)
+either true b is = inl refl
+either false b is = inr is
+
+less-still : {a b c : ℕ} → suc a ≤ b → c ≤ a → b ≡ c → ⊥
+less-still lt le e = absurd (omega arith)
+
 module _ {N E : Type 0} (v : Values N) (s : MachineState N E) (trees : ℕ → Tree) (fit : WorkFits v s trees) (low : HeightsIn (world_of s)) (t : ℕ) where
   abbrev shelf : Shelf
   shelf = s.work.shelves t
@@ -172,12 +180,31 @@ module _ {N E : Type 0} (v : Values N) (s : MachineState N E) (trees : ℕ → T
       subst (λ x. IsTooDeepTask trees x) (sym is) (r, next-among shelf written.references keys r more e, climbs-item (is_eager r.kind.0) (height m) (deepest_path m) (height-within m) long)
   leads-down n task r (_ ∷ below) expects waits all lows long = absurd expects
 
-  -- a claim that is too deep is so by a path of the task's, or whoever is at it waits for the asker
+  -- a worker comes upon no claim of its own that it is at: a tree is no part of itself
+  not-below : (n : ℕ) (task : Task) (q : Identity) (r : ArcRef) (below : List Todo) → size (trees q.node.0).meaning ≤ size (trees r.node.0).meaning → Expects task r below → Waits shelf task below
+      → AllStand shelf n task below → is_open_in q below ≡ true → ⊥
+  unfolding Waits AllStand is_open_in
+  not-below n task q r [] few expects waits all is = absurd (cc)
+  not-below n task q r (to_finish o ∷ below) few (more, e) (known, expects, waits) (stands, apart, all) is =
+      let claim = stands.1 in
+      let f = fit.slots t (identity_of o.reference) claim.slot claim.claimed in
+      let part = part-of (f.writes o.written claim.written_so) r (next-among shelf o.written.references o.keys r more e) in
+      let small = part.small in
+      elim (either (is_identity q (identity_of o.reference)) (is_open_in q below) is) [
+        | inl same ↦ less-still small few (ap (λ (j : Identity). size (trees j.node.0).meaning) (is-same q (identity_of o.reference) same))
+        | inr rest ↦ not-below n task q o.reference below (omega arith) expects waits all rest
+      ]
+  not-below n task q r (to_item written keys ∷ below) few expects waits (stands, apart, all) is = let f = subst (λ x. is_open_in q x ≡ true) stands.1 is in absurd (cc)
+  not-below n task q r (_ ∷ below) few expects waits all is = absurd expects
+
+  -- a claim that is too deep is so by a path of the task's, or another is at it that waits for the asker
   pub claim-deep : (n : ℕ) (task : Task) (core : Core) (todo : List Todo) (r : ArcRef) (place : ℕ) (below : List Todo) (s' : Site)
       → Claims n (record { core = core; shelf = shelf; todo = todo }) r place below (Err errors.TooDeep) s'
-      → Expects task r below → Waits shelf task below → AllStand shelf n task below → place ≡ place_over r below → WaitsLow shelf below
+      → Expects task r below → Waits shelf task below → AllStand shelf n task below → Covers shelf n (to_start r place ∷ below) → place ≡ place_over r below
+      → WaitsLow shelf below
       → IsTooDeepTask trees task ⊎ WaitsForAsker shelf n (identity_of r)
-  claim-deep n task core todo r place below s' c expects waits all at lows = elim c.refused.0 [
+  unfolding is_open_in
+  claim-deep n task core todo r place below s' c expects waits all covers at lows = elim c.refused.0 [
     | inl fault ↦ absurd (no-claim-deep core r fault)
     | inr (inl (none_there, is, deep)) ↦ by deep
     | inr (inr memory) ↦ absurd (cc)
@@ -191,4 +218,9 @@ module _ {N E : Type 0} (v : Values N) (s : MachineState N E) (trees : ℕ → T
       by : IsTooDeep shelf n (identity_of r) place → IsTooDeepTask trees task ⊎ WaitsForAsker shelf n (identity_of r)
       by (inl long) = inl (goes 0 (omega arith) (omega arith))
       by (inr (inl (key, h, p, long))) = inl (goes h (at-most-height (identity_of r) key h p) long)
-      by (inr (inr (slot, still, back))) = inr (record { slot = slot; still = still; back = back })
+      by (inr (inr (slot, still, back))) = inr (record {
+        slot = slot;
+        still = still;
+        another = λ own. not-below n task (identity_of r) r below (omega arith) expects waits all (covers (identity_of r) slot still.claimed own still.no_result_yet);
+        back = back;
+      })

@@ -20,7 +20,7 @@ use Rattle.pagable_laws.proofs.Trees.{same_some}
 use Rattle.pagable_laws.proofs.Coming.{StandsIn, event-turns}
 use Rattle.pagable_laws.proofs.Answering.{answered}
 use Rattle.pagable_laws.proofs.Chains.{IsGoingOn, idle-goes, goes}
-use Rattle.pagable_laws.proofs.Standing.{AllStand}
+use Rattle.pagable_laws.proofs.Standing.{AllStand, Covers}
 use Rattle.pagable_laws.proofs.Heights.{TodoLow}
 use Rattle.pagable_laws.proofs.Climbing.{claim-deep}
 use Rattle.pagable_laws.proofs.Nested.{task-not-nested}
@@ -56,13 +56,13 @@ module _ {N B W E : Type 0} (m : Seen N B W) (s s' : MachineState N E) (trees tr
     abbrev site : Site
     site = record { core = s.pager.core; shelf = s.work.shelves walking.table; todo = walking.todo }
 
-    of-claim : (after : Site) (todo : List Todo) (i : Identity) → Does m n site todo (took.Claim i (Err errors.TooDeep)) after → AllStand site.shelf n walking.task todo
+    of-claim : (after : Site) (todo : List Todo) (i : Identity) → Does m n site todo (took.Claim i (Err errors.TooDeep)) after → AllStand site.shelf n walking.task todo → Covers site.shelf n todo
         → Walks m.values (ground_of s trees) site.shelf walking.task todo → TodoLow site.shelf todo → IsTooDeepTask trees walking.task ⊎ WaitsForAsker site.shelf n i
     unfolding AllStand
-    of-claim after (to_start r place ∷ below) i (is, c) (stands, apart, all) (expects, waits) (at, lows) =
+    of-claim after (to_start r place ∷ below) i (is, c) (stands, apart, all) covers (expects, waits) (at, lows) =
         subst (λ (j : Identity). IsTooDeepTask trees walking.task ⊎ WaitsForAsker site.shelf n j) (sym is)
-        (claim-deep m.values s trees fit low walking.table n walking.task s.pager.core walking.todo r place below after c expects waits all at lows)
-    of-claim after todo i does all walks lows = absurd does
+        (claim-deep m.values s trees fit low walking.table n walking.task s.pager.core walking.todo r place below after c expects waits all covers at lows)
+    of-claim after todo i does all covers walks lows = absurd does
 
   claim-is-deep : (event : Event N B W) (reply : EventReply N B W) → Happens m (world_of s) event reply (world_of s') → ClaimIsDeep s trees event reply s' trees'
   claim-is-deep (events.WorkerStep n) (answers.WorkerMoved (Ok reply)) is = λ walking i there e.
@@ -71,7 +71,7 @@ module _ {N B W E : Type 0} (m : Seen N B W) (s s' : MachineState N E) (trees tr
       let at = w.at in
       let does = subst (λ (k : Took W). Does m n.0 (site n.0 w.walking at) w.walking.todo k w.after) e w.does.does in
       subst (λ (x : Walking). IsTooDeepTask trees x.task ⊎ WaitsForAsker (s.work.shelves x.table) n.0 i) same
-      (of-claim n.0 w.walking at w.after w.walking.todo i does (work.workers n.0 w.walking at).all (fit.walks n.0 w.walking at) (low.todos n.0 w.walking at))
+      (of-claim n.0 w.walking at w.after w.walking.todo i does (work.workers n.0 w.walking at).all (work.workers n.0 w.walking at).covers (fit.walks n.0 w.walking at) (low.todos n.0 w.walking at))
   claim-is-deep (events.WorkerStep n) (answers.WorkerMoved (Err e)) is = tt
   claim-is-deep (events.WorkerStep n) reply is = absurd is
   claim-is-deep (events.Call call) reply is = tt

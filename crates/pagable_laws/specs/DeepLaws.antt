@@ -1,5 +1,5 @@
 -- The laws of paths that are too long and of values that are too nested.
-use Rattle.std.specs.Prelude.{ℕ, ◌≡◌, ◌⊎◌, List, Some, Ok, Err}
+use Rattle.std.specs.Prelude.{ℕ, ◌≡◌, ◌≢◌, ◌⊎◌, List, Some, Ok, Err}
 use Rattle.pagable_model.specs.declared.error.Error.TheVariants as errors
 use Rattle.pagable_world.specs.declared.events.Event.TheVariants as events
 use Rattle.pagable_world.specs.declared.events.EventReply.TheVariants as answers
@@ -24,13 +24,14 @@ ShallowLaw {N} {B} {W} E m =
     → HoldsSettled m.values start.pager
     → TreesAlong m (KeyIsShallow m.values) start trees moments
 
--- whoever is at the identity waits for the worker, which may be at it itself
+-- another worker is at the identity, and waits for the worker
 pub record WaitsForAsker (shelf : Shelf) (n : ℕ) (i : Identity) : Type 0 where
   pub slot : Slot
   pub still : IsOpenSlot shelf i slot
+  pub another : slot.worker ≢ n
   pub back : ComesBack shelf n slot.worker
 
--- a claim is refused as too deep only where the worker's task leads down too long a path, or whoever is at it waits for the worker
+-- a claim is refused as too deep only where the worker's task leads down too long a path, or another worker is at it and waits for this one
 abbrev pub ClaimIsDeep : {N E B W : Type 0} → Fact N E B W
 ClaimIsDeep s trees (events.WorkerStep n) (answers.WorkerMoved (Ok reply)) s' trees' =
     (walking : Walking) (i : Identity)

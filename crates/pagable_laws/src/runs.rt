@@ -16,7 +16,7 @@ pub fn keys_are_shallow<N: SeenAs<B, W>, B, W, E>()
     ensures { ShallowLaw E N.seen }
 {}
 
-/// A claim is refused as too deep only where its task leads down a path that is too long, or whoever is at it waits for the one who claims.
+/// A claim is refused as too deep only where its task leads down a path that is too long, or another worker is at it and waits for this one.
 #[tactic(auto, using(crate::proofs::Deeply::deep_claim_law))]
 pub fn deep_claims_have_a_cause<N: SeenAs<B, W>, B, W, E>()
     ensures { DeepClaimLaw E N.seen }
