@@ -1,4 +1,4 @@
--- No key is answered of what leads down too long a path, or to a value that is too nested; and why a claim is too deep.
+-- No key is answered of what leads down too long a path, or to a value that has no form; and why a claim is too deep.
 use Rattle.std.proofs.Common.{◌≡◌, ℕ, ◌⊎◌, List, [], ◌∷◌, Some, Ok, Err, sym, ap, subst, ◌∙◌}
 use Rattle.pagable_world.specs.Plain.{Identity, Tree}
 use Rattle.pagable_world.specs.declared.events.Event.{Event}
@@ -13,7 +13,7 @@ use Rattle.pagable_world.specs.Workers.{Site, Does}
 use Rattle.pagable_world.specs.Events.{Happens}
 use Rattle.pagable_world.specs.Pager.{MachineState, world_of, IsMachineWhole, IsIdle, StandsFor}
 use Rattle.pagable_world.specs.Runs.{ReadsItsTypes, HoldsSettled, Moment, AreMoments, Fact, TreesAlong}
-use Rattle.pagable_world.specs.OneWorker.{IsTooDeepTask, IsTooNestedTask, KeyIsShallow}
+use Rattle.pagable_world.specs.OneWorker.{IsTooDeepTask, IsFormlessTask, KeyIsShallow}
 use Rattle.pagable_laws.specs.DeepLaws.{ShallowLaw, WaitsForAsker, ClaimIsDeep, DeepClaimLaw}
 use Rattle.pagable_laws.specs.PageOutLaws.{ground_of, Walks, WorkFits}
 use Rattle.pagable_laws.proofs.Trees.{same_some}
@@ -23,7 +23,7 @@ use Rattle.pagable_laws.proofs.Chains.{IsGoingOn, idle-goes, goes}
 use Rattle.pagable_laws.proofs.Standing.{AllStand, Covers}
 use Rattle.pagable_laws.proofs.Heights.{TodoLow}
 use Rattle.pagable_laws.proofs.Climbing.{claim-deep}
-use Rattle.pagable_laws.proofs.Nested.{task-not-nested}
+use Rattle.pagable_laws.proofs.Formed.{task-has-forms}
 use Rattle.pagable_laws.proofs.HeightSteps.{HeightsIn, heights-at-first, heights-on}
 use Rattle.pagable_laws.proofs.Shallow.{task-not-deep, answered-low}
 
@@ -36,9 +36,9 @@ module _ {N B W E : Type 0} (m : Seen N B W) (s s' : MachineState N E) (trees tr
       let walks = fit.walks n.0 w.walking w.at in
       let a = answered m n.0 (ground_of s trees) w.walking.task site w.after w.walking.todo reply.took w.does.does walks key (sym w.answers ∙ e) in
       let l = answered-low m n.0 (ground_of s trees) w.walking.task site w.after w.walking.todo reply.took w.does.does walks (low.todos n.0 w.walking w.at) key (sym w.answers ∙ e) in
-      subst (λ (x : Walking). (¬ IsTooDeepTask trees x.task) × (¬ IsTooNestedTask m.values.types trees x.task)) same (
+      subst (λ (x : Walking). (¬ IsTooDeepTask trees x.task) × (¬ IsFormlessTask m.values.types trees x.task)) same (
         task-not-deep m.values s trees fit low w.walking.table w.walking.task l,
-        task-not-nested m.values s trees fit w.walking.table w.walking.task key a.done,
+        task-has-forms m.values s trees fit w.walking.table w.walking.task key a.done,
       )
   key-is-shallow (events.WorkerStep n) (answers.WorkerMoved (Err e)) is = tt
   key-is-shallow (events.WorkerStep n) reply is = absurd is

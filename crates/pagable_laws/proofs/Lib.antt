@@ -90,7 +90,7 @@ mod Loaded
 mod Premised
 mod Asked
 mod Level
-mod Nested
+mod Formed
 mod Heights
 mod HeightSteps
 mod Shallow

@@ -1,4 +1,4 @@
--- The laws of paths that are too long and of values that are too nested.
+-- The laws of paths that are too long and of values that have no form.
 use Rattle.std.specs.Prelude.{ℕ, ◌≡◌, ◌≢◌, ◌⊎◌, List, Some, Ok, Err}
 use Rattle.pagable_model.specs.declared.error.Error.TheVariants as errors
 use Rattle.pagable_world.specs.declared.events.Event.TheVariants as events
@@ -11,7 +11,7 @@ use Rattle.pagable_world.specs.Pager.{MachineState, IsMachineWhole, IsIdle, Stan
 use Rattle.pagable_world.specs.Runs.{ReadsItsTypes, HoldsSettled, Moment, AreMoments, Fact, TreesAlong}
 use Rattle.pagable_world.specs.OneWorker.{IsTooDeepTask, KeyIsShallow}
 
--- A worker answers no key of an item or cell that leads down too long a path or to a value that is too nested, however loads and workers take turns.
+-- A worker answers no key of an item or cell that leads down too long a path or to a value that has no form, however loads and workers take turns.
 abbrev pub ShallowLaw : {N B W : Type 0} → (E : Type 0) → Seen N B W → Type 0
 ShallowLaw {N} {B} {W} E m =
     (start : MachineState N E) (moments : List (Moment N E B W)) (trees : ℕ → Tree)

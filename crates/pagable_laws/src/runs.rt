@@ -10,7 +10,7 @@ pub fn headline<N: SeenAs<B, W>, B, W, E>()
     ensures { HeadlineLaw E N.seen }
 {}
 
-/// No worker answers a key of what leads down a path that is too long, or to a value that is too nested.
+/// No worker answers a key of what leads down a path that is too long, or to a value that has no form.
 #[tactic(auto, using(crate::proofs::Deeply::shallow_law))]
 pub fn keys_are_shallow<N: SeenAs<B, W>, B, W, E>()
     ensures { ShallowLaw E N.seen }

@@ -1,4 +1,4 @@
--- What a key is known of isn't too nested: its tree has a form, and so has each that it reaches.
+-- Where a key is known, the tree has a form, and so has each that it reaches.
 use Rattle.std.proofs.Common.{◌≡◌, ℕ, Bool, true, false, List, refl, sym, ap, subst, ◌∙◌, inl, inr}
 use Rattle.std.specs.Prelude.{Some}
 use Rattle.pagable_model.specs.Meaning.{pair, variant, followed}
@@ -8,7 +8,7 @@ use Rattle.pagable_world.specs.Kinds.{identity_of}
 use Rattle.pagable_world.specs.World.{Shelf, Written, Task, of_item, of_entry, Values}
 use Rattle.pagable_world.specs.Workers.{IsPublished}
 use Rattle.pagable_world.specs.Pager.{MachineState, kids_of}
-use Rattle.pagable_world.specs.OneWorker.{Reaches, refers, refers-on, in-first, in-rest, in-part, IsTooNested, HasTooNested, IsTooNestedTask}
+use Rattle.pagable_world.specs.OneWorker.{Reaches, refers, refers-on, in-first, in-rest, in-part, HasNoForm, LeadsToNoForm, IsFormlessTask}
 use Rattle.pagable_laws.specs.PageOutLaws.{ground_of, FollowsTo, number-follows, integer-follows, text-follows, pattern-follows, none-follows, pair-follows, variant-follows, reference-follows, WroteTree, WorkFits, IsDone}
 use Rattle.pagable_laws.proofs.Trees.{same_some, tree_is}
 use Rattle.pagable_laws.proofs.Following.{known-of, tree-form}
@@ -45,42 +45,42 @@ module _ {N E : Type 0} (v : Values N) (s : MachineState N E) (trees : ℕ → T
       record { written = b.0; wrote = f.writes b.0 b.1; typed = f.typed; below = known-of shelf b.0.references b.2.keys b.2.known }
 
   -- its own value has a form
-  has-form : (i : Identity) → Known i → IsTooNested v.types (trees i.node.0) → ⊥
-  has-form i k nested =
-      let same : k.wrote.shape ≡ nested.shape = same_some _ _ (sym k.wrote.is ∙ nested.is) in
+  has-form : (i : Identity) → Known i → HasNoForm v.types (trees i.node.0) → ⊥
+  has-form i k formless =
+      let same : k.wrote.shape ≡ formless.shape = same_some _ _ (sym k.wrote.is ∙ formless.is) in
       let kids = kids_of trees k.written.references in
-      nested.none_within k.written.bytes kids (subst (λ x. TreeForm v.types x (trees i.node.0).meaning k.written.bytes kids) same (tree-form k.wrote))
+      formless.none_within k.written.bytes kids (subst (λ x. TreeForm v.types x (trees i.node.0).meaning k.written.bytes kids) same (tree-form k.wrote))
 
   -- and so has each that it reaches
   below-has-form : (rs : List ArcRef) → ((r : ArcRef) → Among rs r → (key : ℕ) × ((height : ℕ) × IsPublished shelf (identity_of r) key height)) → {own : Meaning ArcRef} {m n : Meaning ⊥} {u : Tree}
-      → FollowsTo trees rs own m → Reaches n u → n ≡ m → IsTooNested v.types u → ⊥
-  below-has-form rs each (reference-follows r a among is) (refers kind b) e nested =
+      → FollowsTo trees rs own m → Reaches n u → n ≡ m → HasNoForm v.types u → ⊥
+  below-has-form rs each (reference-follows r a among is) (refers kind b) e formless =
       let p = each r among in
       let k = known (identity_of r) p.0 p.1.0 p.1.1 in
       let kinds : kind ≡ r.kind.0 = cc in
       let meanings : b ≡ a = cc in
       let same : tree (type_of kind) b ≡ trees r.node.0 = tree_is _ _ _ _ (ap type_of kinds ∙ sym k.typed) (meanings ∙ sym is) in
-      has-form (identity_of r) k (subst (λ x. IsTooNested v.types x) same nested)
-  below-has-form rs each (reference-follows r a among is) (refers-on kind b u reach) e nested =
+      has-form (identity_of r) k (subst (λ x. HasNoForm v.types x) same formless)
+  below-has-form rs each (reference-follows r a among is) (refers-on kind b u reach) e formless =
       let p = each r among in
       let k = known (identity_of r) p.0 p.1.0 p.1.1 in
       let meanings : b ≡ a = cc in
-      below-has-form k.written.references k.below k.wrote.follows reach (meanings ∙ sym is) nested
-  below-has-form rs each (pair-follows x y a b h g) (in-first c d u reach) e nested = below-has-form rs each h reach (cc) nested
-  below-has-form rs each (pair-follows x y a b h g) (in-rest c d u reach) e nested = below-has-form rs each g reach (cc) nested
-  below-has-form rs each (variant-follows i x a h) (in-part n c u reach) e nested = below-has-form rs each h reach (cc) nested
-  below-has-form rs each (number-follows i) reach e nested = more-held reach e refl
-  below-has-form rs each (integer-follows z) reach e nested = more-held reach e refl
-  below-has-form rs each (text-follows x) reach e nested = more-held reach e refl
-  below-has-form rs each (pattern-follows x) reach e nested = more-held reach e refl
-  below-has-form rs each none-follows reach e nested = more-held reach e refl
-  below-has-form rs each follows reach e nested = absurd (cc)
+      below-has-form k.written.references k.below k.wrote.follows reach (meanings ∙ sym is) formless
+  below-has-form rs each (pair-follows x y a b h g) (in-first c d u reach) e formless = below-has-form rs each h reach (cc) formless
+  below-has-form rs each (pair-follows x y a b h g) (in-rest c d u reach) e formless = below-has-form rs each g reach (cc) formless
+  below-has-form rs each (variant-follows i x a h) (in-part n c u reach) e formless = below-has-form rs each h reach (cc) formless
+  below-has-form rs each (number-follows i) reach e formless = more-held reach e refl
+  below-has-form rs each (integer-follows z) reach e formless = more-held reach e refl
+  below-has-form rs each (text-follows x) reach e formless = more-held reach e refl
+  below-has-form rs each (pattern-follows x) reach e formless = more-held reach e refl
+  below-has-form rs each none-follows reach e formless = more-held reach e refl
+  below-has-form rs each follows reach e formless = absurd (cc)
 
-  not-nested : (i : Identity) (key height : ℕ) → IsPublished shelf i key height → HasTooNested v.types (trees i.node.0) → ⊥
-  not-nested i key height p (inl nested) = has-form i (known i key height p) nested
-  not-nested i key height p (inr (u, reach, nested)) = let k = known i key height p in below-has-form k.written.references k.below k.wrote.follows reach refl nested
+  has-forms : (i : Identity) (key height : ℕ) → IsPublished shelf i key height → LeadsToNoForm v.types (trees i.node.0) → ⊥
+  has-forms i key height p (inl formless) = has-form i (known i key height p) formless
+  has-forms i key height p (inr (u, reach, formless)) = let k = known i key height p in below-has-form k.written.references k.below k.wrote.follows reach refl formless
 
-  -- a task that has come to a key is of no value that is too nested
-  pub task-not-nested : (task : Task) (key : ℕ) → IsDone v shelf task key → IsTooNestedTask v.types trees task → ⊥
-  task-not-nested (of_item written) key (keys, each, is) (r, among, nested) = let p = known-of shelf written.references keys each r among in not-nested (identity_of r) p.0 p.1.0 p.1.1 nested
-  task-not-nested (of_entry h i) key (height, p) nested = not-nested i key height p nested
+  -- a task that has come to a key is of no value that has no form
+  pub task-has-forms : (task : Task) (key : ℕ) → IsDone v shelf task key → IsFormlessTask v.types trees task → ⊥
+  task-has-forms (of_item written) key (keys, each, is) (r, among, formless) = let p = known-of shelf written.references keys each r among in has-forms (identity_of r) p.0 p.1.0 p.1.1 formless
+  task-has-forms (of_entry h i) key (height, p) formless = has-forms i key height p formless
