@@ -41,15 +41,15 @@ module _ {N B W : Type 0} (m : Seen N B W) (n : ℕ) (g : Ground) (task : Task) 
   of-publish todo i key height does walks = absurd does
 
   -- what the answer of a key comes from
-  record Answers (key : ℕ) : Type 0 where
-    done : IsDone m.values s.shelf task key
+  pub record Answers (key : ℕ) : Type 0 where
+    pub done : IsDone m.values s.shelf task key
     same : (i : Identity) → s'.shelf.slots i ≡ s.shelf.slots i
 
   is-fault : (fault : Fault) (key : ℕ) → answer_after {W = W} (to_fail fault None ∷ []) took.Fail ≡ Some (finals.Key key) → ⊥
   is-fault (was_refused f) key e = cc
   is-fault was_failed key e = cc
 
-  answered : (todo : List Todo) (step : Took W) → Does m n s todo step s' → Walks m.values g s.shelf task todo → (key : ℕ) → answer_after todo step ≡ Some (finals.Key key) → Answers key
+  pub answered : (todo : List Todo) (step : Took W) → Does m n s todo step s' → Walks m.values g s.shelf task todo → (key : ℕ) → answer_after todo step ≡ Some (finals.Key key) → Answers key
   unfolding Waits
   answered (to_item written ks ∷ below) (took.Store i (Ok k)) (is, p) (of_it, known) key e =
       let to : k ≡ key = cc in

@@ -10,7 +10,7 @@ use Rattle.pagable_world.specs.declared.answers.Pinning.TheVariants as pinnings
 use Rattle.pagable_world.specs.Plain.{HandleNumber, Tree}
 use Rattle.pagable_world.specs.World.{Reading, Values, Seen, IsLawful}
 use Rattle.pagable_world.specs.Pager.{MachineState, world_of, IsMachineWhole, IsIdle, StandsFor, IsReadingOf, of_caller, of_worker}
-use Rattle.pagable_world.specs.Runs.{HoldsSettled, ReadsItsTypes, Moment, AreMoments, TreesAlong}
+use Rattle.pagable_world.specs.Runs.{HoldsSettled, ReadsItsTypes, IsPremised, Moment, Does, AreMoments, TreesAfter, TreesAlong}
 use Rattle.pagable_world.specs.Headline.{GivesTree, PinGives, IsRight}
 use Rattle.pagable_laws.specs.TreeSteps.{HasPin, PinHolds}
 use Rattle.pagable_laws.specs.TreeRuns.{ReadingsGiven}
@@ -40,27 +40,32 @@ module _ {N E B W : Type 0} (m : Seen N B W) (s s' : MachineState N E) (trees tr
   pin-gives event reply pinned = tt
 
 -- what holds of a machine and its trees along a chain
-record IsGoingOn {N E : Type 0} (v : Values N) (s : MachineState N E) (trees : ℕ → Tree) : Type 0 where
-  whole : IsMachineWhole v s
-  work : StandsIn (world_of s)
-  settled : HoldsSettled v s.pager
-  stands : StandsFor v s trees
-  given : ReadingsGiven s
-  fits : WorkFits v s trees
-  held : KeysHeld (world_of s)
-  reads : ReadingsHeld (world_of s)
+pub record IsGoingOn {N E : Type 0} (v : Values N) (s : MachineState N E) (trees : ℕ → Tree) : Type 0 where
+  pub whole : IsMachineWhole v s
+  pub work : StandsIn (world_of s)
+  pub settled : HoldsSettled v s.pager
+  pub stands : StandsFor v s trees
+  pub given : ReadingsGiven s
+  pub fits : WorkFits v s trees
+  pub held : KeysHeld (world_of s)
+  pub reads : ReadingsHeld (world_of s)
 
 module _ {N E B W : Type 0} (m : Seen N B W) (lawful : IsLawful m.values) (readable : ReadsItsTypes m.values.types) where
-  idle-goes : (s : MachineState N E) (trees : ℕ → Tree) → IsMachineWhole m.values s → IsIdle s → HoldsSettled m.values s.pager → StandsFor m.values s trees → IsGoingOn m.values s trees
+  pub idle-goes : (s : MachineState N E) (trees : ℕ → Tree) → IsMachineWhole m.values s → IsIdle s → HoldsSettled m.values s.pager → StandsFor m.values s trees → IsGoingOn m.values s trees
   idle-goes s trees whole idle settled stands = record { whole = whole; work = idle-stands s idle; settled = settled; stands = stands; given = λ reading is. absurd (none-reads reading is); fits = fits-at-first m.values s trees idle; held = held-at-first s idle; reads = λ reading is. absurd (none-reads reading is) }
     where
       none-reads : (reading : Reading) → IsReadingOf s.work reading → ⊥
       none-reads reading (of_caller l is) = let f = idle.readings l in cc
       none-reads reading (of_worker n place walking r through below is todo) = let f = idle.walkings n in cc
 
-  stay : (s : MachineState N E) (trees : ℕ → Tree) (moments : List (Moment N E B W)) → IsGoingOn m.values s trees → AreMoments m s moments → TreesAlong m (IsRight m.values) s trees moments
-  stay s trees [] on does = tt
-  stay s trees (x ∷ xs) on (does, more) = λ premised.
+  -- what one moment comes to
+  pub record Goes (s : MachineState N E) (trees : ℕ → Tree) (x : Moment N E B W) : Type 0 where
+    pub trees' : ℕ → Tree
+    pub after : TreesAfter m (IsRight m.values) s trees x.event x.reply x.after trees'
+    pub on : IsGoingOn m.values x.after trees'
+
+  pub goes : (s : MachineState N E) (trees : ℕ → Tree) (x : Moment N E B W) → IsGoingOn m.values s trees → Does m s x.event x.reply x.after → IsPremised m.values s trees x.event x.reply x.after → Goes s trees x
+  goes s trees x on does premised =
       let feels = does-feels m s x.after trees x.event x.reply on.whole on.fits premised.stays_open does in
       let ready = keys-ready m.values s trees readable on.fits on.held in
       let a = keeps-trees m lawful readable s x.after trees x.event x.reply on.stands on.given on.settled on.whole does.whole ready premised.well does.moves feels in
@@ -70,11 +75,16 @@ module _ {N E B W : Type 0} (m : Seen N B W) (lawful : IsLawful m.values) (reada
       let pins = pins-hold m (world_of s) (world_of x.after) x.event x.reply on.whole.pager.whole.handles does.step.happens in
       let keys = keys-right m s x.after trees a.after on.fits fits on.whole does.whole a.stands on.held held x.event x.reply does.step.happens in
       let so : IsRight m.values s trees x.event x.reply x.after a.after =
-      record { pins_give = pin-gives m s x.after trees a.after does.whole a.stands x.event x.reply pins; reads_give = reads-give m lawful readable s x.after trees a.after on.whole does.whole on.stands on.given on.reads a.keeps a.stands x.event x.reply does; leaves = keys.leaves; publishes = keys.publishes; key = keys.key } in (
-        a.after,
-        record { keeps = a.keeps; stands = a.stands; so = so },
-        stay x.after a.after xs (record { whole = does.whole; work = turns-stand m turns on.work; settled = premised.settled; stands = a.stands; given = a.given; fits = fits; held = held; reads = event-held m.values on.reads x.event x.reply feels.core feels.feels }) more,
-      )
+      record { pins_give = pin-gives m s x.after trees a.after does.whole a.stands x.event x.reply pins; reads_give = reads-give m lawful readable s x.after trees a.after on.whole does.whole on.stands on.given on.reads a.keeps a.stands x.event x.reply does; leaves = keys.leaves; publishes = keys.publishes; key = keys.key } in
+      record {
+        trees' = a.after;
+        after = record { keeps = a.keeps; stands = a.stands; so = so };
+        on = record { whole = does.whole; work = turns-stand m turns on.work; settled = premised.settled; stands = a.stands; given = a.given; fits = fits; held = held; reads = event-held m.values on.reads x.event x.reply feels.core feels.feels };
+      }
+
+  stay : (s : MachineState N E) (trees : ℕ → Tree) (moments : List (Moment N E B W)) → IsGoingOn m.values s trees → AreMoments m s moments → TreesAlong m (IsRight m.values) s trees moments
+  stay s trees [] on does = tt
+  stay s trees (x ∷ xs) on (does, more) = λ premised. let g = goes s trees x on does premised in (g.trees', g.after, stay x.after g.trees' xs g.on more)
 
 -- Along each chain that begins where nobody works yet, each node keeps its tree, each pin that succeeds gives the tree that its handle's node was made with, each reading that of its key, and keys are right.
 pub trees_stay : {N B W E : Type 0} (m : Seen N B W) → IsLawful m.values → ReadsItsTypes m.values.types → (s : MachineState N E) (trees : ℕ → Tree) (moments : List (Moment N E B W)) → IsMachineWhole m.values s → IsIdle s

@@ -90,3 +90,9 @@ mod Loaded
 mod Premised
 mod Asked
 mod Level
+mod Formed
+mod Heights
+mod HeightSteps
+mod Shallow
+mod Climbing
+mod Deeply

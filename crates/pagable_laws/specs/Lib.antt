@@ -14,3 +14,4 @@ pub mod PageOutLaws
 pub mod KeyRuns
 pub mod TwoLevels
 pub mod LevelLaws
+pub mod DeepLaws

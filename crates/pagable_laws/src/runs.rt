@@ -1,10 +1,23 @@
 //! The laws of runs: what holds of every chain of moments, however loads and workers take turns.
 
 ghost use Rattle.pagable_world.specs.Headline.{HeadlineLaw};
+ghost use Rattle.pagable_laws.specs.DeepLaws.{ShallowLaw, DeepClaimLaw};
 
 use crate::world::SeenAs;
 
 /// The headline holds of every chain that begins at a whole machine for which nobody works yet.
 pub fn headline<N: SeenAs<B, W>, B, W, E>()
     ensures { HeadlineLaw E N.seen }
+{}
+
+/// No worker answers a key of what leads down a path that is too long, or to a value that has no form.
+#[tactic(auto, using(crate::proofs::Deeply::shallow_law))]
+pub fn keys_are_shallow<N: SeenAs<B, W>, B, W, E>()
+    ensures { ShallowLaw E N.seen }
+{}
+
+/// A claim is refused as too deep only where its task leads down a path that is too long, or another worker is at it and waits for this one.
+#[tactic(auto, using(crate::proofs::Deeply::deep_claim_law))]
+pub fn deep_claims_have_a_cause<N: SeenAs<B, W>, B, W, E>()
+    ensures { DeepClaimLaw E N.seen }
 {}

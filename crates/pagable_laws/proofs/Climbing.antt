@@ -1,0 +1,226 @@
+-- Heights that are known are those of trees; so where a place and a height pass the limit, the task leads down too long a path.
+use Rattle.std.proofs.Common.{◌≡◌, ℕ, zero, suc, ◌+◌, ◌<◌, ◌≤◌, ◌==◌, ◌||◌, Bool, true, false, not, List, [], ◌∷◌, ◌⊎◌, inl, inr, if◌then◌else◌, refl, sym, ap, subst, ◌∙◌, arith}
+use Rattle.std.specs.Prelude.{max, Some, None, Option, Err}
+use Rattle.pagable_model.specs.Meaning.{number, integer, text, pattern, none, pair, variant, reference, followed}
+use Rattle.pagable_model.specs.Deep.{is_eager, longest_path, above, height, deepest_path}
+use Rattle.pagable_model.specs.Writing.{kind_of_arc}
+use Rattle.pagable_model.specs.declared.error.Error.TheVariants as errors
+use Rattle.pagable_world.specs.declared.handles.HandleRow.{HandleRow}
+use Rattle.pagable_world.specs.Plain.{ArcRef, Error, Identity, Meaning, Tree, Types, Among, type_of, if_there, or_else}
+use Rattle.pagable_world.specs.Kinds.{identity_of, fits_mode}
+use Rattle.pagable_world.specs.World.{Core, Shelf, Written, Todo, to_start, to_finish, to_item, Task, of_item, of_entry, Values, is_identity, row_at, type_at}
+use Rattle.pagable_world.specs.Refusals.{row_fault, is_type, refused_if}
+use Rattle.pagable_world.specs.Workers.{Site, Claims, IsPublished, IsTooDeep, claim_fault}
+use Rattle.pagable_world.specs.Pager.{MachineState, world_of}
+use Rattle.pagable_world.specs.OneWorker.{IsTooDeepTask}
+use Rattle.pagable_laws.specs.DeepLaws.{WaitsForAsker}
+use Rattle.pagable_laws.specs.PageOutLaws.{Ground, ground_of, FollowsTo, number-follows, integer-follows, text-follows, pattern-follows, none-follows, pair-follows, variant-follows, reference-follows, WroteTree, Expects, Waits, WorkFits}
+use Rattle.pagable_laws.proofs.Along.{Along, number-along, integer-along, text-along, pattern-along, none-along, pair-along, variant-along, reference-along, AllTwo, no-two, more-two, form-along}
+use Rattle.pagable_laws.proofs.Standing.{AllStand, Covers, is_open_in}
+use Rattle.pagable_laws.proofs.Changing.{is-same}
+use Rattle.pagable_laws.proofs.Heights.{IsAttained, place_over, WaitsLow, next-among}
+use Rattle.pagable_laws.proofs.HeightSteps.{HeightsIn}
+
+-- ---- what a tree's references lead to is part of it
+
+-- how many references a meaning has, with all that they lead to
+size : Meaning ⊥ → ℕ
+size (pair a b) = size a + size b
+size (variant n a) = size a
+size (followed kind a) = suc (size a)
+size _ = 0
+
+height-within : (m : Meaning ⊥) → height m ≤ deepest_path m
+unfolding height deepest_path
+height-within (number i) = omega arith
+height-within (integer z) = omega arith
+height-within (text t) = omega arith
+height-within (pattern t) = omega arith
+height-within none = omega arith
+height-within (pair a b) = let p = height-within a in let q = height-within b in omega arith
+height-within (variant n a) = height-within a
+height-within (reference a) = absurd a
+height-within (followed kind a) = omega arith
+
+-- what the reference leads to is part of what the meaning says
+record Part (trees : ℕ → Tree) (m : Meaning ⊥) (r : ArcRef) : Type 0 where
+  top : above r.kind.0 (height (trees r.node.0).meaning) ≤ height m
+  deep : deepest_path (trees r.node.0).meaning ≤ deepest_path m
+  small : suc (size (trees r.node.0).meaning) ≤ size m
+
+-- the same reference, which is a part
+record SamePart (trees : ℕ → Tree) (m : Meaning ⊥) (r other : ArcRef) : Type 0 where
+  same : other ≡ r
+  part : Part trees m r
+
+module _ (trees : ℕ → Tree) (rs : List ArcRef) (whole : Meaning ⊥) where
+  parts-along : {own : Meaning ArcRef} {n : Meaning ⊥} → FollowsTo trees rs own n → height n ≤ height whole → deepest_path n ≤ deepest_path whole → size n ≤ size whole
+      → Along ⊥ (SamePart trees whole) own own
+  unfolding height deepest_path size
+  parts-along (number-follows i) h d s = number-along i
+  parts-along (integer-follows z) h d s = integer-along z
+  parts-along (text-follows t) h d s = text-along t
+  parts-along (pattern-follows t) h d s = pattern-along t
+  parts-along none-follows h d s = none-along
+  parts-along (pair-follows x y a b f g) h d s = pair-along _ _ _ _ (parts-along f (omega arith) (omega arith) (omega arith)) (parts-along g (omega arith) (omega arith) (omega arith))
+  parts-along (variant-follows i x a f) h d s = variant-along _ _ _ (parts-along f h d s)
+  parts-along (reference-follows r a among is) h d s = reference-along _ _ (record {
+    same = refl;
+    part = record {
+      top = subst (λ x. above r.kind.0 (height x) ≤ height whole) (sym is) h;
+      deep = subst (λ x. deepest_path x ≤ deepest_path whole) (sym is) (omega arith);
+      small = subst (λ x. suc (size x) ≤ size whole) (sym is) s;
+    };
+  })
+
+each-two : {X Y : Type 0} {R : X → Y → Type 0} {xs : List X} {ys : List Y} → AllTwo R xs ys → (x : X) → Among xs x → (y : Y) × R x y
+each-two no-two x (i, e) = absurd (cc)
+each-two {R = R} (more-two a b xs ys h g) x (zero, e) = let same : a ≡ x = cc in (b, subst (λ z. R z b) same h)
+each-two (more-two a b xs ys h g) x (suc i, e) = each-two g x (i, e)
+
+part-of : {types : Types} {g : Ground} {n : ℕ} {written : Written} → WroteTree types g n written → (r : ArcRef) → Among written.references r → Part g.trees (g.trees n).meaning r
+part-of {g = g} {n} {written} w r among =
+    let p = form-along (λ x y h. ap kind_of_arc h.same) w.form (parts-along g.trees written.references (g.trees n).meaning w.follows (omega arith) (omega arith) (omega arith)) in
+    let a = each-two p.each r among in
+    let h = a.1 in
+    h.part
+
+-- ---- heights
+
+grows-by : (e : Bool) (a b c : ℕ) → a ≤ b → (if e then b + 1 else 0) ≤ c → (if e then a + 1 else 0) ≤ c
+grows-by true a b c le few = omega arith
+grows-by false a b c le few = omega arith
+
+-- a height and a depth go up with the place
+climbs : (e : Bool) (place h d top deep : ℕ) → (if e then h + 1 else 0) ≤ top → d ≤ deep → h ≤ d → longest_path < max ((if e then place + 1 else 0) + h) d → longest_path < max (place + top) deep
+climbs true place h d top deep le few within long = omega arith
+climbs false place h d top deep le few within long = omega arith
+
+climbs-item : (e : Bool) (h d : ℕ) → h ≤ d → longest_path < max ((if e then 0 + 1 else 0) + h) d → longest_path < max (if e then h + 1 else 0) d
+climbs-item true h d within long = omega arith
+climbs-item false h d within long = omega arith
+
+climbs-entry : (h d : ℕ) → h ≤ d → longest_path < max (0 + h) d → longest_path < d
+climbs-entry h d within long = omega arith
+
+-- no reference is refused as too deep before its place is looked at
+no-claim-deep : (w : Core) (r : ArcRef) → claim_fault w r ≡ Some errors.TooDeep → ⊥
+no-claim-deep w r is = by (row_at w r.handle) is
+  where
+    kind : (b : Bool) → refused_if b errors.WrongKind ≡ Some errors.TooDeep → ⊥
+    kind true e = cc
+    kind false e = cc
+
+    fits : (a b : Bool) → or_else None (if a then Some errors.WrongMode else refused_if b errors.WrongKind) ≡ Some errors.TooDeep → ⊥
+    fits true b e = cc
+    fits false b e = kind b e
+
+    row : (a b c : Bool) → (if a then Some errors.NoSuchHandle else or_else None (if b then Some errors.WrongMode else refused_if c errors.WrongKind)) ≡ Some errors.TooDeep → ⊥
+    row true b c e = cc
+    row false b c e = fits b c e
+
+    by : (o : Option HandleRow) → if_there (row_fault w r None) (Some errors.NoSuchHandle) o ≡ Some errors.TooDeep → ⊥
+    by None e = cc
+    by (Some h) e = row (not (h.node.0 == r.node.0)) (not (fits_mode r.kind.0 h.mode)) (not (is_type (type_of r.kind.0) (type_at w r.node.0))) e
+
+either : (a b : Bool) → (a || b) ≡ true → (a ≡ true) ⊎ (b ≡ true)
+either true b is = inl refl
+either false b is = inr is
+
+less-still : {a b c : ℕ} → suc a ≤ b → c ≤ a → b ≡ c → ⊥
+less-still lt le e = absurd (omega arith)
+
+module _ {N E : Type 0} (v : Values N) (s : MachineState N E) (trees : ℕ → Tree) (fit : WorkFits v s trees) (low : HeightsIn (world_of s)) (t : ℕ) where
+  abbrev shelf : Shelf
+  shelf = s.work.shelves t
+
+  -- a height that references add is no more than that of the tree
+  attained-height : (n : ℕ) (i : Identity) (h : ℕ) → size (trees i.node.0).meaning ≤ n → (written : Written) → WroteTree v.types (ground_of s trees) i.node.0 written
+      → IsAttained shelf h written.references
+      → h ≤ height (trees i.node.0).meaning
+  attained-height n i h few written w (inl is) = omega arith
+  attained-height zero i h few written w (inr a) = let part = part-of w a.r a.among in let small = part.small in absurd (omega arith)
+  attained-height (suc n) i h few written w (inr a) =
+      let part = part-of w a.r a.among in
+      let small = part.small in
+      let f = fit.slots t (identity_of a.r) a.known.slot a.known.claimed in
+      let b = f.publishes a.key a.below a.known.known in
+      let l = low.slots t (identity_of a.r) a.known.slot a.known.claimed a.key a.below a.known.known in
+      let below = attained-height n (identity_of a.r) a.below (omega arith) b.0 (f.writes b.0 b.1) (l.1 b.0 b.1).1 in
+      let u = grows-by (is_eager a.r.kind.0) a.below (height (trees a.r.node.0).meaning) (height (trees i.node.0).meaning) below part.top in
+      let e = a.least in
+      omega arith
+
+  -- so is one that is known
+  at-most-height : (i : Identity) (key h : ℕ) → IsPublished shelf i key h → h ≤ height (trees i.node.0).meaning
+  at-most-height i key h p =
+      let f = fit.slots t i p.slot p.claimed in
+      let b = f.publishes key h p.known in
+      let l = low.slots t i p.slot p.claimed key h p.known in
+      attained-height (size (trees i.node.0).meaning) i h (omega arith) b.0 (f.writes b.0 b.1) (l.1 b.0 b.1).1
+
+  -- a path that is too long from the reference's place is one of the task's
+  leads-down : (n : ℕ) (task : Task) (r : ArcRef) (below : List Todo) → Expects task r below → Waits shelf task below → AllStand shelf n task below → WaitsLow shelf below
+      → longest_path < max (place_over r below + height (trees r.node.0).meaning) (deepest_path (trees r.node.0).meaning) → IsTooDeepTask trees task
+  unfolding Waits AllStand WaitsLow
+  leads-down n (of_entry q i) r [] expects waits all lows long =
+      let m = (trees r.node.0).meaning in
+      subst (λ (j : Identity). longest_path < deepest_path (trees j.node.0).meaning) expects (climbs-entry (height m) (deepest_path m) (height-within m) long)
+  leads-down n (of_item written) r [] expects waits all lows long = absurd expects
+  leads-down n task r (to_finish o ∷ below) (more, e) (known, expects, waits) (stands, apart, all) (first, attained, fits, place, lows) long =
+      let claim = stands.1 in
+      let f = fit.slots t (identity_of o.reference) claim.slot claim.claimed in
+      let part = part-of (f.writes o.written claim.written_so) r (next-among shelf o.written.references o.keys r more e) in
+      let m = (trees r.node.0).meaning in
+      let above_it = (trees o.reference.node.0).meaning in
+      let up = climbs (is_eager r.kind.0) o.place (height m) (deepest_path m) (height above_it) (deepest_path above_it) part.top part.deep (height-within m) long in
+      leads-down n task o.reference below expects waits all lows (subst (λ q. longest_path < max (q + height above_it) (deepest_path above_it)) place up)
+  leads-down n task r (to_item written keys ∷ below) (more, e) (is, known) all lows long =
+      let m = (trees r.node.0).meaning in
+      subst (λ x. IsTooDeepTask trees x) (sym is) (r, next-among shelf written.references keys r more e, climbs-item (is_eager r.kind.0) (height m) (deepest_path m) (height-within m) long)
+  leads-down n task r (_ ∷ below) expects waits all lows long = absurd expects
+
+  -- a worker comes upon no claim of its own that it is at: a tree is no part of itself
+  not-below : (n : ℕ) (task : Task) (q : Identity) (r : ArcRef) (below : List Todo) → size (trees q.node.0).meaning ≤ size (trees r.node.0).meaning → Expects task r below → Waits shelf task below
+      → AllStand shelf n task below → is_open_in q below ≡ true → ⊥
+  unfolding Waits AllStand is_open_in
+  not-below n task q r [] few expects waits all is = absurd (cc)
+  not-below n task q r (to_finish o ∷ below) few (more, e) (known, expects, waits) (stands, apart, all) is =
+      let claim = stands.1 in
+      let f = fit.slots t (identity_of o.reference) claim.slot claim.claimed in
+      let part = part-of (f.writes o.written claim.written_so) r (next-among shelf o.written.references o.keys r more e) in
+      let small = part.small in
+      elim (either (is_identity q (identity_of o.reference)) (is_open_in q below) is) [
+        | inl same ↦ less-still small few (ap (λ (j : Identity). size (trees j.node.0).meaning) (is-same q (identity_of o.reference) same))
+        | inr rest ↦ not-below n task q o.reference below (omega arith) expects waits all rest
+      ]
+  not-below n task q r (to_item written keys ∷ below) few expects waits (stands, apart, all) is = let f = subst (λ x. is_open_in q x ≡ true) stands.1 is in absurd (cc)
+  not-below n task q r (_ ∷ below) few expects waits all is = absurd expects
+
+  -- a claim that is too deep is so by a path of the task's, or another is at it that waits for the asker
+  pub claim-deep : (n : ℕ) (task : Task) (core : Core) (todo : List Todo) (r : ArcRef) (place : ℕ) (below : List Todo) (s' : Site)
+      → Claims n (record { core = core; shelf = shelf; todo = todo }) r place below (Err errors.TooDeep) s'
+      → Expects task r below → Waits shelf task below → AllStand shelf n task below → Covers shelf n (to_start r place ∷ below) → place ≡ place_over r below
+      → WaitsLow shelf below
+      → IsTooDeepTask trees task ⊎ WaitsForAsker shelf n (identity_of r)
+  unfolding is_open_in
+  claim-deep n task core todo r place below s' c expects waits all covers at lows = elim c.refused.0 [
+    | inl fault ↦ absurd (no-claim-deep core r fault)
+    | inr (inl (none_there, is, deep)) ↦ by deep
+    | inr (inr memory) ↦ absurd (cc)
+  ]
+    where
+      goes : (h : ℕ) → h ≤ height (trees r.node.0).meaning → longest_path < place + h → IsTooDeepTask trees task
+      goes h le long =
+          let m = (trees r.node.0).meaning in
+          leads-down n task r below expects waits all lows (subst (λ q. longest_path < max (q + height m) (deepest_path m)) at (omega arith))
+
+      by : IsTooDeep shelf n (identity_of r) place → IsTooDeepTask trees task ⊎ WaitsForAsker shelf n (identity_of r)
+      by (inl long) = inl (goes 0 (omega arith) (omega arith))
+      by (inr (inl (key, h, p, long))) = inl (goes h (at-most-height (identity_of r) key h p) long)
+      by (inr (inr (slot, still, back))) = inr (record {
+        slot = slot;
+        still = still;
+        another = λ own. not-below n task (identity_of r) r below (omega arith) expects waits all (covers (identity_of r) slot still.claimed own still.no_result_yet);
+        back = back;
+      })

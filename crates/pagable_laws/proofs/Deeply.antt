@@ -1,0 +1,118 @@
+-- No key is answered of what leads down too long a path, or to a value that has no form; and why a claim is too deep.
+use Rattle.std.proofs.Common.{◌≡◌, ℕ, ◌⊎◌, List, [], ◌∷◌, Some, Ok, Err, sym, ap, subst, ◌∙◌}
+use Rattle.pagable_world.specs.Plain.{Identity, Tree}
+use Rattle.pagable_world.specs.declared.events.Event.{Event}
+use Rattle.pagable_world.specs.declared.events.Event.TheVariants as events
+use Rattle.pagable_world.specs.declared.events.EventReply.{EventReply}
+use Rattle.pagable_world.specs.declared.events.EventReply.TheVariants as answers
+use Rattle.pagable_model.specs.declared.error.Error.TheVariants as errors
+use Rattle.pagable_world.specs.declared.events.Took.TheVariants as took
+use Rattle.pagable_world.specs.declared.events.Took.{Took}
+use Rattle.pagable_world.specs.World.{Todo, to_start, Walking, Seen, IsLawful}
+use Rattle.pagable_world.specs.Workers.{Site, Does}
+use Rattle.pagable_world.specs.Events.{Happens}
+use Rattle.pagable_world.specs.Pager.{MachineState, world_of, IsMachineWhole, IsIdle, StandsFor}
+use Rattle.pagable_world.specs.Runs.{ReadsItsTypes, HoldsSettled, Moment, AreMoments, Fact, TreesAlong}
+use Rattle.pagable_world.specs.OneWorker.{IsTooDeepTask, IsFormlessTask, KeyIsShallow}
+use Rattle.pagable_laws.specs.DeepLaws.{ShallowLaw, WaitsForAsker, ClaimIsDeep, DeepClaimLaw}
+use Rattle.pagable_laws.specs.PageOutLaws.{ground_of, Walks, WorkFits}
+use Rattle.pagable_laws.proofs.Trees.{same_some}
+use Rattle.pagable_laws.proofs.Coming.{StandsIn, event-turns}
+use Rattle.pagable_laws.proofs.Answering.{answered}
+use Rattle.pagable_laws.proofs.Chains.{IsGoingOn, idle-goes, goes}
+use Rattle.pagable_laws.proofs.Standing.{AllStand, Covers}
+use Rattle.pagable_laws.proofs.Heights.{TodoLow}
+use Rattle.pagable_laws.proofs.Climbing.{claim-deep}
+use Rattle.pagable_laws.proofs.Formed.{task-has-forms}
+use Rattle.pagable_laws.proofs.HeightSteps.{HeightsIn, heights-at-first, heights-on}
+use Rattle.pagable_laws.proofs.Shallow.{task-not-deep, answered-low}
+
+module _ {N B W E : Type 0} (m : Seen N B W) (s s' : MachineState N E) (trees trees' : ℕ → Tree) (fit : WorkFits m.values s trees) (low : HeightsIn (world_of s)) where
+  key-is-shallow : (event : Event N B W) (reply : EventReply N B W) → Happens m (world_of s) event reply (world_of s') → KeyIsShallow m.values s trees event reply s' trees'
+  key-is-shallow (events.WorkerStep n) (answers.WorkerMoved (Ok reply)) is = λ walking key there e.
+      let w = is.moves in
+      let same : w.walking ≡ walking = same_some _ _ (sym w.at ∙ there) in
+      let site : Site = record { core = s.pager.core; shelf = s.work.shelves w.walking.table; todo = w.walking.todo } in
+      let walks = fit.walks n.0 w.walking w.at in
+      let a = answered m n.0 (ground_of s trees) w.walking.task site w.after w.walking.todo reply.took w.does.does walks key (sym w.answers ∙ e) in
+      let l = answered-low m n.0 (ground_of s trees) w.walking.task site w.after w.walking.todo reply.took w.does.does walks (low.todos n.0 w.walking w.at) key (sym w.answers ∙ e) in
+      subst (λ (x : Walking). (¬ IsTooDeepTask trees x.task) × (¬ IsFormlessTask m.values.types trees x.task)) same (
+        task-not-deep m.values s trees fit low w.walking.table w.walking.task l,
+        task-has-forms m.values s trees fit w.walking.table w.walking.task key a.done,
+      )
+  key-is-shallow (events.WorkerStep n) (answers.WorkerMoved (Err e)) is = tt
+  key-is-shallow (events.WorkerStep n) reply is = absurd is
+  key-is-shallow (events.Call call) reply is = tt
+  key-is-shallow (events.LoadStart h) reply is = tt
+  key-is-shallow (events.LoadKey key t) reply is = tt
+  key-is-shallow (events.LoadStep l) reply is = tt
+  key-is-shallow events.TableNew reply is = tt
+  key-is-shallow (events.WorkerItem t item) reply is = tt
+  key-is-shallow (events.WorkerListed t i) reply is = tt
+
+-- a claim that is refused as too deep
+module _ {N B W E : Type 0} (m : Seen N B W) (s s' : MachineState N E) (trees trees' : ℕ → Tree) (fit : WorkFits m.values s trees) (low : HeightsIn (world_of s)) (work : StandsIn (world_of s)) where
+  module _ (n : ℕ) (walking : Walking) (there : s.work.walkings n ≡ Some walking) where
+    abbrev site : Site
+    site = record { core = s.pager.core; shelf = s.work.shelves walking.table; todo = walking.todo }
+
+    of-claim : (after : Site) (todo : List Todo) (i : Identity) → Does m n site todo (took.Claim i (Err errors.TooDeep)) after → AllStand site.shelf n walking.task todo → Covers site.shelf n todo
+        → Walks m.values (ground_of s trees) site.shelf walking.task todo → TodoLow site.shelf todo → IsTooDeepTask trees walking.task ⊎ WaitsForAsker site.shelf n i
+    unfolding AllStand
+    of-claim after (to_start r place ∷ below) i (is, c) (stands, apart, all) covers (expects, waits) (at, lows) =
+        subst (λ (j : Identity). IsTooDeepTask trees walking.task ⊎ WaitsForAsker site.shelf n j) (sym is)
+        (claim-deep m.values s trees fit low walking.table n walking.task s.pager.core walking.todo r place below after c expects waits all covers at lows)
+    of-claim after todo i does all covers walks lows = absurd does
+
+  claim-is-deep : (event : Event N B W) (reply : EventReply N B W) → Happens m (world_of s) event reply (world_of s') → ClaimIsDeep s trees event reply s' trees'
+  claim-is-deep (events.WorkerStep n) (answers.WorkerMoved (Ok reply)) is = λ walking i there e.
+      let w = is.moves in
+      let same : w.walking ≡ walking = same_some _ _ (sym w.at ∙ there) in
+      let at = w.at in
+      let does = subst (λ (k : Took W). Does m n.0 (site n.0 w.walking at) w.walking.todo k w.after) e w.does.does in
+      subst (λ (x : Walking). IsTooDeepTask trees x.task ⊎ WaitsForAsker (s.work.shelves x.table) n.0 i) same
+      (of-claim n.0 w.walking at w.after w.walking.todo i does (work.workers n.0 w.walking at).all (work.workers n.0 w.walking at).covers (fit.walks n.0 w.walking at) (low.todos n.0 w.walking at))
+  claim-is-deep (events.WorkerStep n) (answers.WorkerMoved (Err e)) is = tt
+  claim-is-deep (events.WorkerStep n) reply is = absurd is
+  claim-is-deep (events.Call call) reply is = tt
+  claim-is-deep (events.LoadStart h) reply is = tt
+  claim-is-deep (events.LoadKey key t) reply is = tt
+  claim-is-deep (events.LoadStep l) reply is = tt
+  claim-is-deep events.TableNew reply is = tt
+  claim-is-deep (events.WorkerItem t item) reply is = tt
+  claim-is-deep (events.WorkerListed t i) reply is = tt
+
+-- what follows of each moment where heights are low holds along each chain
+module _ {N B W E : Type 0} (m : Seen N B W) (lawful : IsLawful m.values) (readable : ReadsItsTypes m.values.types) (P : Fact N E B W) where
+  abbrev Follows : Type 0
+  Follows =
+      (s s' : MachineState N E) (trees trees' : ℕ → Tree) (event : Event N B W) (reply : EventReply N B W) → IsGoingOn m.values s trees → HeightsIn
+      (world_of s) → Happens m (world_of s) event reply (world_of s')
+      → P s trees event reply s' trees'
+
+  along : Follows → (s : MachineState N E) (trees : ℕ → Tree) (moments : List (Moment N E B W)) → IsGoingOn m.values s trees → HeightsIn (world_of s) → AreMoments m s moments
+      → TreesAlong m P s trees moments
+  along follows s trees [] on low does = tt
+  along follows s trees (x ∷ xs) on low (does, more) = λ premised.
+      let g = goes m lawful readable s trees x on does premised in
+      let turns = event-turns m (world_of s) (world_of x.after) on.work (λ v w there. (on.whole.walkings v w there).table.1) x.event x.reply does.step.happens in
+      let a = g.after in (
+        g.trees',
+        record { keeps = a.keeps; stands = a.stands; so = follows s x.after trees g.trees' x.event x.reply on low does.step.happens },
+        along follows x.after g.trees' xs g.on (heights-on m s x.after trees on.fits low on.work x.event x.reply turns) more,
+      )
+
+  along-first : Follows → (s : MachineState N E) (moments : List (Moment N E B W)) (trees : ℕ → Tree) → IsMachineWhole m.values s → IsIdle s → AreMoments m s moments
+      → StandsFor m.values s trees → HoldsSettled m.values s.pager
+      → TreesAlong m P s trees moments
+  along-first follows s moments trees whole idle chain stands settled = along follows s trees moments (idle-goes m lawful readable s trees whole idle settled stands) (heights-at-first s idle) chain
+
+pub shallow_law : {N B W : Type 0} (E : Type 0) (m : Seen N B W) → ShallowLaw E m
+shallow_law E m start moments trees whole idle chain stands lawful readable settled =
+    along-first m lawful readable (KeyIsShallow m.values)
+    (λ s s' trees trees' event reply on low is. key-is-shallow m s s' trees trees' on.fits low event reply is) start moments trees whole idle chain stands settled
+
+pub deep_claim_law : {N B W : Type 0} (E : Type 0) (m : Seen N B W) → DeepClaimLaw E m
+deep_claim_law E m start moments trees whole idle chain stands lawful readable settled =
+    along-first m lawful readable ClaimIsDeep
+    (λ s s' trees trees' event reply on low is. claim-is-deep m s s' trees trees' on.fits low on.work event reply is) start moments trees whole idle chain stands settled

@@ -1,0 +1,213 @@
+-- A worker's step keeps heights low, and so does each event.
+use Rattle.std.proofs.Common.{◌≡◌, ℕ, ◌+◌, ◌≤◌, Bool, true, false, List, [], ◌∷◌, length, Option, Some, None, Ok, Err, refl, sym, ap, subst, ◌∙◌, arith}
+use Rattle.std.specs.Prelude.{nat_eq}
+use Rattle.std.proofs.lemmas.Bool.Decides.{nat_tests}
+use Rattle.pagable_world.specs.Plain.{ArcRef, Identity, HandleNumber, Tree, WorkerNumber, Among, longest_path}
+use Rattle.pagable_world.specs.declared.events.Claim.TheVariants as claims
+use Rattle.pagable_world.specs.declared.events.PinStep.TheVariants as pinsteps
+use Rattle.pagable_world.specs.declared.events.Took.TheVariants as took
+use Rattle.pagable_world.specs.declared.events.Took.{Took}
+use Rattle.pagable_world.specs.declared.events.Event.{Event}
+use Rattle.pagable_world.specs.declared.events.EventReply.{EventReply}
+use Rattle.pagable_world.specs.declared.events.WorkerReply.{WorkerReply}
+use Rattle.pagable_world.specs.Kinds.{identity_of}
+use Rattle.pagable_world.specs.Order.{step_of}
+use Rattle.pagable_world.specs.World.{Shelf, Slot, no_result, published, Written, Open, Fault, was_failed, was_refused, Todo, to_start, to_pin, to_load, to_write, to_finish, to_item, to_set, to_publish, to_release, to_fail, Task, of_item, of_entry, Walking, World, Seen}
+use Rattle.pagable_world.specs.Workers.{Site, Does, give, give_known, open_node, with_outcome, with_wait, first_todo}
+use Rattle.pagable_world.specs.Events.{WorkerSteps}
+use Rattle.pagable_world.specs.Pager.{MachineState, world_of, IsIdle}
+use Rattle.pagable_laws.specs.PageOutLaws.{Ground, ground_of, Walks, WorkFits}
+use Rattle.pagable_laws.proofs.Trees.{same_some}
+use Rattle.pagable_laws.proofs.Standing.{AllStand, HasClaim}
+use Rattle.pagable_laws.proofs.Changing.{ShelfGrows, some-same, grows, same-slots, PutsSlot, puts-slot, changes-slot}
+use Rattle.pagable_laws.proofs.Holding.{SameSlots}
+use Rattle.pagable_laws.proofs.Coming.{StandsIn, OwnTurn, rests, begins, steps, EventTurns, updated-at}
+use Rattle.pagable_laws.proofs.Shelves.{keys-grow}
+use Rattle.pagable_laws.proofs.Publishing.{at-number}
+use Rattle.pagable_laws.proofs.Heights.{IsLow, IsAttained, AllLow, FirstLow, SlotLow, SlotsLow, place_over, WaitsLow, WroteLow, PlacedLow, TodoLow, low-on, attained-on, slots-low-on, slots-low-but, slots-low-failed, todo-low-on, all-low, started-low, started-item-low, given-low, given-known-low, opened-low}
+
+-- what one step of a worker leaves
+record DidLow (shelf : Shelf) (todo : List Todo) : Type 0 where
+  slots : SlotsLow shelf
+  todos : TodoLow shelf todo
+
+module _ {N B W : Type 0} (m : Seen N B W) (n : ℕ) (g : Ground) (task : Task) (s s' : Site) (more : ShelfGrows s.shelf s'.shelf) (lows : SlotsLow s.shelf) where
+  abbrev Low : Type 0
+  Low = DidLow s'.shelf s'.todo
+
+  did : SlotsLow s'.shelf → (next : List Todo) → s'.todo ≡ next → TodoLow s.shelf next → Low
+  did slots next e low = record { slots = slots; todos = subst (λ t. TodoLow s'.shelf t) (sym e) (todo-low-on s.shelf s'.shelf more next low) }
+
+  kept : ((i : Identity) → s'.shelf.slots i ≡ s.shelf.slots i) → SlotsLow s'.shelf
+  kept same = slots-low-on (keys-grow more) lows same
+
+  fails : {back : Option HandleNumber} → ((i : Identity) → s'.shelf.slots i ≡ s.shelf.slots i) → (fault : Fault) → s'.todo ≡ to_fail fault back ∷ [] → Low
+  fails {back} same fault e = did (kept same) (to_fail fault back ∷ []) e tt
+
+  abbrev Puts : ArcRef → Slot → Type 0
+  Puts r slot = PutsSlot s.shelf.slots s'.shelf.slots (identity_of r) slot
+
+  no-key : (slot : Slot) → slot.outcome ≡ no_result → SlotLow s'.shelf slot
+  no-key slot still key height is = let f : no_result ≡ published key height = sym still ∙ is in absurd (cc)
+
+  finishes : (o : Open) (below : List Todo) (key : ℕ) → HasClaim s.shelf n (identity_of o.reference) (λ w. w ≡ Some o.written) → WaitsLow s.shelf (to_finish o ∷ below)
+      → length o.keys ≡ length o.written.references
+      → TodoLow s.shelf (to_set o.reference o.through key o.height ∷ below)
+  unfolding WaitsLow
+  finishes o below key claim (first, attained, fits, place, waits) all = (
+    record { slot = claim.slot; written = o.written; claimed = claim.claimed; wrote = claim.written_so; low = all-low s.shelf o.height o.written.references o.keys all first; attained = attained },
+    (subst (λ q. q + o.height ≤ longest_path) place fits, waits),
+  )
+
+  publishes : (r : ArcRef) (key height : ℕ) (below : List Todo) → {so : Option Written → Type 0} → HasClaim s.shelf n (identity_of r) so → WroteLow s.shelf r height
+      → place_over r below + height ≤ longest_path
+      → ((slot : Slot) → s.shelf.slots (identity_of r) ≡ Some slot → Puts r (with_outcome (published key height) slot)) → SlotsLow s'.shelf
+  publishes r key height below claim w reach puts =
+      let new : with_outcome (published key height) claim.slot ≡ record claim.slot { outcome = published key height } = let still = claim.no_result_yet in rw still refl in
+      let same : claim.slot ≡ w.slot = some-same claim.claimed w.claimed in
+      slots-low-but (keys-grow more) lows (subst (λ (z : Slot). Puts r z) new (puts claim.slot claim.claimed)) (λ k h is. let e : height ≡ h = cc in (
+        omega arith,
+        λ written wrote.
+            let one : w.written ≡ written = same_some _ _ (sym w.wrote ∙ sym (ap (λ (z : Slot). z.written) same) ∙ wrote) in (
+              λ q among. subst (λ x. IsLow s'.shelf x q) e (low-on (keys-grow more) (w.low q (subst (λ (z : Written). Among z.references q) (sym one) among))),
+              subst (λ x. IsAttained s'.shelf x written.references) e (subst (λ (z : Written). IsAttained s'.shelf height z.references) one (attained-on
+                  (keys-grow more) height w.written.references w.attained)),
+            ),
+      ))
+
+  stepped : (todo : List Todo) → s.todo ≡ todo → (step : Took W) → Does m n s todo step s' → AllStand s.shelf n task todo → Walks m.values g s.shelf task todo → TodoLow s.shelf todo → Low
+  unfolding AllStand
+  stepped (to_start r place ∷ below) e (took.Claim i (Ok claims.Claimed)) (is, c) all walks (at, low) =
+      let t = c.finds.1.2 in
+      let puts = puts-slot (with_wait s.shelf n None) s'.shelf (identity_of r) (record { worker = n; written = None; outcome = no_result }) t.table_is in
+      did (slots-low-but (keys-grow more) lows puts (no-key (record { worker = n; written = None; outcome = no_result }) refl)) (to_pin r place ∷ below) t.list_is (c.finds.1.0, at, low)
+  stepped (to_start r place ∷ below) e (took.Claim i (Ok (claims.Known key height))) (is, c) all walks (at, low) =
+      let t = c.finds.1.2 in
+      did (kept (λ j. t.table_is.slots j)) (give_known r key height below) t.list_is (given-known-low s.shelf task r key height c.finds.1.1 below walks.0 (
+        subst
+            (λ q. q + height ≤ longest_path) at c.finds.1.0,
+        low,
+      ))
+  stepped (to_start r place ∷ below) e (took.Claim i (Ok claims.Waiting)) (is, c) all walks low =
+      let t = c.finds.1.2 in did (kept (λ j. t.table_is.slots j)) (to_start r place ∷ below) (t.list_is ∙ e) low
+  stepped (to_start r place ∷ below) e (took.Claim i (Ok claims.AlreadyFailed)) (is, c) all walks low = let t = c.finds.1.2 in fails (λ j. t.table_is.slots j) was_failed t.list_is
+  stepped (to_start r place ∷ below) e (took.Claim i (Err f)) (is, c) all walks low = let t = c.refused.1 in fails (λ j. t.table_is.slots j) (was_refused f) t.list_is
+  stepped (to_start r place ∷ below) e step does all walks low = absurd does
+  stepped (to_pin r place ∷ below) e (took.Pin i (Ok (pinsteps.Held k))) (is, p) all walks low = let t = p.pins.2 in did (kept t.table_stays.slots) _ t.list_is low
+  stepped (to_pin r place ∷ below) e (took.Pin i (Ok (pinsteps.LoadBegun l))) (is, p) all walks low = let t = p.pins.2 in did (kept t.table_stays.slots) _ t.list_is low
+  stepped (to_pin r place ∷ below) e (took.Pin i (Ok pinsteps.LoadWent)) (is, p) all walks low = absurd p.pins
+  stepped (to_pin r place ∷ below) e (took.Pin i (Err f)) (is, p) all walks low = let t = p.refused.1 in fails t.table_stays.slots (was_refused f) t.list_is
+  stepped (to_pin r place ∷ below) e step does all walks low = absurd does
+  stepped (to_load r place through reading ∷ below) e (took.Pin i (Ok (pinsteps.Held k))) (is, p) all walks low = let t = p.goes.1 in did (kept t.table_stays.slots) _ t.list_is low
+  stepped (to_load r place through reading ∷ below) e (took.Pin i (Ok (pinsteps.LoadBegun l))) (is, p) all walks low = absurd p.goes
+  stepped (to_load r place through reading ∷ below) e (took.Pin i (Ok pinsteps.LoadWent)) (is, p) all walks low = let t = p.goes.2 in did (kept t.table_stays.slots) _ t.list_is low
+  stepped (to_load r place through reading ∷ below) e (took.Pin i (Err f)) (is, p) all walks low = let t = p.refused.1 in fails t.table_stays.slots (was_refused f) t.list_is
+  stepped (to_load r place through reading ∷ below) e step does all walks low = absurd does
+  stepped (to_write r place through ∷ below) e (took.Write i (Ok out)) (is, p) (stands, apart, all) walks low =
+      let t = p.writes in
+      let claim = stands.1 in
+      let o : Open = record { reference = r; place = place; through = through; written = m.written_of out; keys = []; height = 0 } in
+      let puts = changes-slot s.shelf s'.shelf (identity_of r) claim.slot (λ slot. record slot { written = Some (m.written_of out) }) claim.claimed t.table_is in
+      did (slots-low-but (keys-grow more) lows puts (no-key (record claim.slot { written = Some (m.written_of out) }) claim.no_result_yet)) (open_node r place through
+      (m.written_of out) below) t.list_is
+      (started-low s.shelf o below _ (opened-low s.shelf r place o below refl refl refl refl low))
+  stepped (to_write r place through ∷ below) e (took.Write i (Err f)) (is, p) all walks low = let t = p.refused.1 in fails t.table_is.slots (was_refused f) t.list_is
+  stepped (to_write r place through ∷ below) e step does all walks low = absurd does
+  stepped (to_finish o ∷ below) e (took.Store i (Ok key)) (is, p) (stands, apart, all) walks low =
+      let t = p.goes in did (kept t.table_stays.slots) _ t.list_is (finishes o below key stands.1 low p.all)
+  stepped (to_finish o ∷ below) e (took.Store i (Err f)) (is, p) all walks low = let t = p.refused in fails t.table_stays.slots (was_refused f) t.list_is
+  stepped (to_finish o ∷ below) e step does all walks low = absurd does
+  stepped (to_item written ks ∷ below) e (took.Store i (Ok key)) (is, p) all walks low = let t = p.goes in did (kept t.table_stays.slots) [] t.list_is tt
+  stepped (to_item written ks ∷ below) e (took.Store i (Err f)) (is, p) all walks low = let t = p.refused in fails t.table_stays.slots (was_refused f) t.list_is
+  stepped (to_item written ks ∷ below) e step does all walks low = absurd does
+  stepped (to_set r through key height ∷ below) e (took.SetKey i (Ok u)) (is, p) all walks low = let t = p.goes in did (kept t.table_stays.slots) _ t.list_is low
+  stepped (to_set r through key height ∷ below) e (took.SetKey i (Err f)) (is, p) all walks low = let t = p.refused in fails t.table_stays.slots (was_refused f) t.list_is
+  stepped (to_set r through key height ∷ below) e step does all walks low = absurd does
+  stepped (to_publish r key height ∷ below) e (took.Publish i k h) (is, same_key, same_height, t) (stands, apart, all) walks (wrote, (reach, low)) =
+      did (publishes r key height below stands.1 wrote reach (λ slot there. changes-slot s.shelf s'.shelf (identity_of r) slot (with_outcome
+      (published key height)) there t.table_is)) (to_release r key height ∷ below) t.list_is (reach, low)
+  stepped (to_publish r key height ∷ below) e step does all walks low = absurd does
+  stepped (to_release r key height ∷ below) e (took.Release i) (is, falls, t) all (p, above) low =
+      did (kept t.table_stays.slots) (give r key height below) t.list_is (given-low s.shelf task r key height p below above.0 low)
+  stepped (to_release r key height ∷ below) e step does all walks low = absurd does
+  stepped (to_fail fault back ∷ below) e took.Fail (back_is, table_is, list_is) all walks low = did (slots-low-failed (keys-grow more) lows n table_is.slots) [] list_is tt
+  stepped (to_fail fault back ∷ below) e step does all walks low = absurd does
+  stepped [] e step does all walks low = absurd does
+
+-- ---- an event
+
+-- heights are low on all tables and in all lists
+pub record HeightsIn (u : World) : Type 0 where
+  pub slots : (t : ℕ) → SlotsLow (u.work.shelves t)
+  pub todos : (n : ℕ) (walking : Walking) → u.work.walkings n ≡ Some walking → TodoLow (u.work.shelves walking.table) walking.todo
+
+pub heights-at-first : {N E : Type 0} (s : MachineState N E) → IsIdle s → HeightsIn (world_of s)
+heights-at-first s idle = record { slots = λ t i slot is. let f = idle.shelves t i in absurd (cc); todos = λ n walking is. let f = idle.walkings n in absurd (cc) }
+
+module _ {N B W E : Type 0} (m : Seen N B W) (s s' : MachineState N E) (trees : ℕ → Tree) (fit : WorkFits m.values s trees) (low : HeightsIn (world_of s)) where
+  starts-low : (shelf : Shelf) (task : Task) → TodoLow shelf (first_todo task)
+  unfolding WaitsLow FirstLow
+  starts-low shelf (of_item written) = started-item-low shelf written [] [] _ tt
+  starts-low shelf (of_entry h i) = (refl, tt)
+
+  module _ (work : StandsIn (world_of s)) (event : Event N B W) (reply : EventReply N B W) (turns : EventTurns m (world_of s) event reply (world_of s')) where
+    grow : (t : ℕ) → ShelfGrows (s.work.shelves t) (s'.work.shelves t)
+    grow t = let turned = turns.turned in grows turns.who (s.work.shelves t) (s'.work.shelves t) (turned.changes t)
+
+    abbrev WalkLow : Walking → Type 0
+    WalkLow w = TodoLow (s'.work.shelves w.table) w.todo
+
+    stays-so : (n : ℕ) (w : Walking) → s.work.walkings n ≡ Some w → WalkLow w
+    stays-so n w there = todo-low-on (s.work.shelves w.table) (s'.work.shelves w.table) (grow w.table) w.todo (low.todos n w there)
+
+    all-low-then : ((t : ℕ) → SlotsLow (s'.work.shelves t)) → ((w : Walking) → s'.work.walkings turns.who ≡ Some w → WalkLow w) → HeightsIn (world_of s')
+    all-low-then slots own = record { slots = slots; todos = λ n w there. of n w there (nat_eq n turns.who) refl }
+      where
+        of : (n : ℕ) (w : Walking) → s'.work.walkings n ≡ Some w → (b : Bool) → nat_eq n turns.who ≡ b → WalkLow w
+        of n w there true e = let f : n ≡ turns.who = grind (arith, nat_tests) in own w (sym (ap s'.work.walkings f) ∙ there)
+        of n w there false e = let turned = turns.turned in stays-so n w (sym (turned.others n e) ∙ there)
+
+    slots-same : SameSlots s.work.shelves s'.work.shelves → (t : ℕ) → SlotsLow (s'.work.shelves t)
+    slots-same same t = slots-low-on (keys-grow (grow t)) (low.slots t) (same t)
+
+    a-step : (k : WorkerNumber) (r : WorkerReply W) → k.0 ≡ turns.who → WorkerSteps m (world_of s) k r (world_of s') → HeightsIn (world_of s')
+    a-step k r at w =
+        all-low-then slots (λ x there. subst WalkLow (same_some _ _ (sym at_now ∙ there))
+        (todo-low-on w.after.shelf (s'.work.shelves now.table) (grow-same w.after.shelf (s'.work.shelves now.table) table) now.todo d.todos))
+      where
+        site : Site
+        site = record { core = s.pager.core; shelf = s.work.shelves w.walking.table; todo = w.walking.todo }
+
+        now : Walking
+        now = record w.walking { todo = w.after.todo; steps = r.steps; answer = r.answer }
+
+        at_now : s'.work.walkings turns.who ≡ Some now
+        at_now = sym (ap s'.work.walkings at) ∙ w.work.same_walkings k.0 ∙ updated-at k.0 (Some now) s.work.walkings
+
+        table : (i : Identity) → (s'.work.shelves w.walking.table).slots i ≡ w.after.shelf.slots i
+        table i = (w.work.same_shelves w.walking.table).slots i ∙ ap (λ (z : Shelf). z.slots i) (updated-at w.walking.table w.after.shelf s.work.shelves)
+
+        grow-same : (shelf shelf' : Shelf) → ((i : Identity) → shelf'.slots i ≡ shelf.slots i) → ShelfGrows shelf shelf'
+        grow-same shelf shelf' same = grows 0 shelf shelf' (same-slots 0 shelf shelf' same)
+
+        more : ShelfGrows site.shelf w.after.shelf
+        more i slot there = let a = grow w.walking.table i slot there in (a.0, sym (table i) ∙ a.1, a.2)
+
+        d : DidLow w.after.shelf w.after.todo
+        d = stepped m k.0 (ground_of s trees) w.walking.task site w.after more (low.slots w.walking.table) w.walking.todo refl r.took w.does.does
+            (work.workers k.0 w.walking w.at).all (fit.walks k.0 w.walking w.at)
+            (low.todos k.0 w.walking w.at)
+
+        slots : (t : ℕ) → SlotsLow (s'.work.shelves t)
+        slots t = at-number (λ old. ((j : Identity) → (s'.work.shelves t).slots j ≡ old.slots j) → SlotsLow (s'.work.shelves t)) w.walking.table w.after.shelf s.work.shelves t
+            (λ here same. slots-low-on (keys-grow (grow-same w.after.shelf (s'.work.shelves t) same)) d.slots same) (λ other same. slots-low-on (keys-grow (grow t))
+            (low.slots t) same) (w.work.same_shelves t).slots
+
+    by-own : OwnTurn m (world_of s) turns.who (step_of turns.who event reply) (world_of s') → HeightsIn (world_of s')
+    by-own (rests none same still) = all-low-then (slots-same same) (λ w there. stays-so turns.who w (sym still ∙ there))
+    by-own (begins t task none same nobody new) = all-low-then (slots-same same) (λ w there. subst WalkLow (same_some _ _ (sym new ∙ there)) (starts-low (s'.work.shelves t.0) task))
+    by-own (steps k r at one w) = a-step k r at w
+
+    -- each event keeps it
+    pub heights-on : HeightsIn (world_of s')
+    heights-on = by-own turns.own

@@ -1,0 +1,54 @@
+-- The laws of paths that are too long and of values that have no form.
+use Rattle.std.specs.Prelude.{ℕ, ◌≡◌, ◌≢◌, ◌⊎◌, List, Some, Ok, Err}
+use Rattle.pagable_model.specs.declared.error.Error.TheVariants as errors
+use Rattle.pagable_world.specs.declared.events.Event.TheVariants as events
+use Rattle.pagable_world.specs.declared.events.EventReply.TheVariants as answers
+use Rattle.pagable_world.specs.declared.events.Took.TheVariants as took
+use Rattle.pagable_world.specs.Plain.{Identity, Tree}
+use Rattle.pagable_world.specs.World.{Shelf, Slot, Walking, Seen, IsLawful}
+use Rattle.pagable_world.specs.Workers.{IsOpenSlot, ComesBack}
+use Rattle.pagable_world.specs.Pager.{MachineState, IsMachineWhole, IsIdle, StandsFor}
+use Rattle.pagable_world.specs.Runs.{ReadsItsTypes, HoldsSettled, Moment, AreMoments, Fact, TreesAlong}
+use Rattle.pagable_world.specs.OneWorker.{IsTooDeepTask, KeyIsShallow}
+
+-- A worker answers no key of an item or cell that leads down too long a path or to a value that has no form, however loads and workers take turns.
+abbrev pub ShallowLaw : {N B W : Type 0} → (E : Type 0) → Seen N B W → Type 0
+ShallowLaw {N} {B} {W} E m =
+    (start : MachineState N E) (moments : List (Moment N E B W)) (trees : ℕ → Tree)
+    → IsMachineWhole m.values start
+    → IsIdle start
+    → AreMoments m start moments
+    → StandsFor m.values start trees
+    → IsLawful m.values
+    → ReadsItsTypes m.values.types
+    → HoldsSettled m.values start.pager
+    → TreesAlong m (KeyIsShallow m.values) start trees moments
+
+-- another worker is at the identity, and waits for the worker
+pub record WaitsForAsker (shelf : Shelf) (n : ℕ) (i : Identity) : Type 0 where
+  pub slot : Slot
+  pub still : IsOpenSlot shelf i slot
+  pub another : slot.worker ≢ n
+  pub back : ComesBack shelf n slot.worker
+
+-- a claim is refused as too deep only where the worker's task leads down too long a path, or another worker is at it and waits for this one
+abbrev pub ClaimIsDeep : {N E B W : Type 0} → Fact N E B W
+ClaimIsDeep s trees (events.WorkerStep n) (answers.WorkerMoved (Ok reply)) s' trees' =
+    (walking : Walking) (i : Identity)
+    → s.work.walkings n.0 ≡ Some walking
+    → reply.took ≡ took.Claim i (Err errors.TooDeep)
+    → IsTooDeepTask trees walking.task ⊎ WaitsForAsker (s.work.shelves walking.table) n.0 i
+ClaimIsDeep s trees event reply s' trees' = Unit {0}
+
+-- So it is along every chain, however loads and workers take turns.
+abbrev pub DeepClaimLaw : {N B W : Type 0} → (E : Type 0) → Seen N B W → Type 0
+DeepClaimLaw {N} {B} {W} E m =
+    (start : MachineState N E) (moments : List (Moment N E B W)) (trees : ℕ → Tree)
+    → IsMachineWhole m.values start
+    → IsIdle start
+    → AreMoments m start moments
+    → StandsFor m.values start trees
+    → IsLawful m.values
+    → ReadsItsTypes m.values.types
+    → HoldsSettled m.values start.pager
+    → TreesAlong m ClaimIsDeep start trees moments
