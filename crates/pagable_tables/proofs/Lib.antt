@@ -2,3 +2,4 @@ mod Alive
 mod Order
 mod Fitting
 mod Leaving
+mod Standing

@@ -3,6 +3,7 @@
 #![tactic(auto)]
 
 pub mod cache;
+pub mod cascade;
 pub mod handles;
 pub mod holdings;
 pub mod loads;

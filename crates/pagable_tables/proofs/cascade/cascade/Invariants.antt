@@ -1,0 +1,10 @@
+use Rattle.std.proofs.Common.{ℕ, ◌+◌, ◌*◌, ◌≤◌, List, length}
+use Rattle.pagable_tables.specs.Live.{live}
+use Rattle.pagable_tables.specs.Falling.{IsFalling, owns_nothing, valued}
+use Rattle.pagable_tables.proofs.cascade.cascade.Given as goal
+
+abbrev pub invariant-fall : goal.invariant-fall
+invariant-fall l = (stack : List ℕ) × IsFalling l.t stack owns_nothing × (2 * valued (live l.t.handles.places.items) + length stack ≤ l.left)
+
+abbrev pub decreases-fall : goal.decreases-fall
+decreases-fall l = l.left

@@ -1,0 +1,36 @@
+//! What follows when handles are given up, to its end.
+
+ghost use Rattle.std.specs.Prelude.{◌≡◌, ◌≢◌, ℕ, ◌+◌, ◌*◌, ◌≤◌, [], List, length, not, nat_eq};
+ghost use Rattle.pagable_tables.specs.Live.{live, AreSound};
+ghost use Rattle.pagable_tables.specs.Falling.{IsFalling, owns_nothing};
+
+use crate::handles::Handles;
+use crate::holdings;
+use crate::holdings::Holdings;
+
+/// Twice the number of live handles, and one: so many steps are enough once a handle was given up.
+pub fn budget(handles: &Handles) -> usize
+    requires { AreSound handles.now }
+    ensures { result ≡ 2 * length (live handles.now.places.items) + 1 }
+{
+    2 * (handles.places.len() - handles.dead) + 1
+}
+
+/// Whether a node falls.
+pub fn is_falling(t: &Holdings) -> bool
+    ensures { result ≡ not (nat_eq t.now.top 0) }
+{
+    t.top != 0
+}
+
+/// Gives up all that fallen values referred to, and so on, to the end. It takes no memory but for entries of the list.
+pub fn cascade(t: &mut Holdings, lists: bool)
+    requires falling { (stack : List ℕ) × IsFalling t.old stack owns_nothing × (length stack ≤ 1) }
+    ensures whole { IsFalling t.new [] owns_nothing }
+{
+    let mut left = budget(&t.handles);
+    'fall: while t.top != 0 {
+        left -= 1;
+        holdings::step(t, lists);
+    }
+}
