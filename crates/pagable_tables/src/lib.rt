@@ -6,5 +6,7 @@ pub mod cache;
 pub mod handles;
 pub mod holdings;
 pub mod loads;
+pub mod lookups;
 pub mod nodes;
 pub mod rows;
+pub mod tables;
