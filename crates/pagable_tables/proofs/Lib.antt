@@ -2,3 +2,5 @@ mod Alive
 mod Order
 mod Fitting
 mod Leaving
+mod Worlds
+mod Coming

@@ -7,6 +7,7 @@ pub mod handles;
 pub mod holdings;
 pub mod loads;
 pub mod lookups;
+pub mod making;
 pub mod nodes;
 pub mod rows;
 pub mod tables;
