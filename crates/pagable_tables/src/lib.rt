@@ -11,3 +11,4 @@ pub mod making;
 pub mod nodes;
 pub mod rows;
 pub mod tables;
+pub mod turning;

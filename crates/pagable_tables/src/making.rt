@@ -16,7 +16,7 @@ use pagable_world::Mode;
 use pagable_world::handles::{HandleRow, Owner};
 
 /// How many places are taken, below 2^63.
-fn places_taken(places: &[Place]) -> usize
+pub fn places_taken(places: &[Place]) -> usize
     ensures count { result ≡ length places.now }
     ensures small { result < 2 ^ 63 }
 {
