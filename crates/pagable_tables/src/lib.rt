@@ -9,6 +9,7 @@ pub mod loads;
 pub mod lookups;
 pub mod making;
 pub mod nodes;
+pub mod places;
 pub mod rows;
 pub mod tables;
 pub mod turning;
