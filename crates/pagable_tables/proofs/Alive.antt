@@ -257,3 +257,35 @@ only-row f ss i row ordered at less =
     let l = sum_by-le-sum_by f (λ h. one (is_handle row.number.0 h)) (without row.number.0 (live ss)) less in
     let z = sum-without row.number.0 (live ss) in
     omega arith
+
+-- what is done to the rows of a number that is below all changes nothing
+changed-rest : (q : ℕ) (f : HandleRow → HandleRow) (ss : List Place) → All (λ s. q < s.row.number.0) ss → changed (is_handle q) f (live ss) ≡ live ss
+changed-rest q f [] h = refl
+changed-rest q f (s ∷ ss) h = by s.is_live (changed-rest q f ss (All-tail (λ s. q < s.row.number.0) s ss h))
+  where
+    here : (s.row.number.0 == q) ≡ false
+    here = let a : q < s.row.number.0 = h 0 s (omega arith) in grind (arith, nat_tests)
+
+    by : (b : Bool) → changed (is_handle q) f (live ss) ≡ live ss → changed (is_handle q) f (if b then s.row ∷ live ss else live ss) ≡ (if b then s.row ∷ live ss else live ss)
+    by true rest = rw here (ap (λ l. s.row ∷ l) rest)
+    by false rest = rest
+
+-- a number is one row's, so what is done to rows of the number is done to that row
+pub changed-known : (f : HandleRow → HandleRow) (ss : List Place) (i : ℕ) (row : HandleRow) → AllPairs IsBefore ss → slice_get ss i ≡ Some (alive row) → changed (is_handle row.number.0) (λ _. f row) (live ss) ≡ changed (is_handle row.number.0) f (live ss)
+changed-known f [] i row ordered at = absurd (cc)
+changed-known f (s ∷ ss) zero row ordered at =
+    let live' : s.is_live ≡ true = cc in
+    let same : s.row ≡ row = cc in
+    let number : s.row.number.0 ≡ row.number.0 = cc in
+    let here : (s.row.number.0 == row.number.0) ≡ true = grind (arith, nat_tests) in
+    let above : All (λ x. row.number.0 < x.row.number.0) ss = λ k d lt. (let a = later s ss ordered k d lt in omega arith) in
+    let rest = changed-rest row.number.0 (λ _. f row) ss above ∙ sym (changed-rest row.number.0 f ss above) in
+    rw (live', here) (ap (λ l. f row ∷ l) rest ∙ ap (λ r. f r ∷ changed (is_handle row.number.0) f (live ss)) (sym same))
+changed-known f (s ∷ ss) (suc i) row ordered at = by s.is_live (changed-known f ss i row (pairs-tail s ss ordered) at)
+  where
+    here : (s.row.number.0 == row.number.0) ≡ false
+    here = let a = earlier s ss i row ordered at in grind (arith, nat_tests)
+
+    by : (b : Bool) → changed (is_handle row.number.0) (λ _. f row) (live ss) ≡ changed (is_handle row.number.0) f (live ss) → changed (is_handle row.number.0) (λ _. f row) (if b then s.row ∷ live ss else live ss) ≡ changed (is_handle row.number.0) f (if b then s.row ∷ live ss else live ss)
+    by true rest = rw here (ap (λ l. s.row ∷ l) rest)
+    by false rest = rest

@@ -41,10 +41,10 @@ pin-here x = grind (arith, nat_tests)
 pub held-here : (x : HandleRow) → handle_of x.node.0 x ≡ 1
 held-here x = grind (arith, nat_tests)
 
-pin-other : (n : ℕ) (x : HandleRow) → n ≢ x.node.0 → pin_of n x ≡ 0
+pub pin-other : (n : ℕ) (x : HandleRow) → n ≢ x.node.0 → pin_of n x ≡ 0
 pin-other n x other = grind (arith, nat_tests)
 
-held-other : (n : ℕ) (x : HandleRow) → n ≢ x.node.0 → handle_of n x ≡ 0
+pub held-other : (n : ℕ) (x : HandleRow) → n ≢ x.node.0 → handle_of n x ≡ 0
 held-other n x other = grind (arith, nat_tests)
 
 pin-entry : (listed : Bool) (n k : ℕ) (m : NodeNumber) → (if listed then pin_of n (entry k m) else 0) ≡ 0

@@ -3,3 +3,5 @@ mod Order
 mod Fitting
 mod Leaving
 mod Standing
+mod Worlds
+mod Coming

@@ -1,0 +1,199 @@
+-- A handle comes to a live node, and nothing falls.
+use Rattle.std.proofs.Common.{sum_by, ◌≡◌, ℕ, ◌+◌, ◌<◌, ◌≤◌, ◌==◌, ◌&&◌, ◌||◌, Bool, true, false, if◌then◌else◌, List, [], ◌∷◌, ◌++◌, length, refl, ap, sym, ◌∙◌, subst, arith, Option, Some, None, inl, inr}
+use Rattle.std.specs.Prelude.{◌≢◌, not, nat_lt, is_some, IsSome}
+use Rattle.std.proofs.lemmas.Bool.Decides.{nat_tests}
+use Rattle.std.proofs.lemmas.Bool.{cases_eq}
+use Rattle.std.proofs.lemmas.List.Sums.{sum_by_push, sum_by-cons}
+use Rattle.pagable_model.specs.declared.numbers.ArcRef.{ArcRef}
+use Rattle.pagable_world.specs.declared.handles.HandleRow.{HandleRow}
+use Rattle.pagable_world.specs.declared.handles.Owner.{Owner}
+use Rattle.pagable_world.specs.declared.handles.Owner.TheVariants as owners
+use Rattle.pagable_world.specs.declared.rows.Mode.TheVariants as modes
+use Rattle.pagable_world.specs.Plain.{one, SameAt}
+use Rattle.pagable_world.specs.Kinds.{held, pins, is_pinning, is_owner, owner_value}
+use Rattle.pagable_tables.specs.declared.rows.Counts.{Counts}
+use Rattle.pagable_tables.specs.Falling.{pins_in, holds_in, falls_in, is_bare, is_right, Right, Fits, owns_nothing, named, is_valued, cell_in}
+use Rattle.pagable_tables.proofs.Fitting.{pin_of, handle_of, is_owned, pin-here, held-here, pin-other, held-other}
+
+more-right : (w k bare : Bool) (p h p' h' : ℕ) → w ≡ false → p ≤ p' → h ≤ h' → (if w then h == 0 || (p == 0 && k) else nat_lt 0 h && (nat_lt 0 p || not k || bare)) ≡ true → (if w then h' == 0 || (p' == 0 && k) else nat_lt 0 h' && (nat_lt 0 p' || not k || bare)) ≡ true
+more-right true k bare p h p' h' e a b r = absurd (cc)
+more-right false k bare p h p' h' e a b r = grind (arith, nat_tests)
+
+no-value : (n : ℕ) (o : Owner) → is_valued o ≡ false → is_owner (owner_value n) o ≡ false
+no-value n owners.Caller e = refl
+no-value n (owners.Value m) e = absurd (cc)
+no-value n owners.List e = refl
+no-value n (owners.Load l) e = refl
+no-value n (owners.Worker v) e = refl
+
+owned-by-none : (n q : ℕ) (x : HandleRow) → is_valued x.owner ≡ false → is_owned n q x ≡ 0
+owned-by-none n q x e = let a = no-value n x.owner e in grind (arith, nat_tests)
+
+-- nothing falls, so no node is marked
+pub is-free : (at : ℕ → Option Counts) (refs : ℕ → List ArcRef) (rows : List HandleRow) (top : ℕ) (n : ℕ) (c : Counts) → Fits at refs rows top [] owns_nothing → at n ≡ Some c → c.is_falling ≡ false
+is-free at refs rows top n c fits is = let a = fits.marked n in let b = ap falls_in is in grind (arith, nat_tests)
+
+module _ (at at' : ℕ → Option Counts) (refs refs' : ℕ → List ArcRef) (rows : List HandleRow) (top : ℕ) (x : HandleRow) (c : Counts)
+    (fits : Fits at refs rows top [] owns_nothing) (is : at x.node.0 ≡ Some c)
+    (here : at' x.node.0 ≡ Some (record c { pins = c.pins + one (is_pinning x.mode); holds = c.holds + 1 }))
+    (others : (n : ℕ) → n ≢ x.node.0 → at' n ≡ at n) (same : (n : ℕ) → refs' n ≡ refs n) (owner : is_valued x.owner ≡ false) where
+  abbrev more : Counts
+  more = record c { pins = c.pins + one (is_pinning x.mode); holds = c.holds + 1 }
+
+  free : c.is_falling ≡ false
+  free = is-free at refs rows top x.node.0 c fits is
+
+  right-here : Right (at' x.node.0) (refs' x.node.0)
+  right-here =
+      let old : is_right c (is_bare (refs x.node.0)) ≡ true = subst (λ o. Right o (refs x.node.0)) is (fits.right x.node.0) in
+      let new : is_right more (is_bare (refs x.node.0)) ≡ true = more-right c.is_falling (nat_lt 0 c.key) (is_bare (refs x.node.0)) c.pins c.holds more.pins more.holds free (omega arith) (omega arith) old in
+      subst (λ o. Right o (refs' x.node.0)) (sym here) (subst (λ r. Right (Some more) r) (sym (same x.node.0)) new)
+
+  real : 0 ≢ x.node.0
+  real z = absurd (let a : at 0 ≡ Some c = ap at z ∙ is in cc (a, fits.from_one))
+
+  pub come-fits : Fits at' refs' (rows ++ x ∷ []) top [] owns_nothing
+  come-fits =
+      record {
+        pinned = λ n. elim (cases_eq n x.node.0) [
+          | inl e ↦
+              let a : pins_in (at x.node.0) ≡ pins x.node.0 rows = fits.pinned x.node.0 in
+              let b = ap pins_in is in
+              let d = ap pins_in here in
+              let l = sum_by_push (pin_of x.node.0) rows x in
+              let p = pin-here x in
+              let g : pins_in (at' x.node.0) ≡ pins x.node.0 (rows ++ x ∷ []) = omega arith in
+              subst (λ m. pins_in (at' m) ≡ pins m (rows ++ x ∷ [])) (sym e) g
+          | inr e ↦ let a = fits.pinned n in let b = ap pins_in (others n e) in let l = sum_by_push (pin_of n) rows x in let p = pin-other n x e in omega arith
+        ];
+        holding = λ n. elim (cases_eq n x.node.0) [
+          | inl e ↦
+              let a : holds_in (at x.node.0) ≡ held x.node.0 rows = fits.holding x.node.0 in
+              let b = ap holds_in is in
+              let d = ap holds_in here in
+              let l = sum_by_push (handle_of x.node.0) rows x in
+              let p = held-here x in
+              let g : holds_in (at' x.node.0) ≡ held x.node.0 (rows ++ x ∷ []) = omega arith in
+              subst (λ m. holds_in (at' m) ≡ held m (rows ++ x ∷ [])) (sym e) g
+          | inr e ↦ let a = fits.holding n in let b = ap holds_in (others n e) in let l = sum_by_push (handle_of n) rows x in let p = held-other n x e in omega arith
+        ];
+        owned = λ n q. let a = fits.owned n q in let b = ap (named q) (same n) in let l = sum_by_push (is_owned n q) rows x in let z = owned-by-none n q x owner in omega arith;
+        chain = fits.chain;
+        marked = λ n. elim (cases_eq n x.node.0) [
+          | inl e ↦ fits.marked n ∙ ap (λ m. one (falls_in (at m))) e ∙ ap (λ o. one (falls_in o)) is ∙ sym (ap (λ o. one (falls_in o)) here) ∙ sym (ap (λ m. one (falls_in (at' m))) e)
+          | inr e ↦ fits.marked n ∙ sym (ap (λ o. one (falls_in o)) (others n e))
+        ];
+        right = λ n. elim (cases_eq n x.node.0) [
+          | inl e ↦ subst (λ m. Right (at' m) (refs' m)) (sym e) right-here
+          | inr e ↦ subst (λ o. Right o (refs' n)) (sym (others n e)) (subst (λ r. Right (at n) r) (sym (same n)) (fits.right n))
+        ];
+        from_one = others 0 real ∙ fits.from_one;
+      }
+
+  pub come-cells : SameAt (λ n. cell_in (at n)) (λ n. cell_in (at' n))
+  come-cells n = elim (cases_eq n x.node.0) [
+    | inl e ↦ ap (λ m. cell_in (at' m)) e ∙ ap cell_in here ∙ sym (ap cell_in is) ∙ sym (ap (λ m. cell_in (at m)) e)
+    | inr e ↦ ap cell_in (others n e)
+  ]
+
+  pub come-there : (n : ℕ) → is_some (at' n) ≡ is_some (at n)
+  come-there n = elim (cases_eq n x.node.0) [
+    | inl e ↦ ap (λ m. is_some (at' m)) e ∙ ap is_some here ∙ sym (ap is_some is) ∙ sym (ap (λ m. is_some (at m)) e)
+    | inr e ↦ ap is_some (others n e)
+  ]
+
+-- a node that has a handle is there
+pub some-held : (o : Option Counts) → 0 < holds_in o → IsSome o
+some-held None h = absurd (omega arith)
+some-held (Some c) h = refl
+
+-- the rows are told anew
+pub rows-told : (at : ℕ → Option Counts) (refs : ℕ → List ArcRef) (rows rows' : List HandleRow) (top : ℕ) → rows' ≡ rows → Fits at refs rows top [] owns_nothing → Fits at refs rows' top [] owns_nothing
+rows-told at refs rows rows' top e f = subst (λ r. Fits at refs r top [] owns_nothing) (sym e) f
+
+-- a node has no more handles than there are
+pub held-few : (n : ℕ) (rows : List HandleRow) → held n rows ≤ length rows
+held-few n [] = omega arith
+held-few n (x ∷ xs) = let a = held-few n xs in let l = sum_by-cons (handle_of n) x xs in let b : handle_of n x ≤ 1 = grind (arith, nat_tests) in omega arith
+
+-- The handle of the row x is loose and pins its node from now on.
+abbrev pub turned : HandleRow → HandleRow
+turned x = record x { mode = modes.LoosePinned }
+
+pin-turned : (x : HandleRow) → pin_of x.node.0 (turned x) ≡ 1
+pin-turned x = grind (arith, nat_tests)
+
+pin-turned-other : (n : ℕ) (x : HandleRow) → n ≢ x.node.0 → pin_of n (turned x) ≡ 0
+pin-turned-other n x other = grind (arith, nat_tests)
+
+both : (b : Bool) → one b + one (not b) ≡ 1
+both true = refl
+both false = refl
+
+module _ (at at' : ℕ → Option Counts) (refs refs' : ℕ → List ArcRef) (rows rows' : List HandleRow) (top : ℕ) (x : HandleRow) (c : Counts)
+    (fits : Fits at refs rows top [] owns_nothing) (is : at x.node.0 ≡ Some c)
+    (sums : (f : HandleRow → ℕ) → sum_by f rows' + f x ≡ sum_by f rows + f (turned x))
+    (here : at' x.node.0 ≡ Some (record c { pins = c.pins + one (not (is_pinning x.mode)) }))
+    (others : (n : ℕ) → n ≢ x.node.0 → at' n ≡ at n) (same : (n : ℕ) → refs' n ≡ refs n) where
+  abbrev after-turn : Counts
+  after-turn = record c { pins = c.pins + one (not (is_pinning x.mode)) }
+
+  turn-right : Right (at' x.node.0) (refs' x.node.0)
+  turn-right =
+      let old : is_right c (is_bare (refs x.node.0)) ≡ true = subst (λ o. Right o (refs x.node.0)) is (fits.right x.node.0) in
+      let new : is_right after-turn (is_bare (refs x.node.0)) ≡ true = more-right c.is_falling (nat_lt 0 c.key) (is_bare (refs x.node.0)) c.pins c.holds after-turn.pins after-turn.holds (is-free at refs rows top x.node.0 c fits is) (omega arith) (omega arith) old in
+      subst (λ o. Right o (refs' x.node.0)) (sym here) (subst (λ r. Right (Some after-turn) r) (sym (same x.node.0)) new)
+
+  turn-real : 0 ≢ x.node.0
+  turn-real z = absurd (let a : at 0 ≡ Some c = ap at z ∙ is in cc (a, fits.from_one))
+
+  pub turn-fits : Fits at' refs' rows' top [] owns_nothing
+  turn-fits =
+      record {
+        pinned = λ n. elim (cases_eq n x.node.0) [
+          | inl e ↦
+              let a : pins_in (at x.node.0) ≡ pins x.node.0 rows = fits.pinned x.node.0 in
+              let b = ap pins_in is in
+              let d = ap pins_in here in
+              let l = sums (pin_of x.node.0) in
+              let p = pin-here x in
+              let q = pin-turned x in
+              let r = both (is_pinning x.mode) in
+              let g : pins_in (at' x.node.0) ≡ pins x.node.0 rows' = omega arith in
+              subst (λ m. pins_in (at' m) ≡ pins m rows') (sym e) g
+          | inr e ↦ let a = fits.pinned n in let b = ap pins_in (others n e) in let l = sums (pin_of n) in let p = pin-other n x e in let q = pin-turned-other n x e in omega arith
+        ];
+        holding = λ n. elim (cases_eq n x.node.0) [
+          | inl e ↦
+              let a : holds_in (at x.node.0) ≡ held x.node.0 rows = fits.holding x.node.0 in
+              let b = ap holds_in is in
+              let d = ap holds_in here in
+              let l = sums (handle_of x.node.0) in
+              let g : holds_in (at' x.node.0) ≡ held x.node.0 rows' = omega arith in
+              subst (λ m. holds_in (at' m) ≡ held m rows') (sym e) g
+          | inr e ↦ let a = fits.holding n in let b = ap holds_in (others n e) in let l = sums (handle_of n) in omega arith
+        ];
+        owned = λ n q. let a = fits.owned n q in let b = ap (named q) (same n) in let l = sums (is_owned n q) in omega arith;
+        chain = fits.chain;
+        marked = λ n. elim (cases_eq n x.node.0) [
+          | inl e ↦ fits.marked n ∙ ap (λ m. one (falls_in (at m))) e ∙ ap (λ o. one (falls_in o)) is ∙ sym (ap (λ o. one (falls_in o)) here) ∙ sym (ap (λ m. one (falls_in (at' m))) e)
+          | inr e ↦ fits.marked n ∙ sym (ap (λ o. one (falls_in o)) (others n e))
+        ];
+        right = λ n. elim (cases_eq n x.node.0) [
+          | inl e ↦ subst (λ m. Right (at' m) (refs' m)) (sym e) turn-right
+          | inr e ↦ subst (λ o. Right o (refs' n)) (sym (others n e)) (subst (λ r. Right (at n) r) (sym (same n)) (fits.right n))
+        ];
+        from_one = others 0 turn-real ∙ fits.from_one;
+      }
+
+  pub turn-cells : SameAt (λ n. cell_in (at n)) (λ n. cell_in (at' n))
+  turn-cells n = elim (cases_eq n x.node.0) [
+    | inl e ↦ ap (λ m. cell_in (at' m)) e ∙ ap cell_in here ∙ sym (ap cell_in is) ∙ sym (ap (λ m. cell_in (at m)) e)
+    | inr e ↦ ap cell_in (others n e)
+  ]
+
+  pub turn-there : (n : ℕ) → is_some (at' n) ≡ is_some (at n)
+  turn-there n = elim (cases_eq n x.node.0) [
+    | inl e ↦ ap (λ m. is_some (at' m)) e ∙ ap is_some here ∙ sym (ap is_some is) ∙ sym (ap (λ m. is_some (at m)) e)
+    | inr e ↦ ap is_some (others n e)
+  ]

@@ -1,0 +1,101 @@
+-- Two worlds that are told alike.
+use Rattle.std.proofs.Common.{true, Ok, Err, ◌≡◌, ℕ, ◌&&◌, List, refl, ap, sym, ◌∙◌, subst, arith, Option, Some, None, if◌then◌else◌}
+use Rattle.std.specs.Prelude.{not, Result}
+use Rattle.pagable_model.specs.declared.error.Error.{Error}
+use Rattle.pagable_model.specs.declared.numbers.HandleNumber.{HandleNumber}
+use Rattle.pagable_world.specs.declared.handles.Owner.{Owner}
+use Rattle.pagable_world.specs.declared.handles.Owner.TheVariants as owners
+use Rattle.std.proofs.lemmas.Bool.Decides.{nat_tests}
+use Rattle.pagable_world.specs.Calls.{CloneCall}
+use Rattle.pagable_world.specs.Refusals.{earlier, live_fault, spent, Refused, AreHandlesFull}
+use Rattle.pagable_tables.specs.Core.{Makes}
+use Rattle.pagable_world.specs.Plain.{is_pinned_kind, if_there, SameAt}
+use Rattle.pagable_world.specs.Kinds.{pins, is_in_memory, is_owner}
+use Rattle.pagable_world.specs.World.{Core, Cell, SameCache, Alike, HasRoom, row_at}
+use Rattle.pagable_world.specs.declared.handles.HandleRow.{HandleRow}
+
+-- what an entry of the cache gives where its node is this cell
+abbrev use-of : List HandleRow → ℕ → ℕ → Option Cell → Option ℕ
+use-of rows kind n cell = if_there (λ (cell : Cell). if is_pinned_kind kind && not (is_in_memory (pins n rows) cell.key) then None else Some n) None cell
+
+pub usable-same : (rows rows' : List HandleRow) (cells cells' : ℕ → Option Cell) (kind : ℕ) (found found' : Option ℕ) → rows' ≡ rows → SameAt cells cells' → found' ≡ found → if_there (λ n. use-of rows' kind n (cells' n)) None found' ≡ if_there (λ n. use-of rows kind n (cells n)) None found
+usable-same rows rows' cells cells' kind None found' e same is = ap (if_there (λ n. use-of rows' kind n (cells' n)) None) is
+usable-same rows rows' cells cells' kind (Some n) found' e same is = ap (if_there (λ n. use-of rows' kind n (cells' n)) None) is ∙ ap (λ r. use-of r kind n (cells' n)) e ∙ ap (use-of rows kind n) (same n)
+
+pub same-cache : (w w' : Core) → w'.rows ≡ w.rows → SameAt w.cells w'.cells → ((kind key : ℕ) → w'.cache kind key ≡ w.cache kind key) → SameCache w w'
+same-cache w w' e same is =
+    record {
+      gives = λ kind key. usable-same w.rows w'.rows w.cells w'.cells kind (w.cache kind key) (w'.cache kind key) e same (is kind key);
+      only = λ kind key n h. sym (is kind key) ∙ h;
+    }
+
+pub still : (w : Core) → Alike w w
+still w =
+    record {
+      rows = refl;
+      cells = λ n. refl;
+      list = refl;
+      cache = same-cache w w refl (λ n. refl) (λ kind key. refl);
+      stored = λ q. refl;
+      closed = refl;
+      failures = refl;
+      loads = λ l. refl;
+      workers = λ v. refl;
+      last = refl;
+      places = record { handles = omega arith; entries = omega arith };
+    }
+
+-- rows, cells and room may be told anew
+pub alike : (w w' : Core) → w'.rows ≡ w.rows → SameAt w.cells w'.cells → HasRoom w.places w'.places
+    → w' ≡ record w { rows = w'.rows; cells = w'.cells; places = w'.places } → Alike w w'
+alike w w' rows cells places same =
+    record {
+      rows = rows;
+      cells = cells;
+      list = ap (λ (u : Core). u.list) same;
+      cache = same-cache w w' rows cells (λ kind key. ap (λ (u : Core). u.cache kind key) same);
+      stored = λ q. ap (λ (u : Core). u.stored q) same;
+      closed = ap (λ (u : Core). u.closed) same;
+      failures = ap (λ (u : Core). u.failures) same;
+      loads = λ l. ap (λ (u : Core). u.loads l) same;
+      workers = λ v. ap (λ (u : Core). u.workers v) same;
+      last = ap (λ (u : Core). u.last) same;
+      places = places;
+    }
+
+-- a handle that is made of a live handle's node, in its mode, is a clone
+pub clones : (w : Core) (me : Owner) (h : HandleNumber) (row : HandleRow) (r : Result HandleNumber Error) (w' : Core) → row_at w h ≡ Some row → Makes w row.node row.mode me r w' → CloneCall w me h r w'
+clones w me h row (Ok k) w' is m = record { made = (row, is, m.made.0, m.made.1); refused = tt }
+clones w me h row (Err e) w' is m =
+    record {
+      made = tt;
+      refused = subst (λ f. Refused f f (AreHandlesFull w) w e w') (sym (ap (λ o. earlier (live_fault o) (spent w.last.handle)) is)) m.refused;
+    }
+
+-- who passes the test is the same owner
+pub owner-same : (a b : Owner) → is_owner a b ≡ true → b ≡ a
+owner-same owners.Caller owners.Caller h = refl
+owner-same owners.Caller (owners.Value m) h = absurd (cc)
+owner-same owners.Caller owners.List h = absurd (cc)
+owner-same owners.Caller (owners.Load m) h = absurd (cc)
+owner-same owners.Caller (owners.Worker m) h = absurd (cc)
+owner-same (owners.Value n) owners.Caller h = absurd (cc)
+owner-same (owners.Value n) (owners.Value m) h = let same : m.0 ≡ n.0 = grind (arith, nat_tests) in ap (λ q. owners.Value (record { 0 = q })) same
+owner-same (owners.Value n) owners.List h = absurd (cc)
+owner-same (owners.Value n) (owners.Load m) h = absurd (cc)
+owner-same (owners.Value n) (owners.Worker m) h = absurd (cc)
+owner-same owners.List owners.Caller h = absurd (cc)
+owner-same owners.List (owners.Value m) h = absurd (cc)
+owner-same owners.List owners.List h = refl
+owner-same owners.List (owners.Load m) h = absurd (cc)
+owner-same owners.List (owners.Worker m) h = absurd (cc)
+owner-same (owners.Load n) owners.Caller h = absurd (cc)
+owner-same (owners.Load n) (owners.Value m) h = absurd (cc)
+owner-same (owners.Load n) owners.List h = absurd (cc)
+owner-same (owners.Load n) (owners.Load m) h = let same : m.0 ≡ n.0 = grind (arith, nat_tests) in ap (λ q. owners.Load (record { 0 = q })) same
+owner-same (owners.Load n) (owners.Worker m) h = absurd (cc)
+owner-same (owners.Worker n) owners.Caller h = absurd (cc)
+owner-same (owners.Worker n) (owners.Value m) h = absurd (cc)
+owner-same (owners.Worker n) owners.List h = absurd (cc)
+owner-same (owners.Worker n) (owners.Load m) h = absurd (cc)
+owner-same (owners.Worker n) (owners.Worker m) h = let same : m.0 ≡ n.0 = grind (arith, nat_tests) in ap (λ q. owners.Worker (record { 0 = q })) same

@@ -1,0 +1,24 @@
+use Rattle.std.proofs.Common.{refl, ap, arith}
+use Rattle.std.specs.Option.{option_map}
+use Rattle.pagable_model.specs.declared.numbers.NodeNumber.{NodeNumber}
+use Rattle.pagable_tables.proofs.Worlds.{same-cache}
+use Rattle.pagable_tables.proofs.places.cache_clear.Goals as goal
+
+pub returns-clause-cleared : goal.returns-clause-cleared
+returns-clause-cleared c stored closed failures =
+    record {
+      told = refl;
+      leaves = record {
+        rows = refl;
+        cells = λ n. refl;
+        list = refl;
+        cache = same-cache _ _ refl (λ n. refl) (λ kind key. ap (option_map (λ (n : NodeNumber). n.0)) (c.forget.ensures kind key));
+        stored = λ q. refl;
+        closed = refl;
+        failures = refl;
+        loads = λ l. refl;
+        workers = λ v. refl;
+        last = refl;
+        places = record { handles = omega arith; entries = omega arith };
+      };
+    }

@@ -1,0 +1,24 @@
+use Rattle.std.proofs.Common.{subst, rules}
+use Rattle.pagable_world.specs.Kinds.{is_pinned}
+use Rattle.pagable_world.specs.World.{Alike}
+use Rattle.pagable_world.specs.Calls.{with_mode}
+use Rattle.pagable_world.specs.declared.rows.Mode.TheVariants as modes
+use Rattle.pagable_tables.specs.Core.{core_of}
+use Rattle.pagable_tables.proofs.Worlds.{still, owner-same}
+use Rattle.pagable_tables.proofs.turning.into_pagable.Goals as goal
+
+pub returns-in-Err-clause-loosened : goal.returns-in-Err-clause-loosened
+returns-in-Err-clause-loosened c stored closed failures = record { turned = tt; refused = (c.in-Err.ensures.fault stored closed failures is_pinned, still _) }
+
+pub returns-clause-loosened : goal.returns-clause-loosened
+returns-clause-loosened c stored closed failures =
+    let row = c.in-Ok.at.row in
+    record {
+      turned = (
+        row,
+        record { live = c.in-Ok.ensures.found; own = owner-same c.args.me row.owner c.in-Ok.ensures.owner; as_asked = search rules },
+        c.in-Ok.ensures.number,
+        subst (λ q. Alike (with_mode (core_of c.args.t.now stored closed failures) q modes.LoosePinned) (core_of c.turn.new.t stored closed failures)) c.in-Ok.ensures.number (c.turn.ensures.turned stored closed failures),
+      );
+      refused = tt;
+    }

@@ -1,0 +1,76 @@
+use Rattle.std.proofs.Common.{◌+◌, ◌≡◌, arith, refl, ap, sym, ◌∙◌, Some, None}
+use Rattle.std.specs.Prelude.{not}
+use Rattle.pagable_world.specs.Plain.{one}
+use Rattle.pagable_world.specs.Kinds.{is_pinning}
+use Rattle.pagable_tables.specs.Live.{live}
+use Rattle.pagable_tables.specs.ByNumber.{counts_at, refs_at}
+use Rattle.pagable_tables.specs.Falling.{pins_in, holds_in}
+use Rattle.pagable_tables.proofs.Alive.{length-live-le, changed-known, row-le-live}
+use Rattle.pagable_tables.proofs.Fitting.{pins-le-held, handle_of, held-here}
+use Rattle.pagable_tables.proofs.Coming.{turn-fits, turn-cells, turn-there, turned, held-few}
+use Rattle.pagable_tables.proofs.Worlds.{alike}
+use Rattle.pagable_tables.proofs.turning.turn.Goals as goal
+
+pub unreachable-requires : goal.unreachable-requires
+unreachable-requires c =
+    let n = c.args.at.row.node.0 in
+    let w = c.requires.whole.steady.fits.holding n in
+    let a : counts_at c.args.t.now.holdings.nodes n ≡ None = sym c.counts_of.ensures ∙ c.in_default.is in
+    let b = ap holds_in a in
+    let l = row-le-live (handle_of n) c.args.t.now.holdings.handles.places.items c.args.at.place c.args.at.row c.requires.place in
+    let h = held-here c.args.at.row in
+    absurd (omega arith)
+
+pub counts_pinned-pinned-requires : goal.counts_pinned-pinned-requires
+counts_pinned-pinned-requires c =
+    let n = c.args.at.row.node.0 in
+    let rows = live c.args.t.now.holdings.handles.places.items in
+    let is : counts_at c.args.t.now.holdings.nodes n ≡ Some c.in-Some.counts = sym c.counts_of.ensures ∙ c.in-Some.is in
+    let a = ap pins_in is in
+    let b = c.requires.whole.steady.fits.pinned n in
+    let l = pins-le-held n rows in
+    let h = held-few n rows in
+    let d = length-live-le c.args.t.now.holdings.handles.places.items in
+    let k = c.places_taken.ensures.count in
+    let s = c.places_taken.ensures.small in
+    omega arith
+
+pub returns-clause-turned : goal.returns-clause-turned
+returns-clause-turned c stored closed failures =
+    let t = c.args.t.now.holdings in
+    let x = c.args.at.row in
+    let y = c.in-Some.counts in
+    let is : counts_at t.nodes x.node.0 ≡ Some y = sym c.counts_of.ensures ∙ c.in-Some.is in
+    let made : c.counts_pinned-pinned.result ≡ record y { pins = y.pins + one (not (is_pinning x.mode)) } =
+    c.counts_pinned-pinned.ensures ∙ ap (λ p. record y { pins = y.pins + one (not p) }) c.pins.ensures in
+    let e = c.set_counts.ensures in
+    alike _ _ (c.set.ensures.rows ∙ changed-known turned t.handles.places.items c.args.at.place x c.requires.whole.steady.sound.ordered c.requires.place)
+    (turn-cells (counts_at t.nodes) (counts_at c.set_counts.new.nodes) (refs_at t.nodes) (refs_at c.set_counts.new.nodes) (live t.handles.places.items) (live c.set.new.handles.places.items) t.top x y c.requires.whole.steady.fits is c.set.ensures.sums (e.here ∙ ap Some made) e.others e.refs)
+    (record { handles = omega arith; entries = omega arith }) refl
+
+pub returns-clause-whole : goal.returns-clause-whole
+returns-clause-whole c =
+    let t = c.args.t.now.holdings in
+    let x = c.args.at.row in
+    let y = c.in-Some.counts in
+    let is : counts_at t.nodes x.node.0 ≡ Some y = sym c.counts_of.ensures ∙ c.in-Some.is in
+    let made : c.counts_pinned-pinned.result ≡ record y { pins = y.pins + one (not (is_pinning x.mode)) } =
+    c.counts_pinned-pinned.ensures ∙ ap (λ p. record y { pins = y.pins + one (not p) }) c.pins.ensures in
+    let e = c.set_counts.ensures in
+    let at = counts_at t.nodes in
+    let at' = counts_at c.set_counts.new.nodes in
+    let refs = refs_at t.nodes in
+    let refs' = refs_at c.set_counts.new.nodes in
+    let rows = live t.handles.places.items in
+    let rows' = live c.set.new.handles.places.items in
+    let w = c.requires.whole in
+    let here = e.here ∙ ap Some made in
+    record {
+      steady = record {
+        sound = c.set.ensures.sound;
+        next = c.set.ensures.next (t.last_handle + 1) w.steady.next;
+        fits = turn-fits at at' refs refs' rows rows' t.top x y w.steady.fits is c.set.ensures.sums here e.others e.refs;
+      };
+      nodes = λ n some. w.nodes n (sym (turn-there at at' refs refs' rows rows' t.top x y w.steady.fits is c.set.ensures.sums here e.others e.refs n) ∙ some);
+      loads = w.loads;
+    }

@@ -1,0 +1,54 @@
+-- The plain world that the tables tell, and when they are whole.
+use Rattle.std.specs.Prelude.{ℕ, ◌≡◌, ◌≤◌, Bool, true, [], Option, Result, IfOk, IfErr, is_some, vec_capacity}
+use Rattle.std.specs.Option.{option_map}
+use Rattle.pagable_model.specs.declared.error.Error.{Error}
+use Rattle.pagable_model.specs.declared.numbers.HandleNumber.{HandleNumber}
+use Rattle.pagable_model.specs.declared.numbers.NodeNumber.{NodeNumber}
+use Rattle.pagable_world.specs.Plain.{Blob, is_in}
+use Rattle.pagable_world.specs.declared.handles.Owner.{Owner}
+use Rattle.pagable_world.specs.declared.rows.Mode.{Mode}
+use Rattle.pagable_world.specs.World.{Core, OpenLoad, Root, of_cell, of_key, Alike}
+use Rattle.pagable_world.specs.Calls.{with_handle, IsNext}
+use Rattle.pagable_world.specs.Refusals.{spent, Refused, AreHandlesFull}
+use Rattle.pagable_tables.specs.declared.rows.LoadRow.{LoadRow}
+use Rattle.pagable_tables.specs.declared.rows.LoadRoot.{LoadRoot}
+use Rattle.pagable_tables.specs.declared.rows.LoadRoot.TheVariants as roots
+use Rattle.pagable_tables.specs.declared.tables.Tables.{Tables}
+use Rattle.pagable_tables.specs.Live.{live}
+use Rattle.pagable_tables.specs.ByNumber.{counts_at, load_at, known_at}
+use Rattle.pagable_tables.specs.Falling.{cell_in, IsFalling, owns_nothing}
+
+abbrev pub root_in : LoadRoot → Root
+root_in (roots.Cell node t h) = of_cell node t h
+root_in roots.Key = of_key
+
+abbrev pub load_in : LoadRow → OpenLoad
+load_in row = record { owner = row.owner; key = row.key; root = root_in row.root }
+
+-- with what is stored, whether the storage was closed, and how often it failed
+abbrev pub core_of : Tables → (ℕ → Option Blob) → Bool → ℕ → Core
+core_of t stored closed failures =
+    record {
+      rows = live t.holdings.handles.places.items;
+      cells = λ n. cell_in (counts_at t.holdings.nodes n);
+      list = t.holdings.list.items;
+      cache = λ kind key. option_map (λ (n : NodeNumber). n.0) (known_at t.cache kind key);
+      stored = stored;
+      closed = closed;
+      failures = failures;
+      loads = λ l. option_map load_in (load_at t.loads l);
+      workers = λ v. is_in t.workers.items v;
+      last = record { node = t.last_node; handle = t.holdings.last_handle; load = t.last_load; worker = t.last_worker };
+      places = record { handles = vec_capacity t.holdings.handles.places; entries = vec_capacity t.holdings.list };
+    }
+
+-- handles and nodes fit, and nothing falls; numbers of nodes and loads were given
+pub record IsWhole (t : Tables) : Type 0 where
+  pub steady : IsFalling t.holdings [] owns_nothing
+  pub nodes : (n : ℕ) → is_some (counts_at t.holdings.nodes n) ≡ true → n ≤ t.last_node
+  pub loads : (l : ℕ) → is_some (load_at t.loads l) ≡ true → l ≤ t.last_load
+
+-- A handle of a live node is made under the next number. While numbers and places are left it succeeds.
+pub record Makes (w : Core) (node : NodeNumber) (mode : Mode) (owner : Owner) (r : Result HandleNumber Error) (w' : Core) : Type 0 where
+  pub made : IfOk r (λ k. IsNext k w × Alike (with_handle w node mode owner) w')
+  pub refused : IfErr r (λ e. Refused (spent w.last.handle) (spent w.last.handle) (AreHandlesFull w) w e w')

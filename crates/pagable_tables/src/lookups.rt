@@ -1,0 +1,119 @@
+//! What is asked of handles and nodes. Nothing changes by that.
+
+ghost use Rattle.std.specs.Prelude.{◌≡◌, ℕ, Bool, Option, Some, None, IfNone, IfSome, if◌then◌else◌};
+ghost use Rattle.std.specs.Option.{option_map};
+ghost use Rattle.pagable_model.specs.declared.data_key.OptionalDataKey.{OptionalDataKey};
+ghost use Rattle.pagable_model.specs.declared.data_key.OptionalDataKey.TheVariants as optional;
+ghost use Rattle.pagable_world.specs.Plain.{Blob, if_there};
+ghost use Rattle.pagable_world.specs.Kinds.{is_in_memory};
+ghost use Rattle.pagable_world.specs.World.{Cell};
+ghost use Rattle.pagable_world.specs.Calls.{CountCall, KeyCall, AwayCall, NodeCall, TypeCall};
+ghost use Rattle.pagable_tables.specs.ByNumber.{counts_at};
+ghost use Rattle.pagable_tables.specs.Falling.{pins_in, cell_in, key_in};
+ghost use Rattle.pagable_tables.specs.Core.{core_of, IsWhole};
+
+use crate::rows::Counts;
+use crate::tables::Tables;
+use crate::{handles, nodes};
+use pagable_model::{DataKey, Error, HandleNumber, NodeNumber, OptionalDataKey};
+
+/// The key of this number, if it is one.
+fn key_of_number(number: u128) -> OptionalDataKey
+    ensures { result ≡ key_in number }
+{
+    match DataKey::new(number) {
+        Some(key) => OptionalDataKey::Some(key),
+        None => OptionalDataKey::None,
+    }
+}
+
+/// The key of a node of these counts.
+pub fn key_in(counts: Option<Counts>) -> OptionalDataKey
+    ensures { result ≡ if_there (λ (cell : Cell). cell.key) optional.None (cell_in counts) }
+{
+    match counts {
+        Some(c) => key_of_number(c.key),
+        None => OptionalDataKey::None,
+    }
+}
+
+/// How many handles pin a node of these counts.
+fn pins_in(counts: Option<Counts>) -> u64
+    ensures { result ≡ pins_in counts }
+{
+    match counts {
+        Some(c) => c.pins,
+        None => 0,
+    }
+}
+
+/// Whether a node of these counts has its value in memory.
+pub fn is_here(counts: Option<Counts>) -> bool
+    ensures { result ≡ is_in_memory (pins_in counts) (if_there (λ (cell : Cell). cell.key) optional.None (cell_in counts)) }
+{
+    match counts {
+        Some(c) => c.pins > 0 || c.key == 0,
+        None => true,
+    }
+}
+
+/// The node of a handle.
+pub fn node_of(t: &Tables, handle: HandleNumber) -> Result<NodeNumber, Error>
+    requires { IsWhole t.now }
+    ensures { (stored : ℕ → Option Blob) (closed : Bool) (failures : ℕ) → NodeCall (core_of t.now stored closed failures) handle result }
+{
+    match handles::look(&t.holdings.handles, handle) {
+        Some(at) => Ok(at.row.node),
+        None => Err(Error::NoSuchHandle),
+    }
+}
+
+/// How many handles pin the node of a handle.
+pub fn count(t: &Tables, handle: HandleNumber) -> Result<u64, Error>
+    requires { IsWhole t.now }
+    ensures { (stored : ℕ → Option Blob) (closed : Bool) (failures : ℕ) → CountCall (core_of t.now stored closed failures) handle result }
+{
+    match handles::look(&t.holdings.handles, handle) {
+        Some(at) => Ok(pins_in(nodes::counts_of(&t.holdings.nodes, at.row.node.0))),
+        None => Err(Error::NoSuchHandle),
+    }
+}
+
+/// The key of the node of a handle.
+pub fn key(t: &Tables, handle: HandleNumber) -> Result<OptionalDataKey, Error>
+    requires { IsWhole t.now }
+    ensures { (stored : ℕ → Option Blob) (closed : Bool) (failures : ℕ) → KeyCall (core_of t.now stored closed failures) handle result }
+{
+    match handles::look(&t.holdings.handles, handle) {
+        Some(at) => Ok(key_in(nodes::counts_of(&t.holdings.nodes, at.row.node.0))),
+        None => Err(Error::NoSuchHandle),
+    }
+}
+
+/// Whether the value of the node of a handle has to be read first.
+pub fn is_paged_out(t: &Tables, handle: HandleNumber) -> Result<bool, Error>
+    requires { IsWhole t.now }
+    ensures { (stored : ℕ → Option Blob) (closed : Bool) (failures : ℕ) → AwayCall (core_of t.now stored closed failures) handle result }
+{
+    match handles::look(&t.holdings.handles, handle) {
+        Some(at) => Ok(!is_here(nodes::counts_of(&t.holdings.nodes, at.row.node.0))),
+        None => Err(Error::NoSuchHandle),
+    }
+}
+
+/// The type of a node, or None where the node is gone.
+pub fn node_live(t: &Tables, node: NodeNumber) -> Option<u32>
+    ensures { (stored : ℕ → Option Blob) (closed : Bool) (failures : ℕ) → TypeCall (core_of t.now stored closed failures) node result }
+{
+    match nodes::counts_of(&t.holdings.nodes, node.0) {
+        Some(counts) => Some(counts.node_type),
+        None => None,
+    }
+}
+
+/// The cells that wait for page-out, by the handles that the list owns.
+pub fn pending(t: &Tables) -> &[HandleNumber]
+    ensures { result.now ≡ t.now.holdings.list.items }
+{
+    &t.holdings.list
+}

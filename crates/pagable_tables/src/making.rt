@@ -1,0 +1,91 @@
+//! Handles that come to live nodes.
+
+ghost use Rattle.std.specs.Prelude.{◌≡◌, ℕ, ◌<◌, ◌^◌, ◌+◌, Bool, Option, false, [], length, IsSome};
+ghost use Rattle.pagable_world.specs.Plain.{Blob, one};
+ghost use Rattle.pagable_world.specs.Calls.{CloneCall};
+ghost use Rattle.pagable_tables.specs.ByNumber.{counts_at};
+ghost use Rattle.pagable_tables.specs.Falling.{is_valued};
+ghost use Rattle.pagable_tables.specs.Core.{core_of, IsWhole, Makes};
+
+use crate::holdings::pins;
+use crate::rows::{Counts, Place};
+use crate::tables::Tables;
+use crate::{handles, nodes};
+use pagable_model::{Error, HandleNumber, NodeNumber};
+use pagable_world::Mode;
+use pagable_world::handles::{HandleRow, Owner};
+
+/// How many places are taken, below 2^63.
+pub fn places_taken(places: &[Place]) -> usize
+    ensures count { result ≡ length places.now }
+    ensures small { result < 2 ^ 63 }
+{
+    places.len()
+}
+
+/// The counts after one handle more.
+fn counts_more(counts: Counts, pinning: bool) -> Counts
+    requires pins { counts.pins < 2 ^ 63 }
+    requires holds { counts.holds < 2 ^ 63 }
+    ensures { result ≡ record counts { pins = counts.pins + one pinning; holds = counts.holds + 1 } }
+{
+    let pins = if pinning {
+        counts.pins + 1
+    } else {
+        counts.pins
+    };
+    Counts {
+        pins,
+        holds: counts.holds + 1,
+        ..counts
+    }
+}
+
+/// A handle of a live node comes under the next number. It is refused only where none is left, or no place.
+pub fn make(
+    t: &mut Tables,
+    node: NodeNumber,
+    mode: Mode,
+    owner: Owner,
+) -> Result<HandleNumber, Error>
+    requires whole { IsWhole t.old }
+    requires live { IsSome (counts_at t.old.holdings.nodes node.0) }
+    requires owner { is_valued owner ≡ false }
+    ensures made { (stored : ℕ → Option Blob) (closed : Bool) (failures : ℕ) → Makes (core_of t.old stored closed failures) node mode owner result (core_of t.new stored closed failures) }
+    ensures whole { IsWhole t.new }
+{
+    let Some(counts) = nodes::counts_of(&t.holdings.nodes, node.0) else {
+        unreachable!();
+    };
+    if t.holdings.last_handle == u64::MAX {
+        return Err(Error::NumbersSpent);
+    }
+    places_taken(&t.holdings.handles.places);
+    let number = HandleNumber(t.holdings.last_handle + 1);
+    let row = HandleRow {
+        number,
+        node,
+        mode,
+        owner,
+    };
+    let Ok(()) = handles::push(&mut t.holdings.handles, row) else {
+        return Err(Error::OutOfMemory);
+    };
+    t.holdings.last_handle = number.0;
+    let more = counts_more(counts, pins(mode));
+    nodes::set_counts(&mut t.holdings.nodes, node.0, more);
+    Ok(number)
+}
+
+/// A second handle of the same mode, of any live handle.
+pub fn clone(t: &mut Tables, me: Owner, handle: HandleNumber) -> Result<HandleNumber, Error>
+    requires whole { IsWhole t.old }
+    requires owner { is_valued me ≡ false }
+    ensures cloned { (stored : ℕ → Option Blob) (closed : Bool) (failures : ℕ) → CloneCall (core_of t.old stored closed failures) me handle result (core_of t.new stored closed failures) }
+    ensures whole { IsWhole t.new }
+{
+    let Some(at) = handles::look(&t.holdings.handles, handle) else {
+        return Err(Error::NoSuchHandle);
+    };
+    make(t, at.row.node, at.row.mode, me)
+}

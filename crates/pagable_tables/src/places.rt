@@ -1,0 +1,61 @@
+//! Room for handles and for entries of the list; and the cache forgets all.
+
+ghost use Rattle.std.specs.Prelude.{◌≡◌, ℕ, ◌≤◌, Bool, Option, vec_capacity};
+ghost use Rattle.pagable_world.specs.Plain.{Blob};
+ghost use Rattle.pagable_world.specs.World.{Alike};
+ghost use Rattle.pagable_world.specs.Calls.{ReserveCall, ClearCall, room_of};
+ghost use Rattle.pagable_tables.specs.Core.{core_of, IsWhole};
+
+use crate::tables::Tables;
+use crate::{cache, handles};
+use pagable_model::{Error, HandleNumber};
+
+/// How many handles and entries of the list can still come without a request for memory.
+pub fn room(t: &Tables) -> usize
+    requires { IsWhole t.now }
+    ensures { (stored : ℕ → Option Blob) (closed : Bool) (failures : ℕ) → result ≡ room_of (core_of t.now stored closed failures) }
+{
+    let entries = t.holdings.list.capacity() - t.holdings.list.len();
+    handles::room_of(&t.holdings.handles).min(entries)
+}
+
+/// Room for so many more entries of the list, if it can be had.
+fn grow_list(list: &mut Vec<HandleNumber>, more: usize)
+    ensures items { list.new.items ≡ list.old.items }
+    ensures capacity { vec_capacity list.old ≤ vec_capacity list.new }
+{
+    let _ = list.reserve(more);
+}
+
+/// Room for so many more handles and entries, or as much as can be had.
+fn grow(t: &mut Tables, more: usize)
+    requires { IsWhole t.old }
+    ensures grown { (stored : ℕ → Option Blob) (closed : Bool) (failures : ℕ) → Alike (core_of t.old stored closed failures) (core_of t.new stored closed failures) }
+    ensures whole { IsWhole t.new }
+{
+    let _ = handles::reserve(&mut t.holdings.handles, more);
+    grow_list(&mut t.holdings.list, more);
+}
+
+/// Makes places ready for so many more handles and entries, if it can.
+pub fn reserve(t: &mut Tables, more: usize) -> Result<(), Error>
+    requires { IsWhole t.old }
+    ensures reserved { (stored : ℕ → Option Blob) (closed : Bool) (failures : ℕ) → ReserveCall (core_of t.old stored closed failures) more result (core_of t.new stored closed failures) }
+    ensures whole { IsWhole t.new }
+{
+    grow(t, more);
+    if room(t) < more {
+        return Err(Error::OutOfMemory);
+    }
+    Ok(())
+}
+
+/// The cache forgets all.
+pub fn cache_clear(t: &mut Tables) -> Result<(), Error>
+    requires { IsWhole t.old }
+    ensures cleared { (stored : ℕ → Option Blob) (closed : Bool) (failures : ℕ) → ClearCall (core_of t.old stored closed failures) result (core_of t.new stored closed failures) }
+    ensures whole { IsWhole t.new }
+{
+    cache::forget(&mut t.cache);
+    Ok(())
+}

@@ -1,0 +1,113 @@
+//! Handles that are pinned from now on, with or without another handle beside.
+
+ghost use Rattle.std.specs.Prelude.{◌≡◌, ℕ, ◌<◌, ◌^◌, ◌+◌, Bool, Option, not, slice_get, Some, IfOk, IfErr, true};
+ghost use Rattle.pagable_world.specs.declared.rows.Mode.{Mode};
+ghost use Rattle.pagable_world.specs.declared.rows.Mode.TheVariants as modes;
+ghost use Rattle.pagable_world.specs.Plain.{Blob, one};
+ghost use Rattle.pagable_world.specs.Kinds.{is_owner, is_pinned, find_row};
+ghost use Rattle.pagable_world.specs.World.{Alike};
+ghost use Rattle.pagable_world.specs.Refusals.{handle_fault};
+ghost use Rattle.pagable_world.specs.Calls.{LoosenCall, with_mode};
+ghost use Rattle.pagable_tables.specs.Live.{live, alive};
+ghost use Rattle.pagable_tables.specs.Core.{core_of, IsWhole};
+
+use crate::holdings::pins;
+use crate::making::places_taken;
+use crate::rows::{Counts, HandleAt};
+use crate::tables::Tables;
+use crate::{handles, nodes};
+use pagable_model::{Error, HandleNumber};
+use pagable_world::Mode;
+use pagable_world::handles::{HandleRow, Owner};
+
+/// Whether it is the same owner.
+fn is_owner(a: Owner, b: Owner) -> bool
+    ensures { result ≡ is_owner a b }
+{
+    match (a, b) {
+        (Owner::Caller, Owner::Caller) => true,
+        (Owner::Value(n), Owner::Value(m)) => m.0 == n.0,
+        (Owner::List, Owner::List) => true,
+        (Owner::Load(l), Owner::Load(m)) => m.0 == l.0,
+        (Owner::Worker(v), Owner::Worker(u)) => u.0 == v.0,
+        _ => false,
+    }
+}
+
+/// Whether a handle of this mode is a Pinned one.
+fn is_pinned(mode: Mode) -> bool
+    ensures { result ≡ is_pinned mode }
+{
+    match mode {
+        Mode::Pinned => true,
+        Mode::LoosePinned | Mode::LooseUnpinned | Mode::Shared => false,
+    }
+}
+
+/// The own handle of this number, with its place.
+fn own(t: &Tables, me: Owner, handle: HandleNumber) -> Result<HandleAt, Error>
+    requires { IsWhole t.now }
+    ensures place { IfOk result (λ at. slice_get t.now.holdings.handles.places.items at.place ≡ Some (alive at.row)) }
+    ensures found { IfOk result (λ at. find_row handle.0 (live t.now.holdings.handles.places.items) ≡ Some at.row) }
+    ensures number { IfOk result (λ at. at.row.number ≡ handle) }
+    ensures owner { IfOk result (λ at. is_owner me at.row.owner ≡ true) }
+    ensures fault { IfErr result (λ e. (stored : ℕ → Option Blob) (closed : Bool) (failures : ℕ) (fits : Mode → Bool) → handle_fault (core_of t.now stored closed failures) me handle fits ≡ Some e) }
+{
+    let Some(at) = handles::look(&t.holdings.handles, handle) else {
+        return Err(Error::NoSuchHandle);
+    };
+    if !is_owner(me, at.row.owner) {
+        return Err(Error::NotYours);
+    }
+    Ok(at)
+}
+
+/// The counts after a pin more of a handle that was there.
+fn counts_pinned(counts: Counts, was_pinning: bool) -> Counts
+    requires pins { counts.pins < 2 ^ 63 + 1 }
+    ensures { result ≡ record counts { pins = counts.pins + one (not was_pinning) } }
+{
+    let pins = if was_pinning {
+        counts.pins
+    } else {
+        counts.pins + 1
+    };
+    Counts { pins, ..counts }
+}
+
+/// The handle at this place is loose and pins its node from now on.
+fn turn(t: &mut Tables, at: HandleAt)
+    requires whole { IsWhole t.old }
+    requires place { slice_get t.old.holdings.handles.places.items at.place ≡ Some (alive at.row) }
+    ensures turned { (stored : ℕ → Option Blob) (closed : Bool) (failures : ℕ) → Alike (with_mode (core_of t.old stored closed failures) at.row.number modes.LoosePinned) (core_of t.new stored closed failures) }
+    ensures whole { IsWhole t.new }
+{
+    let Some(counts) = nodes::counts_of(&t.holdings.nodes, at.row.node.0) else {
+        unreachable!();
+    };
+    places_taken(&t.holdings.handles.places);
+    let row = HandleRow {
+        mode: Mode::LoosePinned,
+        ..at.row
+    };
+    handles::set(&mut t.holdings.handles, at, row);
+    let pinned = counts_pinned(counts, pins(at.row.mode));
+    nodes::set_counts(&mut t.holdings.nodes, at.row.node.0, pinned);
+}
+
+/// A Pinned handle becomes a loose pinned one, under its own number.
+pub fn into_pagable(t: &mut Tables, me: Owner, handle: HandleNumber) -> Result<HandleNumber, Error>
+    requires { IsWhole t.old }
+    ensures loosened { (stored : ℕ → Option Blob) (closed : Bool) (failures : ℕ) → LoosenCall (core_of t.old stored closed failures) me handle result (core_of t.new stored closed failures) }
+    ensures whole { IsWhole t.new }
+{
+    let at = match own(t, me, handle) {
+        Ok(at) => at,
+        Err(e) => return Err(e),
+    };
+    if !is_pinned(at.row.mode) {
+        return Err(Error::WrongMode);
+    }
+    turn(t, at);
+    Ok(at.row.number)
+}
