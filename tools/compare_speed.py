@@ -1,14 +1,14 @@
 #!/usr/bin/env python3
-"""Times `bench` beside the original crate, and writes the table of docs/PROOFS.md.
+"""Times `vectors time` beside the original crate, and writes the table of docs/PROOFS.md.
 
     tools/compare_speed.py ORIGINAL WORK [ROUNDS]
 
 ORIGINAL is the folder of the Rust crate `pagable` 0.4.2, or of a cargo workspace that has it as a member. It is copied into the folder
 WORK, together with tools/original_speed.rs as one of its examples, and built by cargo twice: as `cargo build --release` does, and with
-LTO, one codegen unit and the processor level for which `bench` is built (x86-64-v2). Nothing of it comes into the repository. `bench`
-has to be built before: (cd crates/bench && rt run -- time).
+LTO, one codegen unit and the processor level for which `vectors` is built (x86-64-v2). Nothing of it comes into the repository. `vectors`
+has to be built before: (cd crates/vectors && rt run -- time).
 
-The values come from tools/speed_sums.py, which `rows` is held against too; both programs fail where they write another form than they
+The values come from tools/speed_sums.py, which `vectors` is held against too; both programs fail where they write another form than they
 read. Each row is timed ROUNDS times (5 if left out), by all three in turn, each time in a process of its own; a row's time is the least
 of all. The peak of memory is that of a process that reads the row's value and writes it once, by GNU time.
 """
@@ -21,7 +21,7 @@ import subprocess
 import sys
 
 TOP = pathlib.Path(__file__).resolve().parent.parent
-BENCH = TOP / "crates" / "bench" / "out" / "bench"
+VECTORS = TOP / "crates" / "vectors" / "out" / "vectors"
 PAGE = TOP / "docs" / "PROOFS.md"
 BEGIN, END = "<!-- table -->", "<!-- end of the table -->"
 ROWS = ["numbers", "bytes", "texts", "maps", "ordered", "cells"]
@@ -52,8 +52,8 @@ def built(folder, target, settings):
 
 
 def words_of(program, forms, row, runs):
-    """`bench` draws a row's value itself; the original reads it from a file."""
-    return [program, "time", row, str(runs)] if program == BENCH else [program, row, forms / row, str(runs)]
+    """`vectors` draws a row's value itself; the original reads it from a file."""
+    return [program, "time", row, str(runs)] if program == VECTORS else [program, row, forms / row, str(runs)]
 
 
 def timed(words, best):
@@ -101,10 +101,10 @@ def main():
         sys.exit("usage: compare_speed.py ORIGINAL WORK [ROUNDS]")
     original, work = pathlib.Path(sys.argv[1]), pathlib.Path(sys.argv[2]).resolve()
     rounds = int(sys.argv[3]) if len(sys.argv) == 4 else 5
-    if not BENCH.exists():
-        sys.exit("bench isn't built: (cd crates/bench && rt run -- time)")
+    if not VECTORS.exists():
+        sys.exit("vectors isn't built: (cd crates/vectors && rt run -- time)")
     folder = laid_out(original, work)
-    programs = [BENCH, built(folder, work / "target", {}), built(folder, work / "tuned", TUNED)]
+    programs = [VECTORS, built(folder, work / "target", {}), built(folder, work / "tuned", TUNED)]
     forms = work / "forms"
     forms.mkdir(exist_ok=True)
     output([sys.executable, TOP / "tools" / "speed_sums.py", forms])

@@ -1,8 +1,8 @@
 #!/usr/bin/env python3
-"""Picks rows of what the original crate writes and reads, as data of `rows` and as the answers that they have to get.
+"""Picks rows of what the original crate writes and reads, as data of `vectors` and as the answers that they have to get.
 
-    tools/original_rows.py data original.jsonl > crates/rows/data/original.txt
-    tools/original_rows.py answers original.jsonl     # the part of crates/rows/stdout behind that of by_hand.txt
+    tools/original_rows.py data original.jsonl > crates/vectors/data/original.txt
+    tools/original_rows.py answers original.jsonl     # the part of crates/vectors/stdout behind that of by_hand.txt
 
 Each line of the input is a JSON object: a value that the original wrote ("op": "enc"), an input that it read ("op":
 "dec"), or a tree of blobs that it stored ("op": "blob"). docs/PROOFS.md says what the lines of the output mean. A type is
@@ -14,7 +14,7 @@ import itertools
 import json
 import sys
 
-# The types whose lines are replayed, all of which `rows` knows.
+# The types whose lines are replayed, all of which `vectors` knows.
 CARRIED = [
     "()", "bool", "char", "u8", "u16", "u32", "u64", "u128", "usize", "i8", "i16", "i32", "i64", "i128", "String", "Box<str>",
     "PathBuf", "PhantomData", "Duration", "AtomicI64", "OnceLock<u16>", "Regex", "Json", "Box<u16>", "Option<u8>",
@@ -25,7 +25,7 @@ CARRIED = [
     "IndexMap<String,BTreeSet<Option<i8>>>",
 ]
 
-# The types whose value `rows` shows.
+# The types whose value `vectors` shows.
 SHOWN = ("u16", "u128", "i128")
 
 UNSIGNED = ("u8", "u16", "u32", "u64", "u128", "usize")

@@ -1,5 +1,5 @@
-//! The rows of `bench` on the Rust crate `pagable`: `speed ROW FILE RUNS` reads the value that stands in FILE and writes it again, by that
-//! crate's own calls, and prints the shortest times as `bench` does. `tools/compare_speed.py` puts this file among the examples of a copy
+//! The rows of `vectors time` on the Rust crate `pagable`: `speed ROW FILE RUNS` reads the value that stands in FILE and writes it again, by that
+//! crate's own calls, and prints the shortest times as `vectors time` does. `tools/compare_speed.py` puts this file among the examples of a copy
 //! of that crate, builds it there, and makes the files.
 
 use std::collections::BTreeMap;

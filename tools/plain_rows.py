@@ -1,7 +1,7 @@
 #!/usr/bin/env python3
-"""Rows of events, as the program `rows` reads them, answered by a plain pager or drawn from a seed.
+"""Rows of events, as the program `vectors` reads them, answered by a plain pager or drawn from a seed.
 
-    plain_rows.py answers FILE             prints the answer to each row of the file that has one, as `rows` has to
+    plain_rows.py answers FILE             prints the answer to each row of the file that has one, as `vectors` has to
     plain_rows.py draw SEED COUNT [looks]  prints a new machine, COUNT drawn lists of events and a look; or lists of one event
                                            with a look after each
 

@@ -5,7 +5,7 @@
 #     tools/refuse_allocations.sh PROGRAM FILE [BYTES]
 #
 # Prints how many runs there were, how many printed the same as without a refusal, how many ended with status 1, and how
-# many with another status or other output; and what those of status 1 said, each text with its count. PROGRAM is crates/rows/out/rows
+# many with another status or other output; and what those of status 1 said, each text with its count. PROGRAM is crates/vectors/out/vectors
 # as `rt run` leaves it: a reader or a writer that is refused memory is asked once more, so a run that prints the same met no refusal that
 # shows, and in one of status 1 the request was the program's own.
 set -u

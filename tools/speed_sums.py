@@ -1,8 +1,8 @@
 #!/usr/bin/env python3
 """Works out large values that are drawn, as the wire format spells them. It shares no code with the crates.
 
-    tools/speed_sums.py            # the part of crates/rows/stdout that answers crates/rows/data/drawn.txt: their check sums
-    tools/speed_sums.py FOLDER     # the values themselves, a file for each in FOLDER, and the texts of the cells of `bench`
+    tools/speed_sums.py            # the part of crates/vectors/stdout that answers crates/vectors/data/drawn.txt: their check sums
+    tools/speed_sums.py FOLDER     # the values themselves, a file for each in FOLDER, and the texts of the cells of `vectors time`
 """
 
 import pathlib

@@ -1,3 +1,4 @@
 pub mod Expressions
 pub mod Levels
 pub mod Menus
+pub mod Refusing

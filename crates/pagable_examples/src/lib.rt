@@ -1,7 +1,7 @@
 //! How a caller carries types of its own, and what programs and tests share: a struct of named fields, an enum that is
 //! carried as an option, an environment of both, a type that holds values of its own type, and one that is written eagerly;
 //! an environment of registries, with tagged values and a type that has a tagged and a static value; an environment of
-//! texts; and inputs that are drawn.
+//! texts; storages over another storage; and inputs that are drawn.
 #![tactic(auto)]
 
 pub mod animal;
@@ -12,6 +12,7 @@ pub mod menu;
 pub mod quick_start;
 pub mod sighting;
 pub mod size;
+pub mod storages;
 pub mod text;
 pub mod ticket;
 pub mod zoo;
@@ -23,6 +24,7 @@ pub use expression::{Expression, Sheet};
 pub use menu::{Menu, MenuNode};
 pub use sighting::Sighting;
 pub use size::Size;
+pub use storages::{CountingStorage, FailingStorage};
 pub use text::{TextEnv, TextNode};
 pub use ticket::Ticket;
 pub use zoo::{NoNode, Zoo};

@@ -2,11 +2,11 @@
 #![tactic(auto)]
 
 mod command;
-#[cfg(test)]
-mod failing;
 mod lines;
 mod serve;
 mod session;
+#[cfg(test)]
+mod tests;
 
 use crate::serve::serve;
 use pagable::WeighHash;

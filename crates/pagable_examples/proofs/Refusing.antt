@@ -1,0 +1,62 @@
+-- The refusals of a storage that fails once.
+use Rattle.std.proofs.Common.{◌≡◌, ◌+◌, ◌-◌, ◌^◌, ◌<◌, ◌≤◌, ℕ, Bool, true, false, min, arith, Option, Result, Ok, Err, inl, inr}
+use Rattle.std.specs.Prelude.{IfErr, ◌⊎◌}
+use Rattle.std.proofs.lemmas.Bool.{cases_lt}
+use Rattle.pagable_model.specs.declared.error.Error.{Error}
+use Rattle.pagable_model.specs.declared.error.Error.TheVariants as errors
+use Rattle.pagable_model.specs.Blob.{Blob}
+use Rattle.pagable_model.specs.Stored.{HasFailed, RefusesFetch, RefusesStore, RefusesFlush}
+use Rattle.pagable_examples.specs.Failing.{own_failures, failures_of}
+
+-- counts that are cut off at the greatest
+cut : (before after : ℕ) → before < after → HasFailed (min (2 ^ 64 - 1) before) (min (2 ^ 64 - 1) after)
+cut before after lt = go (cases_lt before (2 ^ 64 - 1))
+  where
+    go : (before < 2 ^ 64 - 1) ⊎ (2 ^ 64 - 1 ≤ before) → HasFailed (min (2 ^ 64 - 1) before) (min (2 ^ 64 - 1) after)
+    go (inl small) = inl (omega arith)
+    go (inr great) = inr (omega arith, omega arith)
+
+pub own_failure : (inner : ℕ) (before after : Bool) → before ≡ false → after ≡ true → HasFailed (failures_of before inner) (failures_of after inner)
+own_failure inner before after is_not is = rw (is_not, is) (cut (inner + 0) (inner + 1) (omega arith))
+
+passed-on : (failed : Bool) (before after : ℕ) → HasFailed before after → HasFailed (failures_of failed before) (failures_of failed after)
+passed-on failed before after (inl lt) = cut (before + own_failures failed) (after + own_failures failed) (omega arith)
+passed-on failed before after (inr h) = inr (omega (arith, h.0, h.1), omega (arith, h.0, h.1))
+
+fetch-refused : (e : Error) (key : ℕ) (found : Option Blob) (failed : Bool) (before after : ℕ) → RefusesFetch key found before after e → RefusesFetch key found (failures_of failed before) (failures_of failed after) e
+fetch-refused (errors.NoData k) key found failed before after h = h
+fetch-refused errors.OutOfMemory key found failed before after h = h
+fetch-refused (errors.Storage code) key found failed before after h = passed-on failed before after h
+fetch-refused _ key found failed before after h = absurd h
+
+pub fetch_refused : {X : Type 0} (r : Result X Error) (key : ℕ) (found : Option Blob) (failed : Bool) (before after : ℕ) → IfErr r (RefusesFetch key found before after) → IfErr r (RefusesFetch key found (failures_of failed before) (failures_of failed after))
+fetch_refused (Ok x) key found failed before after h = tt
+fetch_refused (Err e) key found failed before after h = fetch-refused e key found failed before after h
+
+store-refused : (e : Error) (blob : Blob) (found : Option Blob) (closed : Bool) (failed : Bool) (before after : ℕ) → RefusesStore blob found closed before after e → RefusesStore blob found closed (failures_of failed before) (failures_of failed after) e
+store-refused errors.KeyTaken blob found closed failed before after h = h
+store-refused errors.Closed blob found closed failed before after h = h
+store-refused errors.OutOfMemory blob found closed failed before after h = h
+store-refused (errors.Storage code) blob found closed failed before after h = passed-on failed before after h
+store-refused _ blob found closed failed before after h = absurd h
+
+pub store_refused : {X : Type 0} (r : Result X Error) (blob : Blob) (found : Option Blob) (closed : Bool) (failed : Bool) (before after : ℕ) → IfErr r (RefusesStore blob found closed before after) → IfErr r (RefusesStore blob found closed (failures_of failed before) (failures_of failed after))
+store_refused (Ok x) blob found closed failed before after h = tt
+store_refused (Err e) blob found closed failed before after h = store-refused e blob found closed failed before after h
+
+flush-refused : (e : Error) (failed : Bool) (before after : ℕ) → RefusesFlush before after e → RefusesFlush (failures_of failed before) (failures_of failed after) e
+flush-refused errors.OutOfMemory failed before after h = h
+flush-refused (errors.Storage code) failed before after h = passed-on failed before after h
+flush-refused _ failed before after h = absurd h
+
+pub flush_refused : {X : Type 0} (r : Result X Error) (failed : Bool) (before after : ℕ) → IfErr r (RefusesFlush before after) → IfErr r (RefusesFlush (failures_of failed before) (failures_of failed after))
+flush_refused (Ok x) failed before after h = tt
+flush_refused (Err e) failed before after h = flush-refused e failed before after h
+
+pub own_later : (inner : ℕ) (before after : Bool) → before ≡ false → after ≡ true → failures_of before inner ≤ failures_of after inner
+own_later inner before after is_not is = rw (is_not, is) (omega arith)
+
+pub passed_later : (failed : Bool) (before after : ℕ) → before ≤ after → failures_of failed before ≤ failures_of failed after
+passed_later failed before after le = omega arith
+
+pub ruleset refusing = (own_failure, own_later, passed_later, fetch_refused, store_refused, flush_refused)

@@ -1,0 +1,158 @@
+//! Storages over another storage, for tests: one that counts its calls, and one that fails once.
+
+ghost use Rattle.std.specs.Prelude.{◌≡◌, true, false};
+
+use pagable::{DataKey, Env, Error, PagableData, PagableStorage};
+use std::alloc::Global;
+use std::sync::Arc;
+
+/// A storage that counts how often blobs are fetched from another storage, and stored there.
+#[derive(Drop)]
+pub struct CountingStorage<S> {
+    inner: S,
+    fetches: u64,
+    stores: u64,
+}
+
+impl<S> CountingStorage<S> {
+    /// The storage, with nothing counted.
+    pub fn new(inner: S) -> CountingStorage<S> {
+        CountingStorage {
+            inner,
+            fetches: 0,
+            stores: 0,
+        }
+    }
+
+    /// How often `fetch_data_blocking` was called; at 2^64 - 1 the count stays.
+    pub fn fetches(&self) -> u64 {
+        self.fetches
+    }
+
+    /// How often `store_data` was called; at 2^64 - 1 the count stays.
+    pub fn stores(&self) -> u64 {
+        self.stores
+    }
+}
+
+impl<E: Env, S: PagableStorage<E>> PagableStorage<E> for CountingStorage<S> {
+    ghost use Rattle.pagable_examples.specs.Counting.{counted};
+
+    ghost stored = { λ s. S.stored (counted s) };
+
+    ghost is_closed = { λ s. S.is_closed (counted s) };
+
+    ghost failed = { λ s. S.failed (counted s) };
+
+    fn fetch_data_blocking(
+        &mut self,
+        alloc: Global,
+        key: DataKey,
+    ) -> Result<Arc<PagableData>, Error> {
+        self.fetches = self.fetches.saturating_add(1);
+        self.inner.fetch_data_blocking(alloc, key)
+    }
+
+    fn store_data(&mut self, alloc: Global, blob: PagableData) -> Result<DataKey, Error> {
+        self.stores = self.stores.saturating_add(1);
+        self.inner.store_data(alloc, blob)
+    }
+
+    fn flush(&mut self) -> Result<(), Error> {
+        self.inner.flush()
+    }
+
+    fn close(&mut self) {
+        self.inner.close();
+    }
+
+    fn failures(&self) -> u64 {
+        self.inner.failures()
+    }
+}
+
+/// A storage of which one call fails, as another storage is called: `fetch_data_blocking`, `store_data` and `flush`
+/// count as calls.
+#[derive(Drop)]
+pub struct FailingStorage<S> {
+    inner: S,
+    calls_before: u64,
+    has_failed: bool,
+}
+
+impl<S> FailingStorage<S> {
+    /// The storage, which lets `calls_before` calls through and then refuses one with Storage(7).
+    pub fn new(inner: S, calls_before: u64) -> FailingStorage<S> {
+        FailingStorage {
+            inner,
+            calls_before,
+            has_failed: false,
+        }
+    }
+
+    /// Whether this call is the one that fails.
+    fn fails_now(&mut self) -> bool
+        ensures same_inner { self.new.inner ≡ self.old.inner }
+        ensures raised { result ≡ true → (self.old.has_failed ≡ false) × (self.new.has_failed ≡ true) }
+        ensures kept { result ≡ false → self.new.has_failed ≡ self.old.has_failed }
+    {
+        if self.has_failed {
+            return false;
+        }
+        if self.calls_before > 0 {
+            self.calls_before -= 1;
+            return false;
+        }
+        self.has_failed = true;
+        true
+    }
+}
+
+impl<E: Env, S: PagableStorage<E>> PagableStorage<E> for FailingStorage<S> {
+    ghost use Rattle.pagable_examples.specs.Failing.{called, failures_over};
+
+    ghost stored = { λ s. S.stored (called s) };
+
+    ghost is_closed = { λ s. S.is_closed (called s) };
+
+    ghost failed = { λ s. failures_over s (S.failed (called s)) };
+
+    #[tactic(auto, using(crate::proofs::Refusing::refusing))]
+    fn fetch_data_blocking(
+        &mut self,
+        alloc: Global,
+        key: DataKey,
+    ) -> Result<Arc<PagableData>, Error> {
+        if self.fails_now() {
+            return Err(Error::Storage(7));
+        }
+        self.inner.fetch_data_blocking(alloc, key)
+    }
+
+    #[tactic(auto, using(crate::proofs::Refusing::refusing))]
+    fn store_data(&mut self, alloc: Global, blob: PagableData) -> Result<DataKey, Error> {
+        if self.fails_now() {
+            return Err(Error::Storage(7));
+        }
+        self.inner.store_data(alloc, blob)
+    }
+
+    #[tactic(auto, using(crate::proofs::Refusing::refusing))]
+    fn flush(&mut self) -> Result<(), Error> {
+        if self.fails_now() {
+            return Err(Error::Storage(7));
+        }
+        self.inner.flush()
+    }
+
+    #[tactic(auto, using(crate::proofs::Refusing::refusing))]
+    fn close(&mut self) {
+        self.inner.close();
+    }
+
+    fn failures(&self) -> u64 {
+        self.inner
+            .failures()
+            .saturating_add(u64::from(self.has_failed))
+    }
+}

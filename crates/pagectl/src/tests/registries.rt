@@ -1,0 +1,86 @@
+//! Registries of static values, and tagged values that aren't registered. The indices and bytes were worked out by hand. What is
+//! read of both stands in the data of `vectors`.
+
+use crate::tests::equal::equal;
+use pagable::{
+    Error, PagableSerialize, PagableSerializerImpl, PagableTagged, StaticStr, StaticValue,
+    StaticValueEntry,
+};
+use pagable_examples::{Animal, Zoo};
+use std::alloc::Global;
+use std::test::Fail;
+
+/// An environment with the texts b, a and b, given in this order, in which no animal is registered.
+fn zoo(alloc: Global) -> Result<Zoo, Error> {
+    Zoo::new(alloc, &["b", "a", "b"], &[], &[])
+}
+
+/// A text under this index, whether or not it stands there.
+fn word(value: &'static str, index: u32) -> StaticStr {
+    StaticValue(StaticValueEntry { value, index })
+}
+
+/// Whether writing the value comes out so.
+fn is_written<T: PagableSerialize<Zoo>>(
+    alloc: Global,
+    zoo: &Zoo,
+    value: &T,
+    wanted: Result<&[u8], Error>,
+) -> bool {
+    let mut out = PagableSerializerImpl::testing_new(alloc, zoo);
+    if let Err(refusal) = value.pagable_serialize(&mut out) {
+        return wanted == Err(refusal);
+    }
+    match out.finish() {
+        Ok(data) => wanted == Ok(data.bytes.as_slice()),
+        Err(refusal) => wanted == Err(refusal),
+    }
+}
+
+#[test]
+fn equal_static_values_stand_one_after_another(rt: HostRuntime) -> Result<(), Fail> {
+    let zoo = zoo(rt.alloc()).ok().ok_or("no memory")?;
+    let rows = [("a", Some(0)), ("b", Some(1)), ("", None), ("z", None)];
+    for (text, wanted) in rows {
+        equal(&rt, zoo.words.index_of(&text), wanted, text);
+    }
+    let rows = [(0, Some("a")), (1, Some("b")), (2, Some("b")), (3, None)];
+    for (index, wanted) in rows {
+        let found = zoo.words.get(index).map(StaticStr::as_str);
+        equal(&rt, found, wanted, "the text of an index");
+    }
+    Ok(())
+}
+
+#[test]
+fn a_static_value_is_written_under_its_own_index_alone(rt: HostRuntime) -> Result<(), Fail> {
+    let zoo = zoo(rt.alloc()).ok().ok_or("no memory")?;
+    let rows: [(&'static str, u32, Result<&[u8], Error>); 6] = [
+        ("a", 0, Ok(&[0])),
+        ("b", 1, Ok(&[1])),
+        ("b", 2, Ok(&[2])),
+        ("b", 0, Err(Error::Unregistered)),
+        ("a", 1, Err(Error::Unregistered)),
+        ("z", 9, Err(Error::Unregistered)),
+    ];
+    for (text, index, wanted) in rows {
+        let found = is_written(rt.alloc(), &zoo, &word(text, index), wanted);
+        assert!(rt; found, "{text} under {index}");
+    }
+    Ok(())
+}
+
+#[test]
+fn a_tag_need_not_be_registered_to_be_written(rt: HostRuntime) -> Result<(), Fail> {
+    let zoo = zoo(rt.alloc()).ok().ok_or("no memory")?;
+    let rows: [(Animal, Result<&[u8], Error>); 3] = [
+        (Animal::Cat, Ok(b"\x03Cat")),
+        (Animal::Dog(7), Ok(b"\x03Dog\x07")),
+        (Animal::OldCat(5), Err(Error::Unregistered)),
+    ];
+    for (animal, wanted) in rows {
+        let found = is_written(rt.alloc(), &zoo, &animal, wanted);
+        equal(&rt, found, true, animal.pagable_type_tag());
+    }
+    Ok(())
+}

@@ -1,0 +1,70 @@
+//! The storages over another one, and a page-out over one that fails. Blobs in memory stand in the data of `vectors`.
+
+use crate::tests::equal::equal;
+use pagable::paging::page_out_pending;
+use pagable::{DataKey, Error, InMemoryBlobs, PagableData, PagableStorage, Pager, WeighHash};
+use pagable_examples::{CountingStorage, FailingStorage, TextEnv, TextNode};
+use std::alloc::Global;
+use std::test::Fail;
+
+type AnyEnv = TextEnv<WeighHash>;
+
+/// Fetches the blob of a key, and gives the count of its bytes.
+fn fetch<S: PagableStorage<AnyEnv>>(
+    alloc: Global,
+    storage: &mut S,
+    key: DataKey,
+) -> Result<usize, Error> {
+    Ok(storage.fetch_data_blocking(alloc, key)?.bytes.len())
+}
+
+#[test]
+fn storages_over_another(rt: HostRuntime) -> Result<(), Fail> {
+    let alloc = rt.alloc();
+    let key = DataKey::new(90).ok_or("0 is no key")?;
+    let blobs: InMemoryBlobs<AnyEnv> = InMemoryBlobs::new(alloc);
+    let mut storage = CountingStorage::new(FailingStorage::new(blobs, 1));
+    let blob = PagableData {
+        bytes: vec![in alloc; 0, 9]?,
+        arcs: Vec::new(alloc),
+    };
+    let stored = PagableStorage::<AnyEnv>::store_data(&mut storage, alloc, blob);
+    equal(&rt, stored, Ok(key), "stored");
+    let failed = fetch(alloc, &mut storage, key);
+    equal(&rt, failed, Err(Error::Storage(7)), "the call that fails");
+    let failures = PagableStorage::<AnyEnv>::failures(&storage);
+    equal(&rt, failures, 1, "failures");
+    equal(&rt, fetch(alloc, &mut storage, key), Ok(2), "fetched");
+    equal(&rt, (storage.stores(), storage.fetches()), (1, 2), "counts");
+    let flushed = PagableStorage::<AnyEnv>::flush(&mut storage);
+    equal(&rt, flushed, Ok(()), "flush");
+    Ok(())
+}
+
+/// What a page-out of one cell comes to over a storage whose first call fails, or a closed one; what is listed then; and what
+/// another page-out comes to.
+fn paged_out(
+    alloc: Global,
+    is_closed: bool,
+) -> Result<(Option<Error>, usize, Option<Error>), Error> {
+    let mut blobs: InMemoryBlobs<AnyEnv> = InMemoryBlobs::new(alloc);
+    if is_closed {
+        blobs.close();
+    }
+    let mut pager = Pager::new(alloc, FailingStorage::new(blobs, 0), AnyEnv::new());
+    let node = TextNode::new(alloc, "x")?;
+    let cell = pager.new_loose(alloc, node).map_err(|refused| refused.0)?;
+    pager.unpin(cell)?;
+    let first = page_out_pending(alloc, &mut pager).err();
+    let listed = pager.pending();
+    Ok((first, listed, page_out_pending(alloc, &mut pager).err()))
+}
+
+#[test]
+fn what_a_page_out_could_not_store_stays_listed(rt: HostRuntime) {
+    for (is_closed, again) in [(false, None), (true, Some(Error::Closed))] {
+        let found = paged_out(rt.alloc(), is_closed);
+        let wanted = (Some(Error::Storage(7)), 1, again);
+        equal(&rt, found, Ok(wanted), "page-outs");
+    }
+}

@@ -1,3 +1,0 @@
-pub mod Cells
-pub mod Counting
-pub mod Failing

@@ -1,0 +1,73 @@
+//! Rows of events for a machine over a pager of texts.
+
+pub mod answers;
+pub mod asked;
+pub mod looks;
+pub mod nodes;
+
+use crate::calls::asked::{events, split};
+use crate::calls::looks::look;
+use crate::calls::nodes::{CellEnv, CellNode};
+use anyhow::bail;
+use pagable::{
+    InMemoryBlobs, Machine, MachineCall, MachineEvent, PagableData, PagableStorage, Pager,
+};
+use pagable_examples::FailingStorage;
+use std::alloc::Global;
+
+pub type CellStorage = FailingStorage<InMemoryBlobs<CellEnv>>;
+
+pub type CellPager = Pager<CellEnv, CellStorage>;
+
+pub type CellMachine = Machine<CellEnv, CellStorage>;
+
+pub type CellCall = MachineCall<CellNode, PagableData>;
+
+pub type CellEvent = MachineEvent<CellNode, PagableData>;
+
+/// Answers rows of events, by the machine that the last row of the word `machine` has made.
+#[derive(Drop)]
+pub struct Calls {
+    machine: CellMachine,
+}
+
+/// A pager without cells. Of its storage one call fails, after as many others as the word tells, or it is closed.
+pub fn pager_over(alloc: Global, word: &str) -> CellPager {
+    let mut blobs: InMemoryBlobs<CellEnv> = InMemoryBlobs::new(alloc);
+    if word == "closed" {
+        blobs.close();
+    }
+    let calls_before = word.parse::<u64>().unwrap_or(u64::MAX);
+    Pager::new(alloc, FailingStorage::new(blobs, calls_before), CellEnv)
+}
+
+impl Calls {
+    /// A machine without cells, of whose storage no call fails.
+    pub fn new(alloc: Global) -> Calls {
+        Calls {
+            machine: Machine::new(alloc, pager_over(alloc, "")),
+        }
+    }
+
+    /// The answer to a row, in one line.
+    pub fn answer(&mut self, alloc: Global, line: &str) -> anyhow::Result<String> {
+        let (word, rest) = split(line);
+        match word {
+            "machine" => {
+                self.machine = Machine::new(alloc, pager_over(alloc, rest));
+                Ok(String::new(alloc))
+            }
+            "look" => look(alloc, self.machine.pager(), rest.parse::<u64>()?),
+            _ => run(alloc, &mut self.machine, line),
+        }
+    }
+}
+
+/// The answers to a row's events, which the machine gets as one list.
+fn run(alloc: Global, machine: &mut CellMachine, line: &str) -> anyhow::Result<String> {
+    let events = events(alloc, line)?;
+    match machine.run(alloc, events) {
+        Ok(replies) => answers::replies(alloc, replies.as_slice()),
+        Err(_) => bail!("no memory for the replies"),
+    }
+}

@@ -1,0 +1,153 @@
+//! What calls and events answer, in words.
+
+use crate::calls::nodes::CellNode;
+use pagable::{
+    Beginning, Error, EventReply, Found, LoadAnswer, LoadReply, OptionalDataKey, PagableData,
+    Pinning, Reply,
+};
+use std::alloc::Global;
+use std::sync::Arc;
+
+type CellReply = Reply<CellNode, Arc<PagableData>>;
+
+type CellEventReply = EventReply<CellNode, Arc<PagableData>, ()>;
+
+/// A word, and at most two numbers behind it.
+type Told = (&'static str, Option<u128>, Option<u128>);
+
+/// A refusal: its number, and the key or code that it carries.
+fn refused(word: &'static str, refusal: &Error) -> Told {
+    let second = match refusal {
+        Error::NoData(key) => Some(key.get()),
+        Error::Storage(code) => Some(*code as u128),
+        _ => None,
+    };
+    (word, Some(refusal.number() as u128), second)
+}
+
+/// What the begin of a load answers.
+fn begun(begun: &Beginning) -> Told {
+    match begun {
+        Beginning::InMemory => ("memory", None, None),
+        Beginning::Load(load, key) => ("load", Some(load.0 as u128), Some(key.get())),
+    }
+}
+
+/// Why a call is refused, if it is.
+fn refusal(reply: &CellReply) -> Option<&Error> {
+    match reply {
+        Reply::Made(Err((e, _))) | Reply::LoadEnded(Err((e, _))) => Some(e),
+        Reply::Handle(Err(e))
+        | Reply::Pin(Err(e))
+        | Reply::Done(Err(e))
+        | Reply::Count(Err(e))
+        | Reply::KeyFound(Err(e))
+        | Reply::Away(Err(e))
+        | Reply::Node(Err(e))
+        | Reply::Fetched(Err(e))
+        | Reply::Stored(Err(e))
+        | Reply::Begun(Err(e))
+        | Reply::LoadFound(Err(e)) => Some(e),
+        _ => None,
+    }
+}
+
+/// What a call answers that isn't refused, but for a blob.
+fn given(reply: &CellReply) -> Told {
+    let number = match reply {
+        Reply::Made(Ok(handle))
+        | Reply::Handle(Ok(handle))
+        | Reply::LoadEnded(Ok(handle))
+        | Reply::Pin(Ok(Pinning::Pinned(handle)))
+        | Reply::Taken(Some(handle)) => handle.0 as u128,
+        Reply::Count(Ok(count)) | Reply::Length(count) => *count as u128,
+        Reply::Node(Ok(node)) => node.0 as u128,
+        Reply::NodeType(Some(node_type)) => *node_type as u128,
+        Reply::Stored(Ok(key)) | Reply::KeyFound(Ok(OptionalDataKey::Some(key))) => key.get(),
+        Reply::Pin(Ok(Pinning::NeedsLoad(key))) => return ("needs", Some(key.get()), None),
+        Reply::Begun(Ok(beginning)) => return begun(beginning),
+        Reply::Away(Ok(false)) => return ("no", None, None),
+        Reply::Away(Ok(true)) => return ("yes", None, None),
+        Reply::Done(_) => return ("ok", None, None),
+        _ => return ("none", None, None),
+    };
+    ("ok", Some(number), None)
+}
+
+/// Adds a word and its numbers to a text.
+fn push_words(alloc: Global, text: &mut String, told: Told) -> anyhow::Result<()> {
+    let (word, first, second) = told;
+    text.push_str(word)?;
+    push_number(alloc, text, first)?;
+    push_number(alloc, text, second)
+}
+
+/// Adds a number, if there is one.
+fn push_number(alloc: Global, text: &mut String, number: Option<u128>) -> anyhow::Result<()> {
+    if let Some(number) = number {
+        text.push_str(format!(in alloc; " {number}")?.as_str())?;
+    }
+    Ok(())
+}
+
+/// Adds the bytes of a blob in hex.
+fn push_blob(alloc: Global, text: &mut String, blob: &PagableData) -> anyhow::Result<()> {
+    text.push_str("0x")?;
+    text.push_str(hex::encode(alloc, blob.bytes.as_slice())?.as_str())?;
+    Ok(())
+}
+
+/// Adds what a call answers. A value that comes back from the end of a load is told too.
+fn push_call(alloc: Global, text: &mut String, reply: &CellReply) -> anyhow::Result<()> {
+    match reply {
+        Reply::Fetched(Ok(blob)) | Reply::LoadFound(Ok(Found::Blob(blob))) => {
+            return push_blob(alloc, text, blob.as_ref());
+        }
+        _ => {}
+    }
+    let told = match refusal(reply) {
+        Some(e) => refused("refused", e),
+        None => given(reply),
+    };
+    push_words(alloc, text, told)?;
+    if let Reply::LoadEnded(Err((_, Some(_)))) = reply {
+        text.push_str(" back")?;
+    }
+    Ok(())
+}
+
+/// Adds how many steps a load has made, and what ended it.
+fn push_step(alloc: Global, text: &mut String, moved: &LoadReply<CellNode>) -> anyhow::Result<()> {
+    push_words(alloc, text, ("step", Some(moved.steps as u128), None))?;
+    let told = match &moved.ended {
+        Some(LoadAnswer::Pinned(handle)) => (" pinned", Some(handle.0 as u128), None),
+        Some(LoadAnswer::Refused(e)) => refused(" refused", e),
+        Some(LoadAnswer::Read(_)) => (" read", None, None),
+        None => return Ok(()),
+    };
+    push_words(alloc, text, told)
+}
+
+/// Adds what an event answers.
+fn push(alloc: Global, text: &mut String, reply: &CellEventReply) -> anyhow::Result<()> {
+    let told = match reply {
+        EventReply::CallReply(reply) => return push_call(alloc, text, reply),
+        EventReply::LoadMoved(Ok(moved)) => return push_step(alloc, text, moved),
+        EventReply::Started(Ok(beginning)) => begun(beginning),
+        EventReply::Started(Err(e)) | EventReply::LoadMoved(Err(e)) => refused("refused", e),
+        _ => return Ok(()),
+    };
+    push_words(alloc, text, told)
+}
+
+/// The answers of a list, in the order of its events.
+pub fn replies(alloc: Global, replies: &[CellEventReply]) -> anyhow::Result<String> {
+    let mut text = String::new(alloc);
+    for reply in replies {
+        if !text.is_empty() {
+            text.push_str("; ")?;
+        }
+        push(alloc, &mut text, reply)?;
+    }
+    Ok(text)
+}

@@ -1,0 +1,76 @@
+//! Lines, and their answers.
+
+use crate::blobs::{self, bytes_of};
+use crate::calls::Calls;
+use crate::{drawn, own};
+use row_values::carried::{AnyEnv, written};
+use serde_json::Value;
+use std::alloc::{AllocError, Global};
+
+/// What comes of the bytes of a type.
+fn read_bytes(alloc: Global, name: &str, bytes: &[u8]) -> Result<String, AllocError> {
+    match own::answer(alloc, name, bytes) {
+        Some(outcome) => outcome.text(alloc, bytes),
+        None => String::from_str(alloc, "no such type"),
+    }
+}
+
+/// What every front of an input but the whole comes to, which has to be the same.
+fn cut(alloc: Global, name: &str, input: &str) -> anyhow::Result<String> {
+    let bytes = bytes_of(alloc, input)?;
+    let mut common = String::new(alloc);
+    for end in 0..bytes.len() {
+        let front = &bytes.as_slice()[..end];
+        let answer = read_bytes(alloc, name, front)?;
+        if end > 0 && answer != common {
+            return Ok(String::from_str(alloc, "unlike")?);
+        }
+        common = answer;
+    }
+    Ok(common)
+}
+
+/// What the JSON value of a text is written as.
+fn json(alloc: Global, text: &str) -> Result<String, AllocError> {
+    let Ok(value) = Value::from_str(alloc, text) else {
+        return String::from_str(alloc, "no JSON");
+    };
+    match written(alloc, &AnyEnv, &value) {
+        Ok(bytes) => hex::encode(alloc, bytes.as_slice()),
+        Err(number) => format!(in alloc; "refused {number}"),
+    }
+}
+
+/// The answer to an input of a line.
+fn answer_input(alloc: Global, name: &str, verb: &str, input: &str) -> anyhow::Result<String> {
+    match verb {
+        "read" => Ok(read_bytes(alloc, name, bytes_of(alloc, input)?.as_slice())?),
+        "cut" => cut(alloc, name, input),
+        _ => blobs::answer(alloc, input),
+    }
+}
+
+/// The answers to the inputs of a line, in their order.
+fn answer_all(alloc: Global, name: &str, verb: &str, inputs: &str) -> anyhow::Result<String> {
+    let mut answers = String::new(alloc);
+    for input in inputs.split(' ') {
+        if !answers.is_empty() {
+            answers.push_str("; ")?;
+        }
+        let answer = answer_input(alloc, name, verb, input)?;
+        answers.push_str(answer.as_str())?;
+    }
+    Ok(answers)
+}
+
+/// The answer to a line: of values, which has a name, a verb, and what the verb is about; or of calls.
+pub fn answer(alloc: Global, calls: &mut Calls, line: &str) -> anyhow::Result<String> {
+    let (name, rest) = line.split_once(' ').unwrap_or((line, ""));
+    let (verb, inputs) = rest.split_once(' ').unwrap_or((rest, ""));
+    match verb {
+        "write" => Ok(json(alloc, inputs)?),
+        "drawn" => drawn::answer(alloc, name, inputs.parse::<u32>()?),
+        "read" | "cut" | "weigh" => answer_all(alloc, name, verb, inputs),
+        _ => calls.answer(alloc, line),
+    }
+}

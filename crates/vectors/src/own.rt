@@ -1,0 +1,72 @@
+//! Types of one's own, and static and tagged values by an environment's registries.
+
+use pagable::{StaticBytes, StaticStr};
+use pagable_examples::{Animal, AnimalReader, Expression, Sheet, Sighting, Ticket, Zoo};
+use row_values::carried::{AnyEnv, read, replay_eagerly, replay_in};
+use row_values::outcome::Outcome;
+use row_values::types;
+use std::alloc::Global;
+
+/// What comes of a static text, which is shown.
+fn static_text(alloc: Global, zoo: &Zoo, input: &[u8]) -> Option<Outcome> {
+    let outcome = replay_in::<Zoo, StaticStr>(alloc, zoo, input)?;
+    let text = match read::<Zoo, StaticStr>(alloc, zoo, input) {
+        Ok(value) => String::from_str(alloc, value.as_str()).ok(),
+        Err(_) => None,
+    };
+    Some(outcome.with_shown(text))
+}
+
+/// What comes of static bytes, which are shown as a text.
+fn static_bytes(alloc: Global, zoo: &Zoo, input: &[u8]) -> Option<Outcome> {
+    let outcome = replay_in::<Zoo, StaticBytes>(alloc, zoo, input)?;
+    let text = match read::<Zoo, StaticBytes>(alloc, zoo, input) {
+        Ok(value) => String::from_utf8(value.as_bytes().to_vec(alloc).ok()?).ok(),
+        Err(_) => None,
+    };
+    Some(outcome.with_shown(text))
+}
+
+/// An environment with four texts and three lists of bytes, in which these readers are registered.
+fn zoo(alloc: Global, readers: &[AnimalReader]) -> Option<Zoo> {
+    let words = ["alpha", "beta", "gamma", "delta"];
+    let blobs: [&'static [u8]; 3] = [b"hello", b"world", b""];
+    Zoo::new(alloc, &words, &blobs, readers).ok()
+}
+
+/// What comes of a static value or a tagged one; None for another name.
+fn registered(alloc: Global, zoo: &Zoo, name: &str, input: &[u8]) -> Option<Outcome> {
+    match name {
+        "StaticStr" => static_text(alloc, zoo, input),
+        "StaticBytes" => static_bytes(alloc, zoo, input),
+        "Animal" => replay_in::<Zoo, Animal>(alloc, zoo, input),
+        "Sighting" => replay_in::<Zoo, Sighting>(alloc, zoo, input),
+        _ => None,
+    }
+}
+
+/// The readers that a name tells behind a colon, in their order: a tag's later registration counts.
+fn readers(names: &str) -> &'static [AnimalReader] {
+    use AnimalReader::{Cat, Dog, OldCat};
+    match names {
+        "Cat" => &[Cat],
+        "Cat,OldCat" => &[Cat, OldCat],
+        "OldCat,Dog,Cat" => &[OldCat, Dog, Cat],
+        "Dog" => &[Dog],
+        _ => &[],
+    }
+}
+
+/// What comes of an input of the type of this name; None for an unknown name.
+pub fn answer(alloc: Global, name: &str, input: &[u8]) -> Option<Outcome> {
+    if let Some(outcome) = types::answer(alloc, name, input) {
+        return Some(outcome);
+    }
+    match name {
+        "Expression" => return replay_in::<Sheet, Expression>(alloc, &Sheet, input),
+        "Ticket" => return replay_eagerly::<AnyEnv, Ticket>(alloc, &AnyEnv, input),
+        _ => {}
+    }
+    let (name, names) = name.split_once(':').unwrap_or((name, ""));
+    registered(alloc, &zoo(alloc, readers(names))?, name, input)
+}

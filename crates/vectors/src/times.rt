@@ -1,0 +1,113 @@
+//! How long it takes to write and to read values. What is written and read of the same values is checked by rows of data.
+
+mod cells;
+mod outcome;
+
+use crate::times::cells::cells;
+use crate::times::outcome::Outcome;
+use anyhow::ensure;
+use indexmap::IndexMap;
+use pagable::{
+    NoReferences, PagableDeserialize, PagableDeserializerImpl, PagableSerialize,
+    PagableSerializerImpl, SessionContext, WeighHash,
+};
+use pagable_examples::{TextEnv, input_of};
+use std::alloc::Global;
+use std::collections::BTreeMap;
+use std::time::{Clock, Instant};
+
+/// The values hold no references, so any environment will do.
+type AnyEnv = TextEnv<WeighHash>;
+
+/// All rows in their order, and how many values each has.
+const ROWS: [(&'static str, u32); 6] = [
+    ("numbers", 1_000_000),
+    ("bytes", 1_000_000),
+    ("texts", 200_000),
+    ("maps", 400),
+    ("ordered", 100_000),
+    ("cells", 10_000),
+];
+
+/// Reads a `T` from these bytes and writes it again: what was written, and how long both took.
+fn once<'de, T>(
+    clock: &impl Clock,
+    alloc: Global,
+    bytes: &'de [u8],
+) -> anyhow::Result<(Vec<u8>, Outcome)>
+where
+    T: PagableSerialize<AnyEnv> + PagableDeserialize<'de, AnyEnv> + Drop,
+{
+    let env = AnyEnv::new();
+    let session = SessionContext::new(alloc);
+    let start = Instant::now(clock)?;
+    let mut source = PagableDeserializerImpl::new(bytes, &[], NoReferences::new(&env, &session));
+    let value = T::pagable_deserialize(alloc, &mut source)?;
+    let read = start.elapsed(clock)?;
+    let start = Instant::now(clock)?;
+    let mut out = PagableSerializerImpl::testing_new(alloc, &env);
+    value.pagable_serialize(&mut out)?;
+    let written = out.finish()?.bytes;
+    let write = start.elapsed(clock)?;
+    let bytes = written.len();
+    Ok((written, Outcome { bytes, write, read }))
+}
+
+/// As `once`, of the type of this name.
+fn once_of(
+    clock: &impl Clock,
+    alloc: Global,
+    name_of_type: &str,
+    bytes: &[u8],
+) -> anyhow::Result<(Vec<u8>, Outcome)> {
+    match name_of_type {
+        "Vec<u64>" => once::<Vec<u64>>(clock, alloc, bytes),
+        "Vec<u8>" => once::<Vec<u8>>(clock, alloc, bytes),
+        "Vec<String>" => once::<Vec<String>>(clock, alloc, bytes),
+        "IndexMap<String,u32>" => once::<IndexMap<String, u32>>(clock, alloc, bytes),
+        _ => once::<BTreeMap<u64, BTreeMap<u64, u64>>>(clock, alloc, bytes),
+    }
+}
+
+/// Reads what was written, which has to be written alike.
+fn again(
+    clock: &impl Clock,
+    alloc: Global,
+    name_of_type: &str,
+    bytes: &[u8],
+) -> anyhow::Result<Outcome> {
+    let (written, outcome) = once_of(clock, alloc, name_of_type, bytes)?;
+    ensure!(written.as_slice() == bytes, "another value was read");
+    Ok(outcome)
+}
+
+/// Runs a row so often, and tells its shortest times.
+fn run_row(
+    clock: &impl Clock,
+    alloc: Global,
+    name: &str,
+    count: u32,
+    runs: u64,
+) -> anyhow::Result<Outcome> {
+    let Some((name_of_type, mut bytes)) = input_of(alloc, name, count)? else {
+        return cells(clock, alloc, count, runs);
+    };
+    // A map is drawn in another order than it is written in, so the bytes that are timed are those of a first writing.
+    let (written, _) = once_of(clock, alloc, name_of_type, bytes.as_slice())?;
+    bytes = written;
+    let mut outcome = again(clock, alloc, name_of_type, bytes.as_slice())?;
+    for _ in 1..runs {
+        outcome = outcome.with_shorter(again(clock, alloc, name_of_type, bytes.as_slice())?);
+    }
+    Ok(outcome)
+}
+
+/// Runs the row of this name, or every one, so often, and prints the shortest times.
+pub fn run(rt: &HostRuntime, wanted: Option<&str>, runs: u64) -> anyhow::Result<()> {
+    for (name, count) in ROWS {
+        if wanted.is_none() || wanted == Some(name) {
+            run_row(rt, rt.alloc(), name, count, runs)?.print(rt, name)?;
+        }
+    }
+    Ok(())
+}
