@@ -39,7 +39,7 @@ pub use pagable_codec::parts;
 pub use pagable_core::{
     InMemoryBlobs, NoReferences, PagableData, PagableDeserializerImpl, PagableKeys,
     PagableSerializerImpl, PagableStorage, References, SerializedData, SerializerForPaging,
-    WeighHash, context, storage,
+    Sha256Key, WeighHash, context, storage,
 };
 pub use pagable_flavors as flavors;
 pub use pagable_flavors::{DataKey, Error, OptionalDataKey, PagableSlice, PagableVecFlavor};

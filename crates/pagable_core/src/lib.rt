@@ -11,6 +11,7 @@ pub use context::{
 };
 pub use storage::data::PagableData;
 pub use storage::in_memory::InMemoryBlobs;
+pub use storage::sha256::Sha256Key;
 pub use storage::support::SerializerForPaging;
 pub use storage::traits::PagableStorage;
 pub use storage::weigh::WeighHash;

@@ -9,35 +9,54 @@ mod session;
 mod tests;
 
 use crate::serve::serve;
-use pagable::WeighHash;
+use pagable::{Sha256Key, WeighHash};
 use std::io::{BufReader, BufWriter};
 use std::process::ExitCode;
 use std::{env, io};
 
-/// Whether the words after the program's name are `weigh` alone.
-fn is_weigh(rt: &(impl env::Env + Alloc)) -> io::Result<bool> {
+/// The hash of keys, by its name.
+#[derive(Drop)]
+enum HashName {
+    Weigh,
+    Sha256,
+}
+
+/// The hash that this word names.
+fn hash_of(word: &str) -> Option<HashName> {
+    match word {
+        "weigh" => Some(HashName::Weigh),
+        "sha256" => Some(HashName::Sha256),
+        _ => None,
+    }
+}
+
+/// The hash that the words after the program's name ask for: one word, which names it.
+fn wanted_hash(rt: &(impl env::Env + Alloc)) -> io::Result<Option<HashName>> {
     let mut words = match env::args(rt) {
         Ok(words) => words,
         // A word that isn't text.
-        Err(e) if e.kind() == io::ErrorKind::InvalidData => return Ok(false),
+        Err(e) if e.kind() == io::ErrorKind::InvalidData => return Ok(None),
         Err(e) => return Err(e),
     };
     let _program = words.next();
     match words.next() {
-        Some(word) => Ok(word.as_str() == "weigh" && words.next().is_none()),
-        None => Ok(false),
+        Some(word) if words.next().is_none() => Ok(hash_of(word.as_str())),
+        _ => Ok(None),
     }
 }
 
 fn run(rt: &HostRuntime) -> io::Result<ExitCode> {
-    if !is_weigh(rt)? {
+    let Some(hash) = wanted_hash(rt)? else {
         eprintln!(rt; "usage: pagectl weigh|sha256")?;
         return Ok(ExitCode::from(2));
-    }
+    };
     let alloc = rt.alloc();
     let mut reader = BufReader::new(alloc, rt.reader())?;
     let mut writer = BufWriter::new(alloc, io::writer(rt))?;
-    serve::<WeighHash, _, _>(alloc, &mut reader, &mut writer)?;
+    match hash {
+        HashName::Weigh => serve::<WeighHash, _, _>(alloc, &mut reader, &mut writer)?,
+        HashName::Sha256 => serve::<Sha256Key, _, _>(alloc, &mut reader, &mut writer)?,
+    }
     Ok(ExitCode::SUCCESS)
 }
 

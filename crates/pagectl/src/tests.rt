@@ -10,4 +10,5 @@ mod patterns;
 mod references;
 mod registries;
 mod session;
+mod sha256;
 mod storage;

@@ -4,6 +4,7 @@ ghost use Rattle.std.specs.Prelude.{◌≡◌};
 ghost use Rattle.pagable_model.specs.Blob.{key_of, number_of_hash};
 ghost use Rattle.pagable_core.specs.Data.{blob_of};
 
+pub use crate::storage::sha256::Sha256Key;
 pub use crate::storage::weigh::WeighHash;
 pub use pagable_codec::KeyHash;
 pub use pagable_flavors::{DataKey, OptionalDataKey};
