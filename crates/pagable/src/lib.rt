@@ -1,15 +1,28 @@
 //! Content-addressed paging of shared values: a pager that writes values to a store of blobs under the hash of their
 //! content, drops them from memory when no handle pins them, and reads them back on demand.
 //!
-//! All public names stand at the root, and again in modules that are called as those of the original crate.
+//! All public names stand at the root, and again in modules that are called as those of the original crate. Each module
+//! names its items: to pass on a module of a crate below would have every check above read all that stands in it.
 #![tactic(auto)]
 
 pub mod laws;
-pub mod paging;
 
 /// The numbers of cells and handles, and the references that values hold.
 pub mod arc_erase {
     pub use pagable_model::{ArcRef, HandleNumber, Identity, Kind, NodeNumber};
+}
+
+/// The forms in which values are written and read, with what they refer to, and the keys of blobs.
+pub mod context {
+    pub use pagable_core::{
+        NoReferences, PagableDeserializerImpl, PagableKeys, PagableSerializerImpl, References,
+        SerializedData,
+    };
+}
+
+/// The writer and the reader of the wire format.
+pub mod flavors {
+    pub use pagable_flavors::{PagableSlice, PagableVecFlavor};
 }
 
 /// The carried types that aren't std's or those of a crate below.
@@ -19,6 +32,7 @@ pub mod impls {
         HasStaticValueRegistry, StaticBytes, StaticStr, StaticValue, StaticValueEntry,
         StaticValueRegistry,
     };
+    pub use pagable_traits::impls::maps::write_entry;
     pub use pagable_traits::{PathText, Thin, serialize_slice, serialize_str};
 }
 
@@ -32,16 +46,68 @@ pub mod pagable_arc {
     pub use pagable_pager::{Beginning, Mode, Owner, Pager, Pinning, Want};
 }
 
+/// Pinning and page-out by the pure calls of the pager, one after the other, for values without references.
+pub mod paging {
+    pub use pagable_machine::paging::{page_out_pending, pin};
+}
+
+/// The parts of which the bodies of a caller's own types are made.
+pub mod parts {
+    pub use pagable_codec::parts::{places_for, read_count, read_flag, write_count, write_flag};
+}
+
+/// Blobs, their keys, and what stores them.
+pub mod storage {
+    /// A blob, and what its key is made of.
+    pub mod data {
+        pub use pagable_core::{PagableData, Sha256Key, WeighHash};
+        pub use pagable_flavors::{DataKey, OptionalDataKey};
+        pub use pagable_traits::KeyHash;
+    }
+
+    /// A store in memory.
+    pub mod in_memory {
+        pub use pagable_core::InMemoryBlobs;
+    }
+
+    /// The serializer of one cell's value.
+    pub mod support {
+        pub use pagable_core::SerializerForPaging;
+    }
+
+    /// What a store answers.
+    pub mod traits {
+        pub use pagable_core::PagableStorage;
+    }
+}
+
+/// What a value can be written to and read from, and the traits of values.
+pub mod traits {
+    pub use pagable_model::PagableCursor;
+    pub use pagable_traits::{
+        Canonical, Carried, EagerlyCarried, OneMeaning, Pagable, PagableBoxDeserialize,
+        PagableDeserialize, PagableDeserializeOwned, PagableDeserializer, PagableEagerDeserialize,
+        PagableEagerSerialize, PagableKey, PagableOrdKey, PagableSerialize, PagableSerializer,
+        ReadBack, SessionContext,
+    };
+}
+
+/// Tagged types, and the registries of their readers.
+pub mod typetag {
+    pub use pagable_registries::{
+        ForTag, HasTypetagRegistry, PagableRegisteredFor, PagableTagged, TagReader,
+        TypetagRegistration, TypetagRegistry, deserialize_tagged,
+    };
+}
+
 /// What a call of this crate answers: what it gives, or why it is refused.
 pub type Result<O> = std::result::Result<O, Error>;
 
-pub use pagable_codec::parts;
 pub use pagable_core::{
     InMemoryBlobs, NoReferences, PagableData, PagableDeserializerImpl, PagableKeys,
     PagableSerializerImpl, PagableStorage, References, SerializedData, SerializerForPaging,
-    Sha256Key, WeighHash, context, storage,
+    Sha256Key, WeighHash,
 };
-pub use pagable_flavors as flavors;
 pub use pagable_flavors::{DataKey, Error, OptionalDataKey, PagableSlice, PagableVecFlavor};
 pub use pagable_machine::{
     EventReply, Found, LoadAnswer, LoadReply, Machine, MachineCall, MachineEvent, Reply, read_value,
@@ -54,9 +120,8 @@ pub use pagable_patterns::SavedRegex;
 pub use pagable_registries::{
     ForTag, HasStaticValueRegistry, HasTypetagRegistry, PagableRegisteredFor, PagableTagged,
     StaticBytes, StaticStr, StaticValue, StaticValueEntry, StaticValueRegistry, TagReader,
-    TypetagRegistration, TypetagRegistry, deserialize_tagged, typetag,
+    TypetagRegistration, TypetagRegistry, deserialize_tagged,
 };
-pub use pagable_traits as traits;
 pub use pagable_traits::{
     Canonical, Carried, EagerlyCarried, Env, InNode, KeyHash, NodeSet, OfNode, OneMeaning, Pagable,
     PagableBoxDeserialize, PagableDeserialize, PagableDeserializeOwned, PagableDeserializer,

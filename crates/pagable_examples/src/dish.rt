@@ -11,7 +11,7 @@ ghost use Rattle.pagable.specs.ReadBack.{both_is_read, text_is_read, unsigned_is
 ghost use Rattle.pagable_examples.specs.Dishes.{dish_means, dish_meaning, dish_is_meaning, dish_has_meaning, dish_single, dish_is_same};
 ghost use Rattle.std.specs.Int.{w16};
 
-use pagable::traits::impls::maps::write_entry;
+use pagable::impls::write_entry;
 use pagable::{
     Canonical, Carried, Env, Error, OneMeaning, PagableDeserialize, PagableDeserializer,
     PagableKey, PagableSerialize, PagableSerializer, ReadBack,

@@ -13,7 +13,7 @@ ghost use Rattle.pagable_examples.specs.Words.{word};
 
 use crate::animal::Animal;
 use crate::zoo::Zoo;
-use pagable::traits::impls::maps::write_entry;
+use pagable::impls::write_entry;
 use pagable::{
     Carried, Error, PagableDeserialize, PagableDeserializer, PagableSerialize, PagableSerializer,
     StaticStr,

@@ -6,6 +6,7 @@ mod fetched;
 pub mod laws;
 mod list;
 pub mod machine;
+pub mod paging;
 pub mod reading;
 mod single;
 mod steps;

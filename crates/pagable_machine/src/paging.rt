@@ -1,12 +1,12 @@
 //! Pinning and page-out by the pure calls of the pager, one after the other, for values without references.
 
+use crate::reading::read_value;
 use either::Either;
+use pagable_codec::{Env, NodeSet, SessionContext};
 use pagable_core::{PagableData, PagableStorage, SerializerForPaging};
 use pagable_flavors::Error;
-use pagable_machine::read_value;
 use pagable_model::{HandleNumber, LoadNumber};
 use pagable_pager::{Beginning, Pager, Pinning, Want};
-use pagable_traits::{Env, NodeSet, SessionContext};
 use std::alloc::Global;
 use std::sync::Arc;
 
@@ -162,32 +162,26 @@ fn store<E: Env, S: PagableStorage<E>>(
 where
     E::Node: NodeSet<E>,
 {
-    let blob = written(alloc, pager, pinned)?;
-    let key = pager.store(alloc, blob)?;
-    pager.set_data_key(entry, key)
-}
-
-/// The value of a pinned cell as a blob, written in a session of its own.
-fn written<E: Env, S: PagableStorage<E>>(
-    alloc: Global,
-    pager: &Pager<E, S>,
-    pinned: HandleNumber,
-) -> Result<PagableData, Error>
-where
-    E::Node: NodeSet<E>,
-{
     let Some(value) = pager.value(pinned)? else {
         return Err(Error::NoSuchHandle);
     };
+    let bytes = written(alloc, pager.env(), value)?;
+    let arcs = Vec::new(alloc);
+    let key = pager.store(alloc, PagableData { bytes, arcs })?;
+    pager.set_data_key(entry, key)
+}
+
+/// The bytes of a value without references, written in a session of its own.
+fn written<E: Env>(alloc: Global, env: &E, value: &E::Node) -> Result<Vec<u8>, Error>
+where
+    E::Node: NodeSet<E>,
+{
     let session = SessionContext::new(alloc);
-    let mut serializer = SerializerForPaging::new(alloc, pager.env(), &session);
+    let mut serializer = SerializerForPaging::new(alloc, env, &session);
     value.write(&mut serializer)?;
     let (bytes, refs) = serializer.finish();
     if !refs.is_empty() {
         return Err(Error::NoSuchHandle);
     }
-    Ok(PagableData {
-        bytes,
-        arcs: Vec::new(alloc),
-    })
+    Ok(bytes)
 }
