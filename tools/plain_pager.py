@@ -1,14 +1,17 @@
 """A plain pager and its machine: short and slow, written from the rules of cells and not from the crates, to be held against
-them by plain_rows.py. What can be counted or looked up is counted and looked up anew each time."""
+them by plain_rows.py. What can be counted or looked up is counted and looked up anew each time. Memory is always there."""
 
-from dataclasses import dataclass
+from dataclasses import dataclass, field
 
-UNEXPECTED_END, BAD_VARINT, BAD_UTF8, TOO_LONG, NO_DATA = 1, 2, 4, 6, 16
-WRONG_KIND, NO_SUCH_HANDLE, WRONG_MODE, NOT_YOURS = 17, 18, 19, 20
+UNEXPECTED_END, BAD_VARINT, BAD_BOOL, BAD_UTF8, TOO_LONG, TOO_DEEP = 1, 2, 3, 4, 6, 7
+NO_MORE_KEYS, NO_DATA, WRONG_KIND, NO_SUCH_HANDLE, WRONG_MODE, NOT_YOURS = 15, 16, 17, 18, 19, 20
 STORAGE, KEY_TAKEN, CLOSED = 23, 24, 25
-LOOSE_PINNED, LOOSE_UNPINNED, PINNED = "loose pinned", "loose unpinned", "Pinned"
+ORDER = (NO_SUCH_HANDLE, NOT_YOURS, WRONG_MODE, WRONG_KIND)
+LOOSE_PINNED, LOOSE_UNPINNED, PINNED, SHARED = "loose pinned", "loose unpinned", "Pinned", "Shared"
 LOOSE = (LOOSE_PINNED, LOOSE_UNPINNED)
+ALL_MODES = (*LOOSE, PINNED, SHARED)
 CALLER, LIST = "caller", "list"
+DEEPEST = 128
 
 
 class Refused(Exception):
@@ -23,6 +26,31 @@ class Refused(Exception):
         return " ".join(words + (["back"] if self.back else []))
 
 
+def refuse_first(causes, back=False):
+    """Of several causes the first in their order is told."""
+    for number in ORDER:
+        if number in causes:
+            raise Refused(number, back=back)
+
+
+def type_of(kind):
+    return kind // 3
+
+
+def is_lazy(kind):
+    return kind % 3 == 1
+
+
+def mode_of(kind):
+    """The mode of the handles that a reading makes for references of a kind."""
+    return (SHARED, LOOSE_UNPINNED, PINNED)[kind % 3]
+
+
+def modes_of(kind):
+    """The modes that a handle may have where a reference of the kind names it."""
+    return ((SHARED,), LOOSE, (PINNED,))[kind % 3]
+
+
 @dataclass
 class Blob:
     """A value as it is stored: bytes, and the keys of what it refers to."""
@@ -30,15 +58,67 @@ class Blob:
     data: bytes
     arcs: tuple = ()
 
+    def preimage(self):
+        return len(self.arcs).to_bytes(8, "little") + self.data + b"".join(arc.to_bytes(16, "little") for arc in self.arcs)
+
     def key(self):
         """The weighing hash of the preimage: the sum of each byte times its place, counted from 1."""
-        preimage = len(self.arcs).to_bytes(8, "little") + self.data
-        preimage += b"".join(arc.to_bytes(16, "little") for arc in self.arcs)
-        return sum(place * byte for place, byte in enumerate(preimage, 1)) % 2**128 or 1
+        return sum(place * byte for place, byte in enumerate(self.preimage(), 1)) % 2**128 or 1
 
     def text(self):
         arcs = ":" + ",".join(map(str, self.arcs)) if self.arcs else ""
         return (self.data.hex() or "-") + arcs
+
+
+@dataclass
+class Value:
+    """What a node holds: content of its type, and its references in their order, each a kind and a handle."""
+
+    node_type: int
+    content: object
+    references: list = field(default_factory=list)
+
+
+class Bytes:
+    """The bytes and keys of a blob, read from the front."""
+
+    def __init__(self, blob):
+        self.rest, self.keys = blob.data, list(blob.arcs)
+
+    def take(self, count):
+        if len(self.rest) < count:
+            raise Refused(UNEXPECTED_END)
+        taken, self.rest = self.rest[:count], self.rest[count:]
+        return taken
+
+    def length(self):
+        """A varint of at most ten bytes."""
+        ends = [place for place, byte in enumerate(self.rest[:10], 1) if byte < 128]
+        if not ends and len(self.rest) < 10:
+            raise Refused(UNEXPECTED_END)
+        if not ends or ends[0] == 10 and self.rest[9] > 1:
+            raise Refused(BAD_VARINT)
+        length = sum(byte % 128 << 7 * place for place, byte in enumerate(self.take(ends[0])))
+        if length > 2**32 - 1:
+            raise Refused(TOO_LONG)
+        return length
+
+    def string(self):
+        try:
+            return self.take(self.length()).decode()
+        except UnicodeDecodeError:
+            raise Refused(BAD_UTF8) from None
+
+    def bool(self):
+        byte = self.take(1)[0]
+        if byte > 1:
+            raise Refused(BAD_BOOL)
+        return byte == 1
+
+    def reference(self):
+        if not self.keys:
+            raise Refused(NO_MORE_KEYS)
+        return self.keys.pop(0)
 
 
 class TextTypes:
@@ -47,36 +127,26 @@ class TextTypes:
     COUNT = 2
 
     @staticmethod
-    def write(text):
-        """The blob of a text that is below 128 bytes."""
-        return Blob(bytes([len(text.encode())]) + text.encode())
+    def write(value):
+        """The bytes of a text that is below 128 bytes."""
+        text = value.content.encode()
+        return bytes([len(text)]) + text
 
     @classmethod
     def read(cls, node_type, blob):
-        """The text that a blob reads as: a varint of at most ten bytes tells its length. What is left over is accepted."""
+        """Asks for each reference by kind and key, gets its handle, and ends in the value. A text has none. What is left
+        over is accepted."""
         if node_type >= cls.COUNT:
             raise Refused(WRONG_KIND)
-        ends = [place for place, byte in enumerate(blob.data[:10], 1) if byte < 128]
-        if not ends and len(blob.data) < 10:
-            raise Refused(UNEXPECTED_END)
-        if not ends or ends[0] == 10 and blob.data[9] > 1:
-            raise Refused(BAD_VARINT)
-        length = sum(byte % 128 << 7 * place for place, byte in enumerate(blob.data[:ends[0]]))
-        if length > 2**32 - 1:
-            raise Refused(TOO_LONG)
-        if len(blob.data) < ends[0] + length:
-            raise Refused(UNEXPECTED_END)
-        try:
-            return blob.data[ends[0]:ends[0] + length].decode()
-        except UnicodeDecodeError:
-            raise Refused(BAD_UTF8) from None
+        return Value(node_type, Bytes(blob).string())
+        yield
 
 
 class Storage:
     """A map of blobs, of which one call may fail once, after so many others; or which is closed."""
 
-    def __init__(self, calls_before=None, closed=False):
-        self.blobs, self.calls_before, self.closed = {}, calls_before, closed
+    def __init__(self, calls_before=None, closed=False, key_of=Blob.key):
+        self.blobs, self.calls_before, self.closed, self.key_of = {}, calls_before, closed, key_of
 
     def called(self):
         if self.calls_before is None:
@@ -96,19 +166,23 @@ class Storage:
         self.called()
         if self.closed:
             raise Refused(CLOSED)
-        key = blob.key()
+        key = self.key_of(blob)
         if self.blobs.setdefault(key, blob) != blob:
             raise Refused(KEY_TAKEN)
         return key
 
+    def close(self):
+        self.blobs, self.closed = {}, True
+
 
 @dataclass
 class Cell:
-    """A shared value; None where it is away."""
+    """A node; its value is None where it is away."""
 
     node_type: int
     key: int
-    value: str
+    value: Value
+    shared: bool = False
 
 
 @dataclass
@@ -120,22 +194,39 @@ class Handle:
 
 @dataclass
 class Load:
-    """An open load: the handle by which it was begun, its own handle, what it reads, and how far a machine has got."""
+    """An open load: the handle by which it was begun and its cell, or neither; its root; and how far a machine has got."""
 
     begun_by: int
-    own: int
     node: int
     key: int
-    blob: Blob = None
+    node_type: int
+    frames: list = field(default_factory=list)
     steps: int = 0
 
 
-class Pager:
-    """Cells, handles, the list and open loads by their numbers; one method for each call."""
+@dataclass
+class Begun:
+    load: int
+    key: int
+
+    def text(self):
+        return f"load {self.load} {self.key}"
+
+
+@dataclass
+class Needs:
+    key: int
+
+    def text(self):
+        return f"needs {self.key}"
+
+
+class Tables:
+    """Cells, handles, the list, the cache and open loads by their numbers, and the steps that calls share."""
 
     def __init__(self, storage):
-        self.storage = storage
-        self.cells, self.handles, self.loads, self.list = {}, {}, {}, []
+        self.storage, self.closed = storage, False
+        self.cells, self.handles, self.loads, self.cache, self.list = {}, {}, {}, {}, []
         self.last_node = self.last_handle = self.last_load = 0
 
     # ---- what is looked up
@@ -145,14 +236,31 @@ class Pager:
             raise Refused(NO_SUCH_HANDLE)
         return self.handles[number]
 
+    def cause(self, number, owner, modes, node_type=None):
+        """Why a handle isn't such a one, or None."""
+        if number not in self.handles:
+            return NO_SUCH_HANDLE
+        handle = self.handles[number]
+        if handle.owner != owner:
+            return NOT_YOURS
+        if handle.mode not in modes:
+            return WRONG_MODE
+        return None if node_type in (None, self.cells[handle.node].node_type) else WRONG_KIND
+
+    def cause_of_references(self, owner, references):
+        """The first faulty reference decides. A handle that is named again is faulty at its second place."""
+        named = set()
+        for kind, number in references:
+            cause = NOT_YOURS if number in named else self.cause(number, owner, modes_of(kind), type_of(kind))
+            if cause is not None:
+                return cause
+            named.add(number)
+        return None
+
     def own(self, number, *modes):
         """A handle of the caller's, of one of these modes."""
-        handle = self.live(number)
-        if handle.owner != CALLER:
-            raise Refused(NOT_YOURS)
-        if handle.mode not in modes:
-            raise Refused(WRONG_MODE)
-        return handle
+        refuse_first([self.cause(number, CALLER, modes)])
+        return self.handles[number]
 
     def open(self, number):
         if number not in self.loads:
@@ -165,45 +273,173 @@ class Pager:
     def is_away(self, node):
         return self.cells[node].value is None
 
-    # ---- steps that calls share
+    def usable(self, kind, key):
+        """The node that the cache has, if it is live and, for a Pinned reference, in memory; else None."""
+        node = self.cache.get((kind, key))
+        gone = node not in self.cells or mode_of(kind) == PINNED and self.is_away(node)
+        return None if gone else node
+
+    # ---- what changes
 
     def give(self, node, mode, owner=CALLER):
         self.last_handle += 1
         self.handles[self.last_handle] = Handle(node, mode, owner)
         return self.last_handle
 
-    def bear(self, cell, mode):
+    def bear(self, cell, mode, owner=CALLER):
+        """A new node with one handle. What its value refers to moves to it."""
         self.last_node += 1
         self.cells[self.last_node] = cell
-        return self.give(self.last_node, mode)
+        self.hand_in(cell.value, self.last_node)
+        return self.give(self.last_node, mode, owner)
 
-    def drop(self, number):
-        """A handle goes. A node without handles is gone."""
-        node = self.handles.pop(number).node
-        if all(h.node != node for h in self.handles.values()):
-            del self.cells[node]
+    def hand_in(self, value, node):
+        for _, number in value.references if value else []:
+            self.handles[number].owner = ("value", node)
+
+    def record(self, kind, key, number):
+        if not self.closed:
+            self.cache[kind, key] = self.handles[number].node
+
+    def fall(self, number):
+        """A handle is given up. A node without handles is gone, and what its value refers to falls too."""
+        handle = self.handles[number]
+        if handle.mode in (LOOSE_PINNED, PINNED):
+            handle.mode = LOOSE_UNPINNED
+            self.settle(handle.node)
+        del self.handles[number]
+        if all(h.node != handle.node for h in self.handles.values()):
+            self.drop(self.cells.pop(handle.node).value)
+
+    def drop(self, value):
+        for _, number in value.references if value else []:
+            self.fall(number)
 
     def settle(self, node):
-        """Where nothing pins a cell, its value goes if it has a key, and else the cell is listed."""
-        if self.pins(node) == 0 and self.cells[node].key is None:
+        """Where nothing pins a cell, its value goes if it has a key, and else the cell is listed until the pager is closed."""
+        cell = self.cells[node]
+        if self.pins(node) > 0:
+            return
+        if cell.key is not None:
+            value, cell.value = cell.value, None
+            self.drop(value)
+        elif not self.closed:
             self.list.append(self.give(node, LOOSE_UNPINNED, LIST))
-        elif self.pins(node) == 0:
-            self.cells[node].value = None
 
     def pin_through(self, handle):
         handle.mode = LOOSE_PINNED
         return self.give(handle.node, PINNED)
 
-    def close(self, number):
-        self.drop(self.loads.pop(number).own)
+    def close_load(self, number):
+        del self.loads[number]
+        for handle in [n for n, h in self.handles.items() if h.owner == ("load", number)]:
+            self.fall(handle)
 
-    # ---- calls
 
-    def new_loose(self, node_type, text):
-        return self.bear(Cell(node_type, None, text), LOOSE_PINNED)
+class Loads(Tables):
+    """The calls on loads."""
 
-    def new_pinned(self, node_type, text):
-        return self.bear(Cell(node_type, None, text), PINNED)
+    def load_begin(self, number):
+        handle = self.own(number, *LOOSE)
+        if not self.is_away(handle.node):
+            return "memory"
+        cell = self.cells[handle.node]
+        self.last_load += 1
+        self.give(handle.node, LOOSE_UNPINNED, ("load", self.last_load))
+        self.loads[self.last_load] = Load(number, handle.node, cell.key, cell.node_type)
+        return Begun(self.last_load, cell.key)
+
+    def load_key(self, key, node_type=None):
+        """The type of the root is known to a machine alone."""
+        self.last_load += 1
+        self.loads[self.last_load] = Load(None, None, key, node_type)
+        return self.last_load
+
+    def load_fetch(self, load, kind=None, key=None):
+        """The root's blob, if no kind is told. Else a handle of what the cache has, or the blob under the key."""
+        row = self.open(load)
+        node = None if kind is None or is_lazy(kind) else self.usable(kind, key)
+        if node is not None:
+            return self.give(node, mode_of(kind), ("load", load))
+        return self.storage.fetch(row.key if kind is None else key)
+
+    def load_adopt(self, load, kind, key, value):
+        """A node for a reference that is read with its value; or what the cache has, and then the value is dropped."""
+        if load not in self.loads:
+            raise Refused(NO_SUCH_HANDLE, back=True)
+        owner = ("load", load)
+        refuse_first([WRONG_MODE if is_lazy(kind) else None, None if value.node_type == type_of(kind) else WRONG_KIND,
+                      self.cause_of_references(owner, value.references)], back=True)
+        node = self.usable(kind, key)
+        if node is not None:
+            number = self.give(node, mode_of(kind), owner)
+            self.drop(value)
+            return number
+        shared = mode_of(kind) == SHARED
+        number = self.bear(Cell(value.node_type, None if shared else key, value, shared), mode_of(kind), owner)
+        self.record(kind, key, number)
+        return number
+
+    def load_lazy(self, load, kind, key):
+        """A handle of a cell that isn't fetched."""
+        self.open(load)
+        if not is_lazy(kind):
+            raise Refused(WRONG_KIND)
+        node, owner = self.usable(kind, key), ("load", load)
+        if node is not None:
+            return self.give(node, LOOSE_UNPINNED, owner)
+        number = self.bear(Cell(type_of(kind), key, None), LOOSE_UNPINNED, owner)
+        self.record(kind, key, number)
+        return number
+
+    def load_end(self, load, value):
+        """What the load's row says is looked at first, and gives the value back; then the handle that began it."""
+        if load not in self.loads:
+            raise Refused(NO_SUCH_HANDLE, back=True)
+        row = self.loads[load]
+        root = WRONG_MODE if row.begun_by is None else None if row.node_type == value.node_type else WRONG_KIND
+        refuse_first([root, self.cause_of_references(("load", load), value.references)], back=True)
+        cause = self.cause(row.begun_by, CALLER, ALL_MODES)
+        if cause is not None:
+            self.close_load(load)
+            raise Refused(cause)
+        cell = self.cells[row.node]
+        if cell.value is None:
+            cell.value = value
+            self.hand_in(value, row.node)
+        pinned = self.pin_through(self.handles[row.begun_by])
+        self.close_load(load)
+        return pinned
+
+    def load_take(self, load, *numbers):
+        row = self.open(load)
+        causes = [NO_SUCH_HANDLE if n not in self.handles else None for n in numbers]
+        strange = len(set(numbers)) < len(numbers) or any(self.cause(n, ("load", load), ALL_MODES) == NOT_YOURS for n in numbers)
+        refuse_first([*causes, NOT_YOURS if strange else None, None if row.begun_by is None else WRONG_MODE])
+        for number in numbers:
+            self.handles[number].owner = CALLER
+        self.close_load(load)
+
+    def load_drop(self, load):
+        self.open(load)
+        self.close_load(load)
+
+
+class Pager(Loads):
+    """The other calls, a method for each."""
+
+    def birth(self, value, mode):
+        refuse_first([self.cause_of_references(CALLER, value.references)], back=True)
+        return self.bear(Cell(value.node_type, None, value, mode == SHARED), mode)
+
+    def new_loose(self, value):
+        return self.birth(value, LOOSE_PINNED)
+
+    def new_pinned(self, value):
+        return self.birth(value, PINNED)
+
+    def new_shared(self, value):
+        return self.birth(value, SHARED)
 
     def new_paged_out(self, node_type, key):
         return self.bear(Cell(node_type, key, None), LOOSE_UNPINNED)
@@ -215,7 +451,7 @@ class Pager:
     def pin(self, number):
         handle = self.own(number, *LOOSE)
         if self.is_away(handle.node):
-            return f"needs {self.cells[handle.node].key}"
+            return Needs(self.cells[handle.node].key)
         return self.pin_through(handle)
 
     def unpin(self, number):
@@ -225,19 +461,16 @@ class Pager:
             self.settle(handle.node)
 
     def release(self, number):
-        handle = self.own(number, *LOOSE, PINNED)
-        if handle.mode != LOOSE_UNPINNED:
-            handle.mode = LOOSE_UNPINNED
-            self.settle(handle.node)
-        self.drop(number)
+        self.own(number, *ALL_MODES)
+        self.fall(number)
 
     def into_pagable(self, number):
         self.own(number, PINNED).mode = LOOSE_PINNED
         return number
 
     def set_data_key(self, number, key):
-        handle = self.own(number, *LOOSE, PINNED)
-        if handle.mode != PINNED:
+        handle = self.own(number, *ALL_MODES)
+        if handle.mode in LOOSE:
             self.cells[handle.node].key = key
             self.settle(handle.node)
 
@@ -261,6 +494,10 @@ class Pager:
         handle = self.live(number)
         return None if handle.mode == LOOSE_UNPINNED else self.cells[handle.node].value
 
+    def schedule_for_paging(self, number):
+        self.own(number, LOOSE_UNPINNED).owner = LIST
+        self.list.append(number)
+
     def pending(self):
         return len(self.list)
 
@@ -271,87 +508,134 @@ class Pager:
         self.handles[number].owner = CALLER
         return number
 
+    def cache_get(self, kind, key):
+        node = self.usable(kind, key)
+        return "none" if node is None else self.give(node, mode_of(kind))
+
+    def on_arc_deserialized(self, kind, key, number):
+        """None, and the node is recorded; or a handle of what the cache has, and then the other falls."""
+        refuse_first([self.cause(number, CALLER, modes_of(kind), type_of(kind))])
+        node = self.usable(kind, key)
+        if node is None:
+            self.record(kind, key, number)
+            return "none"
+        found = self.give(node, mode_of(kind))
+        self.fall(number)
+        return found
+
+    def cache_clear(self):
+        self.cache = {}
+
     def fetch(self, key):
         return self.storage.fetch(key)
 
     def store(self, blob):
         return self.storage.store(blob)
 
-    def load_begin(self, number):
-        handle = self.own(number, *LOOSE)
-        if not self.is_away(handle.node):
-            return "memory"
-        self.last_load += 1
-        own = self.give(handle.node, LOOSE_UNPINNED, ("load", self.last_load))
-        key = self.cells[handle.node].key
-        self.loads[self.last_load] = Load(number, own, handle.node, key)
-        return f"load {self.last_load} {key}"
+    def flush(self):
+        """The storage has nothing to do."""
 
-    def load_fetch(self, load):
-        return self.storage.fetch(self.open(load).key)
+    def reserve(self, count):
+        """There is room for any number."""
 
-    def load_type(self, load):
-        return self.cells[self.open(load).node].node_type
+    def close(self):
+        """Nothing is stored, cached or listed any more. What loads and callers own stays."""
+        self.storage.close()
+        self.closed = True
+        self.cache, listed, self.list = {}, self.list, []
+        for number in listed:
+            self.fall(number)
 
-    def load_end(self, load, node_type, text):
-        """What the load's row says is looked at first, and gives the value back; then the handle that began it."""
-        if load not in self.loads:
-            raise Refused(NO_SUCH_HANDLE, back=True)
-        row = self.loads[load]
-        cell = self.cells[row.node]
-        if cell.node_type != node_type:
-            raise Refused(WRONG_KIND, back=True)
+
+class Frame:
+    """A blob that is being read for a reference, or for the root; it waits for the handle of its next reference."""
+
+    def __init__(self, reading, kind=None, key=None):
+        self.reading, self.kind, self.key, self.found = reading, kind, key, None
+
+    def read_on(self):
+        """The kind and key of the next reference, or the value that the blob reads as."""
         try:
-            handle = self.own(row.begun_by, *LOOSE)
-        except Refused:
-            self.close(load)
-            raise
-        if cell.value is None:
-            cell.value = text
-        pinned = self.pin_through(handle)
-        self.close(load)
-        return pinned
+            return self.reading.send(self.found)
+        except StopIteration as end:
+            return end.value
 
-    def load_drop(self, load):
-        self.open(load)
-        self.close(load)
 
-    def page_out(self):
-        """Pages out what is listed at the call, from the last entry to the first, up to the first failure."""
-        for place in reversed(range(self.pending())):
-            entry = self.take_pending(place)
-            try:
-                if self.key(entry) == "none":
-                    pinned = self.pin(entry)
-                    try:
-                        self.set_data_key(entry, self.store(TextTypes.write(self.cells[self.node_of(pinned)].value)))
-                    finally:
-                        self.release(pinned)
-            finally:
-                self.release(entry)
+@dataclass
+class Step:
+    """What a step answers: its count, and a handle, a value or a refusal if it ended the load."""
+
+    count: int
+    end: object = None
+
+    def text(self):
+        if self.end is None:
+            return f"step {self.count}"
+        return f"step {self.count} " + (f"pinned {self.end}" if isinstance(self.end, int) else self.end.text())
 
 
 class Machine:
     """A pager that is driven by events: a call, the begin of a load, or a load's next step."""
 
-    def __init__(self, pager):
-        self.pager = pager
+    def __init__(self, pager, types=TextTypes):
+        self.pager, self.types = pager, types
 
     def load_start(self, number):
         return self.pager.load_begin(number)
 
+    def load_key(self, key, node_type):
+        return self.pager.load_key(key, node_type)
+
     def load_step(self, load):
-        """First the root's blob, then its value and the end. Every refusal of a step closes the load."""
+        """Every refusal of a step closes the load. The steps of a load that has no type for its root aren't counted."""
         row = self.pager.open(load)
+        if row.node_type is None:
+            raise Refused(WRONG_MODE)
         row.steps += 1
         try:
-            if row.blob is None:
-                row.blob = self.pager.load_fetch(load)
-                return f"step {row.steps}"
-            node_type = self.pager.load_type(load)
-            pinned = self.pager.load_end(load, node_type, TextTypes.read(node_type, row.blob))
-            return f"step {row.steps} pinned {pinned}"
+            return Step(row.steps, self.step(load, row))
         except Refused as refusal:
             if load in self.pager.loads:
-                self.pager.close(load)
-            return f"step {row.steps} {refusal.text()}"
+                self.pager.close_load(load)
+            return Step(row.steps, Refused(refusal.number, refusal.told))
+
+    def step(self, load, row):
+        """Reads as far as the next fetch or adoption and does that one, or ends the load."""
+        if not row.frames:
+            row.frames.append(Frame(self.types.read(row.node_type, self.pager.load_fetch(load))))
+            return None
+        frame = row.frames[-1]
+        read = frame.read_on()
+        if not isinstance(read, Value):
+            self.follow(load, row, *read)
+        elif len(row.frames) > 1:
+            row.frames[-2].found = self.pager.load_adopt(load, frame.kind, frame.key, read)
+            row.frames.pop()
+        elif row.begun_by is None:
+            self.pager.load_take(load, *[number for _, number in read.references])
+            return read
+        else:
+            return self.pager.load_end(load, read)
+        return None
+
+    def follow(self, load, row, kind, key):
+        """A lazy reference gets its handle; for another the cache or the storage is asked. A path has at most 128 of these."""
+        if is_lazy(kind):
+            row.frames[-1].found = self.pager.load_lazy(load, kind, key)
+            return
+        found = self.pager.load_fetch(load, kind, key)
+        if isinstance(found, int):
+            row.frames[-1].found = found
+        elif len(row.frames) > DEEPEST:
+            raise Refused(TOO_DEEP)
+        else:
+            row.frames.append(Frame(self.types.read(type_of(kind), found), kind, key))
+
+    def finish(self, load):
+        """Steps to the end of a load: what ended it."""
+        end = None
+        while end is None:
+            end = self.load_step(load).end
+        if isinstance(end, Refused):
+            raise end
+        return end

@@ -12,7 +12,7 @@ import random
 import sys
 
 sys.dont_write_bytecode = True
-from plain_pager import Blob, Machine, Pager, Refused, Storage, TextTypes
+from plain_pager import Begun, Blob, Machine, Needs, Pager, Refused, Step, Storage, TextTypes, Value
 
 
 class Rows:
@@ -45,17 +45,22 @@ class Rows:
             return refusal.text()
         if isinstance(answer, Blob):
             return "0x" + answer.data.hex()
+        if isinstance(answer, (Begun, Needs, Step)):
+            return answer.text()
         return "ok" if answer is None else f"ok {answer}" if isinstance(answer, int) else answer
 
     @staticmethod
     def arguments(name, rest):
-        """The numbers of a call, and the text or blob that stands last. A text may be empty and may hold spaces."""
+        """The numbers of a call, and the value or blob that stands last. A text may be empty and may hold spaces."""
         if name == "store":
             data, _, arcs = rest.partition(":")
             return [Blob(bytes.fromhex(data.strip("-")), tuple(map(int, filter(None, arcs.split(",")))))]
         numbers = {"new_loose": 1, "new_pinned": 1, "load_end": 2}.get(name)
-        words = rest.split() if numbers is None else rest.split(" ", numbers) + [""]
-        return list(map(int, words[:numbers])) + words[numbers or len(words):][:1]
+        if numbers is None:
+            return list(map(int, rest.split()))
+        words = rest.split(" ", numbers) + [""]
+        *others, node_type = map(int, words[:numbers])
+        return others + [Value(node_type, words[numbers])]
 
     def look(self, last):
         """How long the list is, and for each live handle up to this number its node, count and key, and what it pins."""
@@ -63,7 +68,7 @@ class Rows:
         for number in (number for number in range(1, last + 1) if number in pager.handles):
             node, key, value = pager.node_of(number), pager.key(number), pager.value(number)
             told = [node, pager.count(number), 0 if key == "none" else key, "away" if pager.is_away(node) else "here"]
-            words.append(f"{number}: {' '.join(map(str, told))}" + ("" if value is None else f" = {value}"))
+            words.append(f"{number}: {' '.join(map(str, told))}" + ("" if value is None else f" = {value.content}"))
         return "; ".join(words)
 
 
@@ -122,7 +127,7 @@ class Draw:
         if taken.startswith("ok"):
             entry, pinned = taken[3:], (yield f"pin {taken[3:]}")
             if pinned.startswith("ok"):
-                key = yield f"store {TextTypes.write(self.value_of(int(pinned[3:]))).text()}"
+                key = yield f"store {Blob(TextTypes.write(self.value_of(int(pinned[3:])))).text()}"
                 if key.startswith("ok"):
                     yield f"set_data_key {entry} {key[3:]}"
                 yield f"release {pinned[3:]}"
