@@ -4,3 +4,4 @@ mod Fitting
 mod Leaving
 mod Worlds
 mod Coming
+mod Beginning
