@@ -5,3 +5,4 @@ mod Leaving
 mod Standing
 mod Worlds
 mod Coming
+mod Beginning

@@ -1,4 +1,4 @@
-use Rattle.std.proofs.Common.{◌<◌, ◌≤◌, refl, subst, arith, rules}
+use Rattle.std.proofs.Common.{◌<◌, ◌≤◌, refl, subst, rules}
 use Rattle.pagable_tables.proofs.places.reserve.Goals as goal
 
 pub returns-then-room-more-clause-reserved : goal.returns-then-room-more-clause-reserved

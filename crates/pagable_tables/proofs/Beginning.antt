@@ -1,0 +1,28 @@
+-- A load begins.
+use Rattle.std.proofs.Common.{◌≡◌, ℕ, ◌==◌, ◌≤◌, ◌+◌, true, false, refl, ap, sym, ◌∙◌, arith, Option, Some, None, inl, inr}
+use Rattle.std.specs.Prelude.{◌≢◌, is_some}
+use Rattle.std.specs.Option.{option_map}
+use Rattle.std.proofs.lemmas.Bool.Decides.{nat_tests}
+use Rattle.std.proofs.lemmas.Bool.{cases_eq}
+use Rattle.pagable_world.specs.Plain.{updated}
+use Rattle.pagable_tables.specs.declared.rows.LoadRow.{LoadRow}
+use Rattle.pagable_tables.specs.Core.{load_in}
+
+-- one load more, and the others stay
+pub load-comes : (at at' : ℕ → Option LoadRow) (l : ℕ) (row : LoadRow) → at' l ≡ Some row → ((q : ℕ) → q ≢ l → at' q ≡ at q) → (q : ℕ) → option_map load_in (at' q) ≡ updated l (Some (load_in row)) (λ q. option_map load_in (at q)) q
+load-comes at at' l row here others q = elim (cases_eq q l) [
+  | inl e ↦ let h : (q == l) ≡ true = grind (arith, nat_tests) in rw h (ap (λ m. option_map load_in (at' m)) e ∙ ap (option_map load_in) here)
+  | inr e ↦ let h : (q == l) ≡ false = grind (arith, nat_tests) in rw h (ap (option_map load_in) (others q e))
+]
+
+-- no load has a number that wasn't given yet
+pub none-yet : (o : Option LoadRow) (last : ℕ) → (is_some o ≡ true → last + 1 ≤ last) → o ≡ None
+none-yet None last h = refl
+none-yet (Some row) last h = let a = h refl in absurd (omega arith)
+
+-- all numbers of loads were given
+pub loads-given : (at at' : ℕ → Option LoadRow) (last : ℕ) → ((q : ℕ) → q ≢ last + 1 → at' q ≡ at q) → ((q : ℕ) → is_some (at q) ≡ true → q ≤ last) → (q : ℕ) → is_some (at' q) ≡ true → q ≤ last + 1
+loads-given at at' last others given q some = elim (cases_eq q (last + 1)) [
+  | inl e ↦ omega arith
+  | inr e ↦ let a = given q (sym (ap is_some (others q e)) ∙ some) in omega arith
+]
