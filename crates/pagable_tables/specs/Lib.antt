@@ -1,3 +1,4 @@
 pub mod Live
 pub mod ByNumber
 pub mod Falling
+pub mod Onward

@@ -2,6 +2,7 @@ use Rattle.std.proofs.Common.{arith}
 use Rattle.pagable_tables.specs.Live.{live}
 use Rattle.pagable_tables.specs.Falling.{Steps}
 use Rattle.pagable_tables.proofs.Standing.{valued-le, none-falls, one-falls}
+use Rattle.pagable_tables.proofs.Ended.{ended}
 use Rattle.pagable_tables.proofs.cascade.cascade.Goals as goal
 
 pub fall-init : goal.fall-init
@@ -27,5 +28,10 @@ fall-preserved c =
     let few = w.2 in
     (s.rest, s.falling, omega arith)
 
-pub returns : goal.returns
-returns c = let w = c.fall.invariant in record { whole = none-falls c.fall.t w.0 w.1 (omega arith) }
+pub returns-clause-whole : goal.returns-clause-whole
+returns-clause-whole c = let w = c.fall.invariant in none-falls c.fall.t w.0 w.1 (omega arith)
+
+pub returns-clause-falls : goal.returns-clause-falls
+returns-clause-falls c before w given so-far =
+    let f = c.fall.invariant in
+    ended before w given c.args.lists c.fall.t so-far (none-falls c.fall.t f.0 f.1 (omega arith))
