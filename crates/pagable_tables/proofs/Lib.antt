@@ -5,3 +5,8 @@ mod Leaving
 mod Left
 mod Standing
 mod Ended
+mod Kept
+mod Forced
+mod LeastMore
+mod RowsMore
+mod NoEntry
