@@ -1,8 +1,9 @@
 -- What holds besides where each load's and each worker's steps stand together, and of one cache.
 use Rattle.std.specs.Prelude.{ℕ, ◌≡◌, ◌≢◌, ◌<◌, ◌⊎◌, max, true, false, List, [], ◌∷◌, Some, Ok, slice_get}
-use Rattle.pagable_model.specs.Deep.{Kid}
+use Rattle.pagable_model.specs.Deep.{Kid, kind_of_kid}
+use Rattle.pagable_model.specs.Form.{Form}
 use Rattle.pagable_model.specs.Meaning.{pair, variant, followed}
-use Rattle.pagable_model.specs.Merkle.{TreeForm}
+use Rattle.pagable_model.specs.Merkle.{TreeForm, unfolded}
 use Rattle.pagable_world.specs.Plain.{Error, ArcRef, HandleNumber, Identity, Kind, LoadNumber, NodeNumber, Meaning, Shape, Tree, Types, tree, type_of, Owner, HandleRow, Event, EventReply, Among, longest_path, above, height, deepest_path}
 use Rattle.pagable_model.specs.declared.error.Error.TheVariants as errors
 use Rattle.pagable_model.specs.declared.data_key.OptionalDataKey.TheVariants as optional
@@ -53,14 +54,26 @@ pub data Reaches : Meaning ⊥ → Tree → Type 0 where
   in-rest : (a b : Meaning ⊥) (t : Tree) → Reaches b t → Reaches (pair a b) t
   in-part : (n : ℕ) (a : Meaning ⊥) (t : Tree) → Reaches a t → Reaches (variant n a) t
 
--- No bytes are a form of the tree's own value: it takes more levels than there are, or a part of it has no form. A writer that meets several such faults may
--- tell of any, so that more isn't known of a value that is refused as too deep.
+-- the tree's own value has a form, but with more levels than there are
+pub record IsTooNested (types : Types) (t : Tree) : Type 0 where
+  pub shape : Shape
+  pub is : types.nodes t.type ≡ Some shape
+  pub levels : ℕ
+  pub bytes : List ℕ
+  pub kids : List Kid
+  pub form : Form Kid kind_of_kid types.parts levels shape (unfolded t.meaning) bytes kids
+  pub none_within : (some_bytes : List ℕ) (some_kids : List Kid) → ¬ TreeForm types shape t.meaning some_bytes some_kids
+
+-- no bytes are a form of the tree's own value, for want of levels or for another fault
 pub record HasNoForm (types : Types) (t : Tree) : Type 0 where
   pub shape : Shape
   pub is : types.nodes t.type ≡ Some shape
   pub none_within : (some_bytes : List ℕ) (some_kids : List Kid) → ¬ TreeForm types shape t.meaning some_bytes some_kids
 
 -- the tree, or one that it reaches, is so
+abbrev pub HasTooNested : Types → Tree → Type 0
+HasTooNested types t = IsTooNested types t ⊎ ((below : Tree) × Reaches t.meaning below × IsTooNested types below)
+
 abbrev pub LeadsToNoForm : Types → Tree → Type 0
 LeadsToNoForm types t = HasNoForm types t ⊎ ((below : Tree) × Reaches t.meaning below × HasNoForm types below)
 
@@ -72,6 +85,11 @@ IsLongBelow kind m = longest_path < max (above kind (height m)) (deepest_path m)
 abbrev pub IsTooDeepTask : (ℕ → Tree) → Task → Type 0
 IsTooDeepTask trees (of_item written) = (r : ArcRef) × Among written.references r × IsLongBelow r.kind.0 (trees r.node.0).meaning
 IsTooDeepTask trees (of_entry h i) = longest_path < deepest_path (trees i.node.0).meaning
+
+-- some value that the task reaches has no form for its levels
+abbrev pub IsTooNestedTask : Types → (ℕ → Tree) → Task → Type 0
+IsTooNestedTask types trees (of_item written) = (r : ArcRef) × Among written.references r × HasTooNested types (trees r.node.0)
+IsTooNestedTask types trees (of_entry h i) = HasTooNested types (trees i.node.0)
 
 -- some value that the task reaches has no form
 abbrev pub IsFormlessTask : Types → (ℕ → Tree) → Task → Type 0
@@ -94,10 +112,10 @@ DeepHasCause v s trees (events.WorkerStep n) (answers.WorkerMoved (Ok reply)) s'
     (walking : Walking)
     → s.work.walkings n.0 ≡ Some walking
     → reply.answer ≡ Some (finals.Failed errors.TooDeep)
-    → IsTooDeepTask trees walking.task ⊎ IsFormlessTask v.types trees walking.task ⊎ IsTooDeepReading v s walking
+    → IsTooDeepTask trees walking.task ⊎ IsTooNestedTask v.types trees walking.task ⊎ IsTooDeepReading v s walking
 DeepHasCause v s trees event reply s' trees' = Unit {0}
 
--- And where one of the first two is so, no key is answered.
+-- No key is answered where the first is so, or where some value has no form for whatever fault.
 abbrev pub KeyIsShallow : {N E B W : Type 0} → Values N → Fact N E B W
 KeyIsShallow v s trees (events.WorkerStep n) (answers.WorkerMoved (Ok reply)) s' trees' =
     (walking : Walking) (key : ℕ) → s.work.walkings n.0 ≡ Some walking → reply.answer ≡ Some (finals.Key key) → (¬ IsTooDeepTask trees walking.task) × (¬ IsFormlessTask v.types trees walking.task)
