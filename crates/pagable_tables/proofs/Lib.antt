@@ -2,7 +2,14 @@ mod Alive
 mod Order
 mod Fitting
 mod Leaving
+mod Left
 mod Standing
 mod Worlds
 mod Coming
 mod Beginning
+mod Ended
+mod Kept
+mod Forced
+mod LeastMore
+mod RowsMore
+mod NoEntry

@@ -1,5 +1,5 @@
 -- The plain world that the tables tell, and when they are whole.
-use Rattle.std.specs.Prelude.{ℕ, ◌≡◌, ◌≤◌, Bool, true, [], Option, Result, IfOk, IfErr, is_some, vec_capacity}
+use Rattle.std.specs.Prelude.{ℕ, ◌≡◌, Bool, false, [], Option, None, Result, IfOk, IfErr, vec_capacity}
 use Rattle.std.specs.Option.{option_map}
 use Rattle.pagable_model.specs.declared.error.Error.{Error}
 use Rattle.pagable_model.specs.declared.numbers.HandleNumber.{HandleNumber}
@@ -8,6 +8,7 @@ use Rattle.pagable_world.specs.Plain.{Blob, is_in}
 use Rattle.pagable_world.specs.declared.handles.Owner.{Owner}
 use Rattle.pagable_world.specs.declared.rows.Mode.{Mode}
 use Rattle.pagable_world.specs.World.{Core, OpenLoad, Root, of_cell, of_key, Alike}
+use Rattle.pagable_world.specs.Pager as pager
 use Rattle.pagable_world.specs.Calls.{with_handle, IsNext}
 use Rattle.pagable_world.specs.Refusals.{spent, Refused, AreHandlesFull}
 use Rattle.pagable_tables.specs.declared.rows.LoadRow.{LoadRow}
@@ -42,11 +43,10 @@ core_of t stored closed failures =
       places = record { handles = vec_capacity t.holdings.handles.places; entries = vec_capacity t.holdings.list };
     }
 
--- handles and nodes fit, and nothing falls; numbers of nodes and loads were given
+-- Rows are in their places: handles and nodes fit, and nothing falls. And the plain world that they tell is whole, whatever is stored.
 pub record IsWhole (t : Tables) : Type 0 where
   pub steady : IsFalling t.holdings [] owns_nothing
-  pub nodes : (n : ℕ) → is_some (counts_at t.holdings.nodes n) ≡ true → n ≤ t.last_node
-  pub loads : (l : ℕ) → is_some (load_at t.loads l) ≡ true → l ≤ t.last_load
+  pub core : pager.IsWhole (core_of t (λ key. None) false 0)
 
 -- A handle of a live node is made under the next number. While numbers and places are left it succeeds.
 pub record Makes (w : Core) (node : NodeNumber) (mode : Mode) (owner : Owner) (r : Result HandleNumber Error) (w' : Core) : Type 0 where

@@ -1,4 +1,5 @@
 pub mod Live
 pub mod ByNumber
 pub mod Falling
+pub mod Onward
 pub mod Core

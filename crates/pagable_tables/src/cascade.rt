@@ -1,8 +1,11 @@
 //! What follows when handles are given up, to its end.
 
-ghost use Rattle.std.specs.Prelude.{◌≡◌, ◌≢◌, ℕ, ◌+◌, ◌*◌, ◌≤◌, [], List, length, not, nat_eq};
+ghost use Rattle.std.specs.Prelude.{◌≡◌, ◌≢◌, ℕ, ◌+◌, ◌*◌, ◌≤◌, [], List, length, not, nat_eq, Bool};
 ghost use Rattle.pagable_tables.specs.Live.{live, AreSound};
 ghost use Rattle.pagable_tables.specs.Falling.{IsFalling, owns_nothing};
+ghost use Rattle.pagable_tables.specs.Onward.{with_tables, told_by, SoFar};
+ghost use Rattle.pagable_world.specs.World.{Core};
+ghost use Rattle.pagable_world.specs.Cascade.{Falls};
 
 use crate::handles::Handles;
 use crate::holdings;
@@ -27,6 +30,7 @@ pub fn is_falling(t: &Holdings) -> bool
 pub fn cascade(t: &mut Holdings, lists: bool)
     requires falling { (stack : List ℕ) × IsFalling t.old stack owns_nothing × (length stack ≤ 1) }
     ensures whole { IsFalling t.new [] owns_nothing }
+    ensures falls { (before w : Core) (given : ℕ → Bool) → SoFar before w given lists t.old → Falls before w given (told_by t.new.unlisted) (with_tables w t.new) }
 {
     let mut left = budget(&t.handles);
     'fall: while t.top != 0 {

@@ -1,0 +1,149 @@
+-- Where no node falls any more, all has gone that had to go, and no more.
+use Rattle.std.proofs.Common.{◌≡◌, ℕ, ◌+◌, ◌≤◌, ◌==◌, ◌&&◌, Bool, true, false, not, if◌then◌else◌, List, [], ◌∷◌, ◌++◌, sum_by, refl, ap, sym, ◌∙◌, subst, arith, inl, inr, zero, suc, Option, Some, None}
+use Rattle.std.specs.Prelude.{◌⊎◌, is_some, nat_lt, nat_eq, ◌||◌, Result, Ok, Err}
+use Rattle.std.proofs.lemmas.Bool.Decides.{nat_tests}
+use Rattle.std.proofs.lemmas.List.Sums.{sum_by-cons, sum_by-append}
+use Rattle.pagable_model.specs.declared.error.Error.{Error}
+use Rattle.pagable_model.specs.declared.error.Error.TheVariants as errors
+use Rattle.pagable_model.specs.declared.data_key.OptionalDataKey.TheVariants as optional
+use Rattle.pagable_model.specs.declared.numbers.ArcRef.{ArcRef}
+use Rattle.pagable_world.specs.declared.handles.HandleRow.{HandleRow}
+use Rattle.pagable_world.specs.Plain.{one, times, if_there, is_pinned_kind}
+use Rattle.pagable_world.specs.Kinds.{is_at, is_pin, is_owned_by, owner_value, held, pins, has_key, is_in_memory}
+use Rattle.pagable_world.specs.World.{Core, Cell, greatest, Alike}
+use Rattle.pagable_world.specs.Cascade.{left_rows, IsClosed, is_keyed, MustList, TellsListing, CannotList, IsListRefusal, Falls, fallen, pins_outside, held_outside}
+use Rattle.pagable_tables.specs.declared.rows.Counts.{Counts}
+use Rattle.pagable_tables.specs.declared.holdings.Holdings.{Holdings}
+use Rattle.pagable_tables.specs.Live.{live}
+use Rattle.pagable_tables.specs.ByNumber.{counts_at, refs_at}
+use Rattle.pagable_tables.specs.Falling.{Fits, IsFalling, Right, is_bare, pins_in, holds_in, falls_in, keyed_in, key_in, cell_in, HasFallen, owns, owns_nothing, named}
+use Rattle.pagable_tables.specs.Onward.{with_tables, told_by, SoFar}
+use Rattle.pagable_tables.proofs.Left.{times-left, entries-none}
+
+bare-then : (w : Bool) (p h : ℕ) (k bare : Bool) → w ≡ false → (if w then h == 0 || (p == 0 && k) else nat_lt 0 h && (nat_lt 0 p || not k || bare)) ≡ true → (h ≡ 0) ⊎ ((k ≡ true) × (p ≡ 0)) → bare ≡ true
+bare-then true p h k bare e r down = absurd (cc)
+bare-then false p h k bare e r (inl none) = grind (arith, nat_tests)
+bare-then false p h k bare e r (inr both) = let a = both.0 in let b = both.1 in grind (arith, nat_tests)
+
+empty-then : (refs : List ArcRef) → is_bare refs ≡ true → refs ≡ []
+empty-then [] e = refl
+empty-then (x ∷ xs) e = absurd (cc)
+
+no-refs : (o : Option Counts) (refs : List ArcRef) → falls_in o ≡ false → Right o refs → (holds_in o ≡ 0) ⊎ ((keyed_in o ≡ true) × (pins_in o ≡ 0)) → refs ≡ []
+no-refs None refs w right down = right
+no-refs (Some c) refs w right down = empty-then refs (bare-then c.is_falling c.pins c.holds (nat_lt 0 c.key) (is_bare refs) w right down)
+
+stands : (at : ℕ → Option Counts) (refs : ℕ → List ArcRef) (rows : List HandleRow) (top : ℕ) → Fits at refs rows top [] owns_nothing → (n : ℕ) → falls_in (at n) ≡ false
+stands at refs rows top fits n = let a = fits.marked n in grind (arith, nat_tests)
+
+-- no handle is left that a value owned which is gone
+pub none-left : (at : ℕ → Option Counts) (refs : ℕ → List ArcRef) (rows : List HandleRow) (top : ℕ) → Fits at refs rows top [] owns_nothing → (n q : ℕ) → HasFallen at rows n → sum_by (λ h. owns h n q) rows ≡ 0
+none-left at refs rows top fits n q down =
+    let down' : (holds_in (at n) ≡ 0) ⊎ ((keyed_in (at n) ≡ true) × (pins_in (at n) ≡ 0)) = elim down [ inl none ↦ inl (fits.holding n ∙ none) | inr both ↦ inr (both.0, fits.pinned n ∙ both.1) ] in
+    let e = no-refs (at n) (refs n) (stands at refs rows top fits n) (fits.right n) down' in
+    let a = fits.owned n q in
+    let b = ap (named q) e in
+    omega arith
+
+none-owned : (n : ℕ) (rows : List HandleRow) → ((q : ℕ) → sum_by (λ h. owns h n q) rows ≡ 0) → times (is_owned_by (owner_value n)) rows ≡ 0
+none-owned n [] none = refl
+none-owned n (x ∷ xs) none =
+    let a = sum_by-cons (λ h. owns h n x.number.0) x xs in
+    let b = none x.number.0 in
+    let d = sum_by-cons (λ h. one (is_owned_by (owner_value n) h)) x xs in
+    let rest = none-owned n xs (λ q. let k = sum_by-cons (λ h. owns h n q) x xs in let l = none q in omega arith) in
+    let here : one (is_owned_by (owner_value n) x) ≡ 0 = grind (arith, nat_tests) in
+    omega arith
+
+keyed-cell : (k : ℕ) → has_key (key_in k) ≡ nat_lt 0 k
+keyed-cell zero = refl
+keyed-cell (suc n) = let some : nat_lt 0 (suc n) ≡ true = grind (arith, nat_tests) in sym some
+
+down-keyed : (o : Option Counts) (cell : Option Cell) → (is_some o ≡ true → cell_in o ≡ cell) → has_key (if_there (λ (c : Cell). c.key) optional.None cell) ≡ true → (holds_in o ≡ 0) ⊎ (keyed_in o ≡ true)
+down-keyed None cell same e = inl refl
+down-keyed (Some c) cell same e = inr (sym (keyed-cell c.key) ∙ ap (λ (o : Option Cell). has_key (if_there (λ (c : Cell). c.key) optional.None o)) (same refl) ∙ e)
+
+cell-kept : (o : Option Counts) (refs : List ArcRef) (h : ℕ) (cell : Option Cell) → falls_in o ≡ false → Right o refs → holds_in o ≡ h → (is_some o ≡ true → cell_in o ≡ cell) → cell_in o ≡ (if nat_lt 0 h then cell else None)
+cell-kept None refs h cell free right e same = ap (λ k. if nat_lt 0 k then cell else None) e
+cell-kept (Some c) refs h cell free right e same =
+    let some : nat_lt 0 c.holds ≡ true = live-then c.is_falling (c.holds == 0 || (c.pins == 0 && nat_lt 0 c.key)) (nat_lt 0 c.holds) (nat_lt 0 c.pins || not (nat_lt 0 c.key) || is_bare refs) free right in
+    same refl ∙ sym (ap (λ k. if nat_lt 0 k then cell else None) (sym e) ∙ ap (λ b. if b then cell else None) some)
+  where
+    live-then : (w a b k : Bool) → w ≡ false → (if w then a else b && k) ≡ true → b ≡ true
+    live-then true a b k e r = absurd (cc)
+    live-then false a true k e r = refl
+    live-then false a false k e r = absurd (cc)
+
+same-usable : (kind : ℕ) (o : Option ℕ) (rows rows' : List HandleRow) (cells cells' : ℕ → Option Cell) → rows' ≡ rows → ((n : ℕ) → cells' n ≡ cells n)
+    → if_there (λ n. if_there (λ (cell : Cell). if is_pinned_kind kind && not (is_in_memory (pins n rows') cell.key) then None else Some n) None (cells' n)) None o ≡ if_there (λ n. if_there (λ (cell : Cell). if is_pinned_kind kind && not (is_in_memory (pins n rows) cell.key) then None else Some n) None (cells n)) None o
+same-usable kind None rows rows' cells cells' e same = refl
+same-usable kind (Some n) rows rows' cells cells' e same =
+    ap (λ r. if_there (λ (cell : Cell). if is_pinned_kind kind && not (is_in_memory (pins n r) cell.key) then None else Some n) None (cells' n)) e ∙ ap (λ c. if_there (λ (cell : Cell). if is_pinned_kind kind && not (is_in_memory (pins n rows) cell.key) then None else Some n) None c) (same n)
+
+refusal : (w w' : Core) (e : Error) → IsListRefusal w w' e → CannotList w w'
+refusal w w' errors.NumbersSpent r = inl r
+refusal w w' errors.OutOfMemory r = inr r.0
+refusal w w' _ r = absurd r
+
+each-listed : (before w w' : Core) (entries : List HandleRow) (r : Result (Unit {0}) Error) → TellsListing before w entries r w' → (n : ℕ) → MustList before w w' n → (held n entries ≡ 1) ⊎ CannotList w w'
+each-listed before w w' entries (Ok u) tells n must = inl (tells.all n must)
+each-listed before w w' entries (Err e) tells n must = let a = tells.not_all in inr (refusal w w' e a.3)
+
+module _ (before w : Core) (given : ℕ → Bool) (lists : Bool) (t : Holdings) (f : SoFar before w given lists t) (whole : IsFalling t [] owns_nothing) where
+  counted : (p : HandleRow → Bool) → times p (live t.handles.places.items) ≡ times (λ h. p h && not (f.gone h.number.0)) w.rows + times p f.entries
+  counted p = ap (times p) f.rows ∙ sum_by-append (λ h. one (p h)) (left_rows f.gone w.rows) f.entries ∙ ap (λ k. k + times p f.entries) (times-left p f.gone w.rows)
+
+  down : (n : ℕ) (keyed : Bool) → is_keyed w n ≡ keyed → (if keyed then nat_eq (pins_outside w.rows f.gone n) 0 else nat_eq (held n f.entries) 0 && nat_eq (held_outside w.rows f.gone n) 0) ≡ true → HasFallen (counts_at t.nodes) (live t.handles.places.items) n
+  down n true e lost =
+      let a = counted (is_pin n) in
+      let b = entries-none (is_pin n) (λ h mode owner. grind (arith, nat_tests)) w.last.handle f.entries f.new in
+      let z : pins n (live t.handles.places.items) ≡ 0 = grind (arith, nat_tests) in
+      elim (down-keyed (counts_at t.nodes n) (w.cells n) (f.cells n) e) [
+        | inl none ↦ inl (sym (whole.fits.holding n) ∙ none)
+        | inr keyed ↦ inr (keyed, z)
+      ]
+  down n false e lost = let a = counted (is_at n) in inl (grind (arith, nat_tests))
+
+  pub closed : IsClosed w.rows (is_keyed w) f.entries f.gone
+  closed n lost =
+      let fell = down n (is_keyed w n) refl lost in
+      let a = none-owned n (live t.handles.places.items) (λ q. none-left (counts_at t.nodes) (refs_at t.nodes) (live t.handles.places.items) t.top whole.fits n q fell) in
+      let b = counted (is_owned_by (owner_value n)) in
+      omega arith
+
+  cells-same : (n : ℕ) → cell_in (counts_at t.nodes n) ≡ (fallen w f.gone f.entries).cells n
+  cells-same n = cell-kept (counts_at t.nodes n) (refs_at t.nodes n) (held n (left_rows f.gone w.rows ++ f.entries)) (w.cells n) (stands (counts_at t.nodes) (refs_at t.nodes) (live t.handles.places.items) t.top whole.fits n) (whole.fits.right n) (whole.fits.holding n ∙ ap (held n) f.rows) (f.cells n)
+
+  leaves : Alike (fallen w f.gone f.entries) (with_tables w t)
+  leaves =
+      record {
+        rows = f.rows;
+        cells = cells-same;
+        list = f.list;
+        cache = record {
+          gives = λ kind key. same-usable kind (w.cache kind key) (left_rows f.gone w.rows ++ f.entries) (live t.handles.places.items) (fallen w f.gone f.entries).cells (λ n. cell_in (counts_at t.nodes n)) f.rows cells-same;
+          only = λ kind key n e. e;
+        };
+        stored = λ q. refl;
+        closed = refl;
+        failures = refl;
+        loads = λ q. refl;
+        workers = λ q. refl;
+        last = ap (λ k. record w.last { handle = k }) f.last;
+        places = f.places;
+      }
+
+  -- what the world says of a cascade
+  pub ended : Falls before w given (told_by t.unlisted) (with_tables w t)
+  ended =
+      record {
+        gone = f.gone;
+        entries = f.entries;
+        set = record { holds = f.holds; closed = closed; least = λ s has is. f.least s f.entries (λ n none. let a = counted (is_at n) in omega arith) has is };
+        new = f.new;
+        only = f.only;
+        each = each-listed before w (with_tables w t) f.entries (told_by t.unlisted) f.tells;
+        tells = f.tells;
+        within = subst (λ k. k ≤ greatest) f.last f.within;
+        leaves = leaves;
+      }

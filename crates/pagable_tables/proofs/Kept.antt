@@ -1,0 +1,57 @@
+-- What has gone so far is kept by each step of a cascade.
+use Rattle.std.proofs.Common.{◌≡◌, ℕ, ◌+◌, ◌≤◌, Bool, true, List, [], ◌∷◌, length, refl, ap, sym, ◌∙◌, subst, arith, Option, Some, None}
+use Rattle.std.specs.Prelude.{◌≢◌, is_some, Result, Ok, Err}
+use Rattle.pagable_model.specs.declared.error.Error.{Error}
+use Rattle.pagable_model.specs.declared.error.Error.TheVariants as errors
+use Rattle.pagable_world.specs.declared.handles.HandleRow.{HandleRow}
+use Rattle.pagable_world.specs.Cascade.{MustList, TellsListing, IsListRefusal}
+use Rattle.pagable_world.specs.World.{Core}
+use Rattle.pagable_tables.specs.declared.rows.Counts.{Counts}
+use Rattle.pagable_tables.specs.declared.holdings.Holdings.{Holdings}
+use Rattle.pagable_tables.specs.Live.{live}
+use Rattle.pagable_tables.specs.ByNumber.{counts_at}
+use Rattle.pagable_tables.specs.Falling.{cell_in, CellsStay}
+use Rattle.pagable_tables.specs.Onward.{with_tables, told_by, SoFar}
+
+-- what is asked of handles and list, where only nodes differ
+must-same : (before w : Core) (t new : Holdings) (n : ℕ) → MustList before w (with_tables w t) n → MustList before w (with_tables w (record t { nodes = new.nodes; top = new.top })) n
+must-same before w t new n m = record { pinned = m.pinned; unpinned = m.unpinned; unkeyed = m.unkeyed; unshared = m.unshared; stands_open = m.stands_open }
+
+must-back : (before w : Core) (t new : Holdings) (n : ℕ) → MustList before w (with_tables w (record t { nodes = new.nodes; top = new.top })) n → MustList before w (with_tables w t) n
+must-back before w t new n m = record { pinned = m.pinned; unpinned = m.unpinned; unkeyed = m.unkeyed; unshared = m.unshared; stands_open = m.stands_open }
+
+refusal-same : (w : Core) (t new : Holdings) (e : Error) → IsListRefusal w (with_tables w t) e → IsListRefusal w (with_tables w (record t { nodes = new.nodes; top = new.top })) e
+refusal-same w t new errors.NumbersSpent r = r
+refusal-same w t new errors.OutOfMemory r = r
+refusal-same w t new _ r = absurd r
+
+tells-same : (before w : Core) (entries : List HandleRow) (t new : Holdings) (r : Result (Unit {0}) Error) → TellsListing before w entries r (with_tables w t) → TellsListing before w entries r (with_tables w (record t { nodes = new.nodes; top = new.top }))
+tells-same before w entries t new (Ok u) tells = record { all = λ n m. tells.all n (must-back before w t new n m); not_all = tells.not_all }
+tells-same before w entries t new (Err e) tells = record { all = tells.all; not_all = let a = tells.not_all in (a.0, must-same before w t new a.0 a.1, a.2, refusal-same w t new e a.3) }
+
+-- nothing happened to the handles and the list
+same-handles : (before w : Core) (given : ℕ → Bool) (lists : Bool) (t new : Holdings) → SoFar before w given lists t → CellsStay (counts_at t.nodes) (counts_at new.nodes) → t.top ≢ 0
+    → SoFar before w given lists (record t { nodes = new.nodes; top = new.top })
+same-handles before w given lists t new f stay some =
+    record {
+      begins = f.begins;
+      gone = f.gone;
+      entries = f.entries;
+      rows = f.rows;
+      list = f.list;
+      last = f.last;
+      within = f.within;
+      places = f.places;
+      cells = λ n there. let s = stay n there in s.1 ∙ f.cells n s.0;
+      holds = f.holds;
+      least = f.least;
+      new = f.new;
+      only = λ n some. let o = f.only n some in (must-same before w t new n o.0, o.1);
+      tells = tells-same before w f.entries t new (told_by t.unlisted) f.tells;
+      few = λ top. f.few some;
+    }
+
+-- the first node that falls is done
+pub settled : (before w : Core) (given : ℕ → Bool) (lists : Bool) (t new : Holdings) → SoFar before w given lists t → CellsStay (counts_at t.nodes) (counts_at new.nodes) → t.top ≢ 0
+    → new ≡ record t { nodes = new.nodes; top = new.top } → SoFar before w given lists new
+settled before w given lists t new f stay some same = subst (SoFar before w given lists) (sym same) (same-handles before w given lists t new f stay some)

@@ -1,0 +1,65 @@
+-- A handle that a value owned is no entry.
+use Rattle.std.proofs.Common.{◌≡◌, ℕ, ◌+◌, ◌≤◌, ◌==◌, ◌&&◌, Bool, true, false, not, List, [], ◌∷◌, ◌++◌, refl, ap, ◌∙◌, arith}
+use Rattle.std.proofs.lemmas.Bool.Decides.{nat_tests}
+use Rattle.std.proofs.lemmas.List.Sums.{sum_by-cons, sum_by-append}
+use Rattle.pagable_world.specs.declared.handles.HandleRow.{HandleRow}
+use Rattle.pagable_world.specs.declared.handles.Owner.TheVariants as owners
+use Rattle.pagable_world.specs.Plain.{one, times}
+use Rattle.pagable_world.specs.Kinds.{is_handle, is_owned_by, is_owner, owner_value}
+use Rattle.pagable_world.specs.Cascade.{left_rows, only_handle, AreNewEntries}
+use Rattle.pagable_tables.specs.declared.holdings.Holdings.{Holdings}
+use Rattle.pagable_tables.specs.Live.{live}
+use Rattle.pagable_tables.specs.Falling.{Leaves}
+use Rattle.pagable_tables.proofs.Left.{times-left, entries-none}
+
+abbrev of_list : ℕ → HandleRow → Bool
+of_list q h = is_handle q h && is_owned_by owners.List h
+
+abbrev of_other : ℕ → HandleRow → Bool
+of_other q h = is_handle q h && not (is_owned_by owners.List h)
+
+parts : (q : ℕ) (rows : List HandleRow) → times (is_handle q) rows ≡ times (of_list q) rows + times (of_other q) rows
+parts q [] = refl
+parts q (x ∷ xs) =
+    let a = sum_by-cons (λ h. one (is_handle q h)) x xs in
+    let b = sum_by-cons (λ h. one (of_list q h)) x xs in
+    let d = sum_by-cons (λ h. one (of_other q h)) x xs in
+    let rest = parts q xs in
+    let here = bits (is_handle q x) (is_owned_by owners.List x) in
+    omega arith
+  where
+    bits : (a b : Bool) → one a ≡ one (a && b) + one (a && not b)
+    bits true true = refl
+    bits true false = refl
+    bits false b = refl
+
+none-of : (p : HandleRow → Bool) (q : ℕ) (rows : List HandleRow) → times (λ h. (is_handle q h && p h) && not (h.number.0 == q)) rows ≡ 0
+none-of p q [] = refl
+none-of p q (x ∷ xs) =
+    let a = sum_by-cons (λ h. one ((is_handle q h && p h) && not (h.number.0 == q))) x xs in
+    let rest = none-of p q xs in
+    let here = bits (x.number.0 == q) (p x) in
+    omega arith
+  where
+    bits : (a b : Bool) → one ((a && b) && not a) ≡ 0
+    bits true true = refl
+    bits true false = refl
+    bits false b = refl
+
+pub none-listed : (old new : Holdings) (x : HandleRow) (wanted listed : Bool) (n : ℕ) → Leaves old x wanted listed new → x.owner ≡ owner_value n → times (of_list x.number.0) (live old.handles.places.items) ≡ 0
+none-listed old new x wanted listed n leaves owner =
+    let a = leaves.sums (λ h. one (of_list x.number.0 h)) in
+    let b = ap (times (of_list x.number.0)) leaves.rows in
+    let d = times-left (of_list x.number.0) (only_handle x.number) (live old.handles.places.items) in
+    let e = none-of (is_owned_by owners.List) x.number.0 (live old.handles.places.items) in
+    let is : is_owned_by owners.List x ≡ false = ap (is_owner owners.List) owner in
+    let z : one (of_list x.number.0 x) ≡ 0 = grind (arith, nat_tests) in
+    omega arith
+
+pub none-entered : (q last : ℕ) (rows left entries : List HandleRow) → rows ≡ left ++ entries → AreNewEntries last entries → times (of_list q) rows ≡ 0 → times (is_handle q) entries ≡ 0
+none-entered q last rows left entries is new none =
+    let a = ap (times (of_list q)) is in
+    let b = sum_by-append (λ h. one (of_list q h)) left entries in
+    let d = parts q entries in
+    let e = entries-none (of_other q) (λ h mode owner. let l : is_owned_by owners.List h ≡ true = ap (is_owner owners.List) owner in grind (arith, nat_tests)) last entries new in
+    omega arith
