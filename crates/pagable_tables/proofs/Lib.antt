@@ -14,3 +14,4 @@ mod LeastMore
 mod RowsMore
 mod NoEntry
 mod Owned
+mod Listed
