@@ -14,6 +14,7 @@ use Rattle.pagable_world.specs.Kinds.{find_row, is_handle, is_owner, is_owned_by
 use Rattle.pagable_tables.specs.declared.rows.Counts.{Counts}
 use Rattle.pagable_tables.specs.declared.rows.Place.{Place}
 use Rattle.pagable_tables.specs.Live.{live, alive, IsBefore}
+use Rattle.pagable_tables.specs.Owning.{Passes}
 use Rattle.pagable_tables.specs.Falling.{Fits, owns, owns_nothing, is_valued}
 use Rattle.pagable_tables.proofs.Alive.{none-found, only-row}
 use Rattle.pagable_tables.proofs.Coming.{owned-by-none}
@@ -22,8 +23,8 @@ use Rattle.pagable_tables.proofs.Fitting.{pin_of, handle_of, is_owned}
 abbrev pub owned-by : Owner → HandleRow → HandleRow
 owned-by owner x = record x { owner = owner }
 
-pub move-fits : (at : ℕ → Option Counts) (refs : ℕ → List ArcRef) (rows rows' : List HandleRow) (top : ℕ) (extra more : ℕ → ℕ → ℕ) (x : HandleRow) (owner : Owner) → ((f : HandleRow → ℕ) → sum_by f rows' + f x ≡ sum_by f rows + f (owned-by owner x))
-    → ((n q : ℕ) → more n q + owns x n q ≡ extra n q + owns (owned-by owner x) n q) → Fits at refs rows top [] extra → Fits at refs rows' top [] more
+pub move-fits : (at : ℕ → Option Counts) (refs : ℕ → List ArcRef) (rows rows' : List HandleRow) (top : ℕ) (extra more : ℕ → ℕ → ℕ) (x : HandleRow) (owner : Owner)
+    → ((f : HandleRow → ℕ) → sum_by f rows' + f x ≡ sum_by f rows + f (owned-by owner x)) → Passes x owner extra more → Fits at refs rows top [] extra → Fits at refs rows' top [] more
 move-fits at refs rows rows' top extra more x owner sums less fits =
     record {
       pinned = λ n. let a = fits.pinned n in let b = sums (pin_of n) in omega arith;
@@ -36,7 +37,7 @@ move-fits at refs rows rows' top extra more x owner sums less fits =
     }
 
 -- neither owner is a value
-pub no-values : (x : HandleRow) (owner : Owner) → is_valued x.owner ≡ false → is_valued owner ≡ false → (n q : ℕ) → owns_nothing n q + owns x n q ≡ owns_nothing n q + owns (owned-by owner x) n q
+pub no-values : (x : HandleRow) (owner : Owner) → is_valued x.owner ≡ false → is_valued owner ≡ false → Passes x owner owns_nothing owns_nothing
 no-values x owner e f n q = let a = owned-by-none n q x e in let b = owned-by-none n q (owned-by owner x) f in omega arith
 
 -- the list's owner is none, and what it has is there
@@ -53,7 +54,8 @@ entry-at q h = one (is_handle q h && is_owned_by owners.List h)
 entry-less : (q : ℕ) (h : HandleRow) → entry-at q h ≤ one (is_handle q h)
 entry-less q h = grind (arith, nat_tests)
 
-module _ (list : List HandleNumber) (ss : List Place) (i : ℕ) (h : HandleNumber) (lt : i < length list) (is : h ≡ get_or list i h) (listed : times (λ (x : HandleNumber). x.0 == h.0) list ≡ sum_by (entry-at h.0) (live ss)) where
+module _ (list : List HandleNumber) (ss : List Place) (i : ℕ) (h : HandleNumber) (lt : i < length list) (is : h ≡ get_or list i h)
+    (listed : times (λ (x : HandleNumber). x.0 == h.0) list ≡ sum_by (entry-at h.0) (live ss)) where
   some-entry : 1 ≤ sum_by (entry-at h.0) (live ss)
   some-entry =
       let a = get_or-le-sum_by (λ (x : HandleNumber). one (x.0 == h.0)) list i h lt in

@@ -1,9 +1,10 @@
 //! Handles that come to another owner.
 
-ghost use Rattle.std.specs.Prelude.{◌≡◌, ℕ, ◌+◌, [], slice_get, Some, vec_capacity};
+ghost use Rattle.std.specs.Prelude.{◌≡◌, ℕ, [], slice_get, Some, vec_capacity};
 ghost use Rattle.pagable_world.specs.Cascade.{only_handle};
 ghost use Rattle.pagable_world.specs.Calls.{moved};
-ghost use Rattle.pagable_tables.specs.Falling.{IsFalling, owns};
+ghost use Rattle.pagable_tables.specs.Falling.{IsFalling};
+ghost use Rattle.pagable_tables.specs.Owning.{Passes};
 ghost use Rattle.pagable_tables.specs.Live.{live, alive, AreSound};
 ghost use Rattle.pagable_tables.specs.declared.holdings.Holdings.{Holdings};
 
@@ -18,7 +19,7 @@ pub fn hand_over(handles: &mut Handles, at: HandleAt, owner: Owner)
     requires place { slice_get handles.old.places.items at.place ≡ Some (alive at.row) }
     ensures rows { live handles.new.places.items ≡ moved (only_handle at.row.number) owner (live handles.old.places.items) }
     ensures capacity { vec_capacity handles.new.places ≡ vec_capacity handles.old.places }
-    ensures falling { (t : Holdings) (extra more : ℕ → ℕ → ℕ) → IsFalling (record t { handles = handles.old }) [] extra → ((n q : ℕ) → more n q + owns at.row n q ≡ extra n q + owns (record at.row { owner = owner }) n q) → IsFalling (record t { handles = handles.new }) [] more }
+    ensures falling { (t : Holdings) (extra more : ℕ → ℕ → ℕ) → Passes at.row owner extra more → IsFalling (record t { handles = handles.old }) [] extra → IsFalling (record t { handles = handles.new }) [] more }
 {
     let row = HandleRow { owner, ..at.row };
     handles::set(handles, at, row);

@@ -30,5 +30,5 @@ pub returns-clause-steady : goal.returns-clause-steady
 returns-clause-steady c =
     let row = c.in-Ok.at.row in
     let w = c.requires.whole.steady in
-    c.hand_over.ensures.falling (record c.args.t.now.holdings { list = c.push.new.self }) owns_nothing owns_nothing (record { sound = w.sound; next = w.next; fits = w.fits })
-    (no-values row owners.List (ap is_valued (owner-same c.args.me row.owner c.in-Ok.ensures.owner) ∙ c.requires.owner) refl)
+    let free = no-values row owners.List (ap is_valued (owner-same c.args.me row.owner c.in-Ok.ensures.owner) ∙ c.requires.owner) refl in
+    c.hand_over.ensures.falling (record c.args.t.now.holdings { list = c.push.new.self }) owns_nothing owns_nothing free (record { sound = w.sound; next = w.next; fits = w.fits })

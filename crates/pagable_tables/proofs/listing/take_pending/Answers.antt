@@ -27,5 +27,6 @@ returns-clause-steady c =
     let w = c.requires.whole.steady in
     let row = c.in-Some.at.row in
     let listed = c.requires.whole.core.owners_there.listed c.remove-handle.result.0 in
-    let free = entry-unvalued t.list.items t.handles.places.items c.args.place c.remove-handle.result (omega arith) c.remove-handle.ensures.value listed c.in-Some.at.place row w.sound.ordered c.in-Some.ensures.place c.in-Some.ensures.number in
-    c.hand_over.ensures.falling (record t { list = c.remove-handle.new.self }) owns_nothing owns_nothing (record { sound = w.sound; next = w.next; fits = w.fits }) (no-values row c.args.me free c.requires.owner)
+    let none = entry-unvalued t.list.items t.handles.places.items c.args.place c.remove-handle.result (omega arith) c.remove-handle.ensures.value listed in
+    let free = no-values row c.args.me (none c.in-Some.at.place row w.sound.ordered c.in-Some.ensures.place c.in-Some.ensures.number) c.requires.owner in
+    c.hand_over.ensures.falling (record t { list = c.remove-handle.new.self }) owns_nothing owns_nothing free (record { sound = w.sound; next = w.next; fits = w.fits })

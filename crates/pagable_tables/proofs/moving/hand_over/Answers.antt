@@ -9,7 +9,7 @@ pub returns-clause-rows : goal.returns-clause-rows
 returns-clause-rows c = c.set.ensures.rows ∙ changed-known (owned-by c.args.owner) c.args.handles.now.places.items c.args.at.place c.args.at.row c.requires.sound.ordered c.requires.place
 
 pub returns-clause-falling : goal.returns-clause-falling
-returns-clause-falling c t extra more falling less =
+returns-clause-falling c t extra more less falling =
     let rows = live c.args.handles.now.places.items in
     let rows' = live c.set.new.handles.places.items in
     record {
