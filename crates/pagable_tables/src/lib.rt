@@ -8,6 +8,7 @@ pub mod cascade;
 pub mod handles;
 pub mod holdings;
 pub mod kinds;
+pub mod known;
 pub mod listing;
 pub mod loads;
 pub mod lookups;
