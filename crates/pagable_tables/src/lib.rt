@@ -15,6 +15,7 @@ pub mod lookups;
 pub mod making;
 pub mod moving;
 pub mod nodes;
+pub mod pinning;
 pub mod places;
 pub mod rows;
 pub mod tables;
