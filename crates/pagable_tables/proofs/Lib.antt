@@ -13,3 +13,4 @@ mod Forced
 mod LeastMore
 mod RowsMore
 mod NoEntry
+mod keeps
