@@ -4,6 +4,8 @@ pub mod Told
 pub mod Placed
 pub mod Turned
 pub mod Comes
+pub mod Rests
+pub mod Fallen
 pub mod HandleCalls
 pub mod LoadCalls
 pub mod CacheCalls

@@ -30,15 +30,15 @@ among-map f [] x a = absurd (cc)
 among-map f (y ∷ ys) x (zero, is) = let e : f y ≡ x = cc in (y, (zero, refl), sym e)
 among-map f (y ∷ ys) x (suc i, is) = let r = among-map f ys x (i, is) in (r.0, (suc r.1.0, r.1.1), r.2)
 
-among-cond : {X : Type 0} (b : Bool) (y : X) (ys zs : List X) (x : X) → Among (if b then y ∷ ys else ys) x → ((a : Among ys x) → Among zs x) → Among (y ∷ zs) x
-among-cond true y ys zs x (zero, is) rest = (zero, is)
-among-cond true y ys zs x (suc i, is) rest = let a = rest (i, is) in (suc a.0, a.1)
-among-cond false y ys zs x a rest = let b = rest a in (suc b.0, b.1)
+among-cond : {X : Type 0} (test : X → Bool) (b : Bool) (y : X) (ys zs : List X) (x : X) → test y ≡ b → Among (if b then y ∷ ys else ys) x → (Among ys x → Among zs x × (test x ≡ true)) → Among (y ∷ zs) x × (test x ≡ true)
+among-cond test true y ys zs x so (zero, is) rest = let e : y ≡ x = cc in ((zero, is), ap test (sym e) ∙ so)
+among-cond test true y ys zs x so (suc i, is) rest = let a = rest (i, is) in ((suc a.0.0, a.0.1), a.1)
+among-cond test false y ys zs x so a rest = let b = rest a in ((suc b.0.0, b.0.1), b.1)
 
--- what is left was there, and isn't of the set
-pub among-left : {X : Type 0} (test : X → Bool) (xs : List X) (x : X) → Among (filter test xs) x → Among xs x
+-- what is left was there, and passes the test
+pub among-left : {X : Type 0} (test : X → Bool) (xs : List X) (x : X) → Among (filter test xs) x → Among xs x × (test x ≡ true)
 among-left test [] x a = absurd (cc)
-among-left test (y ∷ ys) x a = among-cond (test y) y (filter test ys) ys x a (among-left test ys x)
+among-left test (y ∷ ys) x a = among-cond test (test y) y (filter test ys) ys x refl a (among-left test ys x)
 
 -- ---- counted
 
