@@ -17,3 +17,4 @@ mod Owned
 mod Listed
 mod Recalled
 mod Pins
+mod keeps
