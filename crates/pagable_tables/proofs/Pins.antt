@@ -1,9 +1,7 @@
 -- A handle is pinned, by a Pinned one that is made and by itself. Why an own handle can't be used.
-use Rattle.std.proofs.Common.{◌≡◌, ℕ, ◌+◌, ◌<◌, ◌≤◌, ◌==◌, Bool, true, false, List, [], ◌∷◌, ◌++◌, refl, ap, ◌∙◌, subst, arith, Option, Some, None, if◌then◌else◌, get_or, slice_get, sum_by}
+use Rattle.std.proofs.Common.{◌≡◌, ℕ, ◌+◌, ◌<◌, ◌≤◌, ◌==◌, Bool, true, false, List, [], ◌∷◌, ◌++◌, refl, ap, sym, ◌∙◌, subst, arith, Option, Some, None, if◌then◌else◌}
 use Rattle.std.specs.Prelude.{not, nat_lt, nat_le}
 use Rattle.std.proofs.lemmas.Bool.Decides.{nat_tests}
-use Rattle.std.proofs.lemmas.List.Sums.{sum_by_push}
-use Rattle.std.proofs.lemmas.Option.{get_or_from_slice_get, slice_get_within}
 use Rattle.pagable_model.specs.declared.error.Error.{Error}
 use Rattle.pagable_model.specs.declared.error.Error.TheVariants as errors
 use Rattle.pagable_model.specs.declared.numbers.HandleNumber.{HandleNumber}
@@ -12,14 +10,11 @@ use Rattle.pagable_world.specs.declared.handles.HandleRow.{HandleRow}
 use Rattle.pagable_world.specs.declared.handles.Owner.{Owner}
 use Rattle.pagable_world.specs.declared.rows.Mode.{Mode}
 use Rattle.pagable_world.specs.declared.rows.Mode.TheVariants as modes
-use Rattle.pagable_world.specs.Plain.{changed, if_there, one}
+use Rattle.pagable_world.specs.Plain.{changed, if_there}
 use Rattle.pagable_world.specs.Kinds.{find_row, is_handle, is_owner}
 use Rattle.pagable_world.specs.World.{Core, Alike, greatest, row_at}
 use Rattle.pagable_world.specs.Refusals.{earlier, rank, refused_if, spent, where_so, handle_fault}
 use Rattle.pagable_world.specs.Calls.{with_handle, with_mode, row_of}
-use Rattle.pagable_tables.specs.declared.rows.Place.{Place}
-use Rattle.pagable_tables.specs.Live.{live, alive, IsNext}
-use Rattle.pagable_tables.proofs.Alive.{none-found, row-le-live}
 use Rattle.pagable_tables.proofs.Coming.{turned}
 use Rattle.pagable_tables.proofs.Worlds.{same-cache}
 
@@ -82,19 +77,15 @@ spent-late l true f is = by (nat_le greatest l) is
     by false is = absurd (cc)
     by true is = let same : errors.NumbersSpent ≡ f = cc in subst (λ x. 2 < rank x) same (omega arith)
 
--- the row at a place has a number that was given, and is found after one more came
-pub placed-given : (q : ℕ) (ss : List Place) (i : ℕ) (row : HandleRow) → IsNext (q + 1) ss → slice_get ss i ≡ Some (alive row) → row.number.0 ≤ q
-placed-given q ss i row next at =
-    let a : (get_or ss i (alive row)).row.number.0 < q + 1 = next i (alive row) (slice_get_within ss i (alive row) at) in
-    let b : (get_or ss i (alive row)).row.number.0 ≡ row.number.0 = ap (λ (p : Place). p.row.number.0) (get_or_from_slice_get ss i (alive row) (alive row) at) in
-    omega arith
+-- who is found stays found when more rows come
+found-more : (q : ℕ) (rows more : List HandleRow) (row : HandleRow) → find_row q rows ≡ Some row → find_row q (rows ++ more) ≡ Some row
+unfolding find_row
+found-more q [] more row is = absurd (cc)
+found-more q (h ∷ hs) more row is = by (is_handle q h) is (found-more q hs more row)
+  where
+    by : (b : Bool) → (if b then Some h else find_row q hs) ≡ Some row → (find_row q hs ≡ Some row → find_row q (hs ++ more) ≡ Some row) → (if b then Some h else find_row q (hs ++ more)) ≡ Some row
+    by true is rest = is
+    by false is rest = rest is
 
-pub still-found : (ss : List Place) (i : ℕ) (row x : HandleRow) (rows' : List HandleRow) → slice_get ss i ≡ Some (alive row) → rows' ≡ live ss ++ x ∷ [] → find_row row.number.0 rows' ≡ None → ⊥
-still-found ss i row x rows' at more none =
-    let f = λ (h : HandleRow). one (is_handle row.number.0 h) in
-    let a = none-found row.number.0 rows' none in
-    let b = ap (sum_by f) more in
-    let l = sum_by_push f (live ss) x in
-    let d = row-le-live f ss i row at in
-    let here : one (is_handle row.number.0 row) ≡ 1 = grind (arith, nat_tests) in
-    absurd (omega arith)
+pub found-again : (q : ℕ) (rows rows' more : List HandleRow) (row : HandleRow) (o : Option HandleRow) → find_row q rows ≡ Some row → rows' ≡ rows ++ more → find_row q rows' ≡ o → o ≡ Some row
+found-again q rows rows' more row o is came again = sym again ∙ ap (find_row q) came ∙ found-more q rows more row is
