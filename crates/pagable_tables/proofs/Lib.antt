@@ -17,4 +17,5 @@ mod Owned
 mod Listed
 mod Recalled
 mod Pins
+mod Offers
 mod keeps
