@@ -18,4 +18,5 @@ mod Listed
 mod Recalled
 mod Pins
 mod Offers
+mod Named
 mod keeps
