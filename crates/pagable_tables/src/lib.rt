@@ -17,6 +17,7 @@ pub mod moving;
 pub mod nodes;
 pub mod pinning;
 pub mod places;
+pub mod references;
 pub mod rows;
 pub mod tables;
 pub mod turning;
