@@ -19,4 +19,5 @@ mod Recalled
 mod Pins
 mod Offers
 mod Named
+mod Born
 mod keeps
