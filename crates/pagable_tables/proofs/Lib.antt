@@ -20,4 +20,5 @@ mod Pins
 mod Offers
 mod Named
 mod Born
+mod NewNodes
 mod keeps
