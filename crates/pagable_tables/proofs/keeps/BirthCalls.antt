@@ -79,10 +79,10 @@ named-unlisted {w} whole owner refs other good x among named =
 
 module _ {w : Core} (whole : IsWhole w) (node_type : ℕ) (key : OptionalDataKey) (refs : List ArcRef) (mode : Mode) (from me : Owner) (other : is_owner owners.List from ≡ false) (good : references_fault w from [] refs ≡ None)
     (holder : MayHold w me) (node_left : w.last.node < greatest) (left : w.last.handle < greatest) (unkeyed : is_shared mode ≡ true → has_key key ≡ false) where
-  abbrev moved-world : Core
+  abbrev pub moved-world : Core
   moved-world = record w { rows = moved (is_named_by refs) (owner_value (w.last.node + 1)) w.rows }
 
-  abbrev born : Core
+  abbrev pub born : Core
   born = with_handle (with_node w node_type key refs) (next_node w) mode me
 
   moved-whole : IsWhole (roomy moved-world)

@@ -24,6 +24,10 @@ pub among-one : {X : Type 0} (x y : X) → Among (x ∷ []) y → y ≡ x
 among-one x y (zero, is) = let e : x ≡ y = cc in sym e
 among-one x y (suc i, is) = absurd (cc)
 
+pub among-last : {X : Type 0} (xs : List X) (x : X) → Among (xs ++ x ∷ []) x
+among-last [] x = (zero, refl)
+among-last (y ∷ ys) x = let a = among-last ys x in (suc a.0, a.1)
+
 -- the element of a changed list was one before
 pub among-map : {X : Type 0} (f : X → X) (xs : List X) (x : X) → Among (map f xs) x → (y : X) × Among xs y × (x ≡ f y)
 among-map f [] x a = absurd (cc)
