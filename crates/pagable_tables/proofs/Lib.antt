@@ -13,3 +13,7 @@ mod Forced
 mod LeastMore
 mod RowsMore
 mod NoEntry
+mod Listing
+mod Telling
+mod Going
+mod Next
