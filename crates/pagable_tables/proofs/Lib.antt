@@ -17,3 +17,4 @@ mod Listing
 mod Telling
 mod Going
 mod Next
+mod Begun
