@@ -1,5 +1,5 @@
 -- The plain world that the tables tell, and when they are whole.
-use Rattle.std.specs.Prelude.{ℕ, Bool, false, [], Option, None, Result, IfOk, IfErr, vec_capacity}
+use Rattle.std.specs.Prelude.{ℕ, ◌≡◌, Bool, false, [], Option, None, Result, IfOk, IfErr, vec_capacity}
 use Rattle.std.specs.Option.{option_map}
 use Rattle.pagable_model.specs.declared.error.Error.{Error}
 use Rattle.pagable_model.specs.declared.numbers.HandleNumber.{HandleNumber}
