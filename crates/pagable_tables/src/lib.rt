@@ -16,3 +16,4 @@ pub mod releases;
 pub mod rows;
 pub mod tables;
 pub mod turning;
+pub mod unpins;
