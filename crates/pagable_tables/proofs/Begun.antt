@@ -6,10 +6,8 @@ use Rattle.std.proofs.lemmas.List.Sums.{sum_by-cons}
 use Rattle.pagable_model.specs.declared.error.Error.{Error}
 use Rattle.pagable_model.specs.declared.numbers.ArcRef.{ArcRef}
 use Rattle.pagable_world.specs.declared.handles.HandleRow.{HandleRow}
-use Rattle.pagable_world.specs.declared.handles.Owner.{Owner}
-use Rattle.pagable_world.specs.declared.handles.Owner.TheVariants as owners
 use Rattle.pagable_world.specs.Plain.{Blob, one, times}
-use Rattle.pagable_world.specs.Kinds.{is_at, is_share, is_handle, is_owner, owner_value, held, sharing}
+use Rattle.pagable_world.specs.Kinds.{is_at, is_share, held, sharing}
 use Rattle.pagable_world.specs.World.{Core, greatest, HasRoom}
 use Rattle.pagable_world.specs.Cascade.{IsWithin, MustList, TellsListing, nobody}
 use Rattle.pagable_tables.specs.declared.tables.Tables.{Tables}
