@@ -20,3 +20,4 @@ mod Next
 mod Begun
 mod Lowered
 mod Unpinning
+mod KeyPut

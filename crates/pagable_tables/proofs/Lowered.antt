@@ -15,10 +15,10 @@ use Rattle.pagable_tables.proofs.Begun.{fits-unowned}
 use Rattle.pagable_tables.proofs.Coming.{come-fits, come-cells, come-there}
 use Rattle.pagable_tables.proofs.Fitting.{given-fits, given-cells}
 
-updated-here : {X : Type 0} (n : ℕ) (x : X) (f : ℕ → X) → updated n x f n ≡ x
+pub updated-here : {X : Type 0} (n : ℕ) (x : X) (f : ℕ → X) → updated n x f n ≡ x
 updated-here n x f = let e : (n == n) ≡ true = grind (arith, nat_tests) in ap (λ b. if b then x else f n) e
 
-updated-other : {X : Type 0} (n : ℕ) (x : X) (f : ℕ → X) (q : ℕ) → q ≢ n → updated n x f q ≡ f q
+pub updated-other : {X : Type 0} (n : ℕ) (x : X) (f : ℕ → X) (q : ℕ) → q ≢ n → updated n x f q ≡ f q
 updated-other n x f q other = let e : (q == n) ≡ false = grind (arith, nat_tests) in ap (λ b. if b then x else f q) e
 
 -- one that is pinned no more falls only if it has a key

@@ -7,6 +7,7 @@ pub mod cache;
 pub mod cascade;
 pub mod handles;
 pub mod holdings;
+pub mod keys;
 pub mod loads;
 pub mod lookups;
 pub mod making;
