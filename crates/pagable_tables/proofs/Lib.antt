@@ -21,3 +21,8 @@ mod Begun
 mod Lowered
 mod Unpinning
 mod KeyPut
+mod Owned
+mod Listed
+mod Recalled
+mod Pins
+mod keeps

@@ -5,3 +5,4 @@ pub mod Onward
 pub mod Core
 pub mod Lowering
 pub mod Keyed
+pub mod Owning
