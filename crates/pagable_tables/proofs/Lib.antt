@@ -13,7 +13,7 @@ mod Forced
 mod LeastMore
 mod RowsMore
 mod NoEntry
-mod Listing
+mod Wanted
 mod Telling
 mod Going
 mod Next
@@ -26,3 +26,4 @@ mod Listed
 mod Recalled
 mod Pins
 mod keeps
+mod KeySet

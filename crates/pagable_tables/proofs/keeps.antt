@@ -11,3 +11,4 @@ pub mod HandleCalls
 pub mod FallCalls
 pub mod LoadCalls
 pub mod CacheCalls
+pub mod Opened
