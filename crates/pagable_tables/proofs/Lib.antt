@@ -13,4 +13,17 @@ mod Forced
 mod LeastMore
 mod RowsMore
 mod NoEntry
+mod Wanted
+mod Telling
+mod Going
+mod Next
+mod Begun
+mod Lowered
+mod Unpinning
+mod KeyPut
+mod Owned
+mod Listed
+mod Recalled
+mod Pins
 mod keeps
+mod KeySet

@@ -7,6 +7,7 @@ pub mod Turned
 pub mod Comes
 pub mod Rests
 pub mod Fallen
+pub mod Opened
 pub mod Moved
 pub mod HandleCalls
 pub mod FallCalls
