@@ -13,6 +13,14 @@ mod Forced
 mod LeastMore
 mod RowsMore
 mod NoEntry
+mod Wanted
+mod Telling
+mod Going
+mod Next
+mod Begun
+mod Lowered
+mod Unpinning
+mod KeyPut
 mod Owned
 mod Listed
 mod Recalled
@@ -22,3 +30,4 @@ mod Named
 mod Born
 mod NewNodes
 mod keeps
+mod KeySet

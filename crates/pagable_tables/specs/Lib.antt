@@ -3,6 +3,8 @@ pub mod ByNumber
 pub mod Falling
 pub mod Onward
 pub mod Core
+pub mod Lowering
+pub mod Keyed
 pub mod Owning
 pub mod Offering
 pub mod Bearing

@@ -1,42 +1,43 @@
 -- Calls by which handles or values fall keep the world whole.
-use Rattle.std.proofs.Common.{◌≡◌, ℕ, ◌+◌, ◌<◌, ◌==◌, Bool, true, false, Option, Some, None, inl, inr, refl, ap, sym, subst, ◌∙◌, if◌then◌else◌, arith}
+use Rattle.std.proofs.Common.{◌≡◌, ℕ, ◌<◌, ◌==◌, Bool, true, false, Option, Some, None, inl, inr, refl, ap, sym, ◌∙◌, if◌then◌else◌, arith}
 use Rattle.std.specs.Prelude.{Result, is_some}
 use Rattle.std.proofs.lemmas.Bool.Decides.{nat_tests}
 use Rattle.pagable_model.specs.declared.data_key.OptionalDataKey.TheVariants as optional
 use Rattle.pagable_model.specs.declared.error.Error.{Error}
 use Rattle.pagable_model.specs.declared.numbers.HandleNumber.{HandleNumber}
 use Rattle.pagable_model.specs.declared.numbers.NodeNumber.{NodeNumber}
-use Rattle.pagable_world.specs.declared.handles.HandleRow.{HandleRow}
 use Rattle.pagable_world.specs.declared.handles.Owner.{Owner}
 use Rattle.pagable_world.specs.declared.rows.Mode.TheVariants as modes
-use Rattle.pagable_world.specs.Plain.{updated, if_there}
+use Rattle.pagable_world.specs.Plain.{if_there}
 use Rattle.pagable_world.specs.Kinds.{is_shared, sharing}
-use Rattle.pagable_world.specs.World.{Core, Cell, Alike}
+use Rattle.pagable_world.specs.World.{Core, Cell}
 use Rattle.pagable_world.specs.Cascade.{only_handle, nobody}
-use Rattle.pagable_world.specs.Calls.{with_mode, with_key, IsRefused, ReleaseCall, UnpinCall, SetKeyCall}
-use Rattle.pagable_world.specs.Pager.{IsWhole, IsRootWhole}
+use Rattle.pagable_world.specs.Calls.{with_key, ReleaseCall, UnpinCall, SetKeyCall}
+use Rattle.pagable_world.specs.Pager.{IsWhole}
 use Rattle.pagable_tables.specs.Core.{ArePlaced}
 use Rattle.pagable_tables.proofs.keeps.Rows.{found-among}
-use Rattle.pagable_tables.proofs.keeps.Told.{roomy, roomy-whole, alike-whole, may-own}
+use Rattle.pagable_tables.proofs.keeps.Told.{roomy-whole, alike-whole, may-own}
 use Rattle.pagable_tables.proofs.keeps.GoingOn.{GoesOn, stays-on}
 use Rattle.pagable_tables.proofs.keeps.Turned.{moded-whole, moded-on}
 use Rattle.pagable_tables.proofs.keeps.Comes.{keyed_in, type_in, unshared-node}
-use Rattle.pagable_tables.proofs.keeps.Fallen.{may-fall, falls-whole}
+use Rattle.pagable_tables.proofs.keeps.Fallen.{may-fall}
+use Rattle.pagable_tables.proofs.keeps.Opened.{opened, alike-opened, falls-opened}
 use Rattle.pagable_tables.proofs.keeps.HandleCalls.{loose-unshared}
 
-pub release-whole : {w w' : Core} (me : Owner) (h : HandleNumber) (r : Result (Unit {0}) Error) → IsWhole w → ReleaseCall w me h r w' → ArePlaced w' → IsWhole w'
+pub release-whole : {w w' : Core} (me : Owner) (h : HandleNumber) (r : Result (Unit {0}) Error) → IsWhole (opened w) → ReleaseCall w me h r w' → ArePlaced (opened w') → IsWhole (opened w')
 release-whole {w} me h r whole call placed = elim call.does [
-  | inl refused ↦ alike-whole whole refused.stays placed
-  | inr (row, owns, falls) ↦ falls-whole (may-fall (only_handle h) whole (roomy-whole whole) (stays-on w)) falls placed
+  | inl refused ↦ alike-whole whole (alike-opened refused.stays) placed
+  | inr (row, owns, falls) ↦ falls-opened (may-fall (only_handle h) whole (roomy-whole whole) (stays-on (opened w))) falls placed
 ]
 
-pub unpin-whole : {w w' : Core} (me : Owner) (h : HandleNumber) (r : Result (Unit {0}) Error) → IsWhole w → UnpinCall w me h r w' → ArePlaced w' → IsWhole w'
-unpin-whole {w} {w'} me h r whole call placed = elim call.does [
-  | inl refused ↦ alike-whole whole refused.stays placed
-  | inr (row, owns, inl stays) ↦ alike-whole whole stays.2 placed
+pub unpin-whole : {w w' : Core} (me : Owner) (h : HandleNumber) (r : Result (Unit {0}) Error) → IsWhole (opened w) → UnpinCall w me h r w' → ArePlaced (opened w') → IsWhole (opened w')
+unpin-whole me h r whole call placed = elim call.does [
+  | inl refused ↦ alike-whole whole (alike-opened refused.stays) placed
+  | inr (row, owns, inl stays) ↦ alike-whole whole (alike-opened stays.2) placed
   | inr (row, owns, inr (pinned, falls)) ↦
       let unshared : is_shared modes.LooseUnpinned ≡ is_shared row.mode = ap is_shared (sym pinned) in
-      falls-whole (may-fall nobody whole (moded-whole whole h row modes.LooseUnpinned owns.live unshared (λ loose. refl) (λ is. refl)) (moded-on whole h row modes.LooseUnpinned owns.live unshared (λ loose. refl) (λ is. refl))) falls placed
+      falls-opened (may-fall nobody whole (moded-whole whole h row modes.LooseUnpinned owns.live unshared (λ loose. refl) (λ is. refl))
+      (moded-on whole h row modes.LooseUnpinned owns.live unshared (λ loose. refl) (λ is. refl))) falls placed
 ]
 
 -- ---- a key
@@ -87,7 +88,8 @@ module _ {w : Core} (whole : IsWhole w) (node : NodeNumber) (key : ℕ) (unshare
         loads = record {
           numbered = whole.loads.numbered;
           owned = λ l load is. may-own w (with_key w node key) (λ v at. at) load.owner (whole.loads.owned l load is);
-          roots = λ l load n t k is root. let r = whole.loads.roots l load n t k is root in record { typed = λ type named. r.typed type (sym (kept type_in same-type n.0) ∙ named); begun = r.begun; given = r.given };
+          roots = λ l load n t k is root. let r = whole.loads.roots l load n t k is root in
+              record { typed = λ type named. r.typed type (sym (kept type_in same-type n.0) ∙ named); begun = r.begun; given = r.given };
         };
         cache = λ kind q n is. let e = whole.cache kind q n is in record { given = e.given; typed = λ t named. e.typed t (sym (kept type_in same-type n) ∙ named); shares = e.shares };
         workers_numbered = whole.workers_numbered;
@@ -97,11 +99,12 @@ module _ {w : Core} (whole : IsWhole w) (node : NodeNumber) (key : ℕ) (unshare
   pub keyed-on : GoesOn w (with_key w node key)
   keyed-on = record { cells = λ n is. kept is_some same-there n ∙ is; rows = λ n. omega arith }
 
-pub set-key-whole : {w w' : Core} (me : Owner) (h : HandleNumber) (key : ℕ) (r : Result (Unit {0}) Error) → IsWhole w → SetKeyCall w me h key r w' → ArePlaced w' → IsWhole w'
+pub set-key-whole : {w w' : Core} (me : Owner) (h : HandleNumber) (key : ℕ) (r : Result (Unit {0}) Error) → IsWhole (opened w) → SetKeyCall w me h key r w' → ArePlaced (opened w')
+    → IsWhole (opened w')
 set-key-whole {w} me h key r whole call placed = elim call.does [
-  | inl refused ↦ alike-whole whole refused.stays placed
-  | inr (row, owns, inl stays) ↦ alike-whole whole stays.2 placed
+  | inl refused ↦ alike-whole whole (alike-opened refused.stays) placed
+  | inr (row, owns, inl stays) ↦ alike-whole whole (alike-opened stays.2) placed
   | inr (row, owns, inr (loose, falls)) ↦
       let unshared = unshared-node whole row (found-among h.0 w.rows row owns.live).0 (loose-unshared row.mode loose) in
-      falls-whole (may-fall nobody whole (roomy-whole (keyed-whole whole row.node key unshared)) (keyed-on whole row.node key unshared)) falls placed
+      falls-opened (may-fall nobody whole (roomy-whole (keyed-whole whole row.node key unshared)) (keyed-on whole row.node key unshared)) falls placed
 ]
