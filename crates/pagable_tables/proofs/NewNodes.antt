@@ -15,6 +15,10 @@ use Rattle.pagable_world.specs.Kinds.{is_owner, fits_mode}
 use Rattle.pagable_world.specs.World.{Core, row_at, type_at}
 use Rattle.pagable_world.specs.Refusals.{earlier, rank, refused_if, spent, reference_fault, references_fault, row_fault, is_type, Refused}
 use Rattle.pagable_world.specs.Calls.{birth_fault, AwayBirthCall}
+use Rattle.pagable_world.specs.Pager.{IsWhole}
+use Rattle.pagable_tables.specs.Core.{ArePlaced, MayHold}
+use Rattle.pagable_tables.proofs.keeps.BirthCalls.{birth-whole, no-references}
+use Rattle.pagable_tables.proofs.keeps.Told.{alike-whole}
 use Rattle.pagable_tables.specs.declared.rows.Counts.{Counts}
 use Rattle.pagable_tables.specs.Falling.{key_in}
 use Rattle.pagable_tables.specs.Bearing.{Bears, BirthOf}
@@ -59,8 +63,7 @@ references-first w me rs e is =
     ap (λ f. earlier f (birth_fault w)) is ∙ earlier-first e (birth_fault w) (λ f so. let a = references-low w me [] rs e is in let b = after f so in omega arith)
 
 pub none-named : (w : Core) (me : Owner) (rs : List ArcRef) → rs ≡ [] → references_fault w me [] rs ≡ None
-unfolding references_fault
-none-named w me rs is = ap (references_fault w me []) is
+none-named w me rs is = ap (references_fault w me []) is ∙ no-references w me
 
 key-is : (k : ℕ) → 0 < k → key_in k ≡ optional.Some k
 key-is zero some = absurd (omega arith)
@@ -81,3 +84,7 @@ module _ (w : Core) (me : Owner) (node_type : ℕ) (c : Counts) (rs : List ArcRe
       by : (r : Result HandleNumber Error) → Bears w me node_type optional.None rs mode r w' → BirthOf w me node_type rs mode r w'
       by (Ok k) e = let m = e.made in record { made = (fit, m.0, m.1, m.2); refused = tt }
       by (Err x) e = record { made = tt; refused = subst (λ f. Refused (earlier f (birth_fault w)) None (Unit {0}) w x w') (sym fit) e.refused }
+
+pub birth-of-whole : {w w' : Core} (me : Owner) (node_type : ℕ) (rs : List ArcRef) (mode : Mode) (r : Result HandleNumber Error) → IsWhole w → MayHold w me → BirthOf w me node_type rs mode r w' → ArePlaced w' → IsWhole w'
+birth-of-whole me node_type rs mode (Ok k) whole holder b placed = birth-whole me (tt {0}) node_type rs mode (Ok k) whole holder (record { made = b.made; refused = tt }) placed
+birth-of-whole me node_type rs mode (Err e) whole holder b placed = alike-whole whole b.refused.stays placed

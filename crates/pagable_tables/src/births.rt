@@ -96,7 +96,7 @@ pub fn new_node(
     requires whole { IsWhole t.old }
     requires holder { MayHold (plain_of t.old) me }
     ensures born { (stored : ℕ → Option Blob) (closed : Bool) (failures : ℕ) → BirthOf (core_of t.old stored closed failures) me node_type references.items mode result (core_of t.new stored closed failures) }
-    ensures steady { IsFalling t.new.holdings [] owns_nothing }
+    ensures whole { IsWhole t.new }
 {
     if let Err(e) = check_references(t, me, &references) {
         return Err(e);
@@ -118,7 +118,7 @@ pub fn new_away(
     requires whole { IsWhole t.old }
     requires holder { MayHold (plain_of t.old) me }
     ensures born { (stored : ℕ → Option Blob) (closed : Bool) (failures : ℕ) → AwayBirthCall (core_of t.old stored closed failures) me node_type key result (core_of t.new stored closed failures) }
-    ensures steady { IsFalling t.new.holdings [] owns_nothing }
+    ensures whole { IsWhole t.new }
 {
     let counts = first_counts(node_type, key.get(), Mode::LooseUnpinned);
     match bear(t, me, counts, Vec::new(alloc), Mode::LooseUnpinned) {
