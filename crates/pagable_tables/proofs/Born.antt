@@ -22,7 +22,7 @@ use Rattle.pagable_tables.specs.Falling.{Fits, Right, is_right, is_bare, cell_in
 use Rattle.pagable_tables.proofs.Coming.{owned-by-none}
 use Rattle.pagable_tables.proofs.Fitting.{pin_of, handle_of, is_owned, pin-here, held-here, pin-other, held-other}
 use Rattle.pagable_tables.proofs.Owned.{owned-by}
-use Rattle.pagable_tables.proofs.Worlds.{owner-same}
+use Rattle.pagable_tables.proofs.keeps.BirthCalls.{named-mine}
 use Rattle.pagable_tables.proofs.keeps.Rests.{found-so}
 use Rattle.pagable_tables.proofs.keeps.Rows.{found-among, sum-map, sum-none, at-most-sum, only-row}
 
@@ -30,51 +30,44 @@ or-none : (a b : Option Error) → or_else a b ≡ None → (a ≡ None) × (b �
 or-none None b e = (refl, e)
 or-none (Some x) b e = absurd (cc)
 
--- the handle of this number is live, and of the one who hands it in
-pub record IsOwn (w : Core) (me : Owner) (q : ℕ) : Type 0 where
-  pub row : HandleRow
-  pub live : find_row q w.rows ≡ Some row
-  pub own : is_owner me row.owner ≡ true
+unseen-first : (own seen : Bool) → refused_if (not own || seen) errors.NotYours ≡ None → seen ≡ false
+unseen-first own false e = refl
+unseen-first false true e = absurd (cc)
+unseen-first true true e = absurd (cc)
 
-own-first : (own seen : Bool) → refused_if (not own || seen) errors.NotYours ≡ None → (own ≡ true) × (seen ≡ false)
-own-first false seen e = absurd (cc)
-own-first true false e = (refl, refl)
-own-first true true e = absurd (cc)
-
-named-own : (w : Core) (me : Owner) (seen : List ℕ) (r : ArcRef) → reference_fault w me seen r ≡ None → (is_in seen r.handle.0 ≡ false) × IsOwn w me r.handle.0
-named-own w me seen r none = by (row_at w r.handle) refl none
+unseen-one : (w : Core) (me : Owner) (seen : List ℕ) (r : ArcRef) → reference_fault w me seen r ≡ None → is_in seen r.handle.0 ≡ false
+unseen-one w me seen r none = by (row_at w r.handle) none
   where
-    here : (row : HandleRow) (b : Bool) (last : Option Error) → row_at w r.handle ≡ Some row → (if not b then Some errors.NoSuchHandle else or_else (refused_if (not (is_owner me row.owner) || is_in seen r.handle.0) errors.NotYours) last) ≡ None
-        → (is_in seen r.handle.0 ≡ false) × IsOwn w me r.handle.0
-    here row false last at e = absurd (cc)
-    here row true last at e = let a = own-first (is_owner me row.owner) (is_in seen r.handle.0) (or-none _ last e).0 in (a.1, record { row = row; live = at; own = a.0 })
+    here : (own b : Bool) (last : Option Error) → (if not b then Some errors.NoSuchHandle else or_else (refused_if (not own || is_in seen r.handle.0) errors.NotYours) last) ≡ None → is_in seen r.handle.0 ≡ false
+    here own false last e = absurd (cc)
+    here own true last e = unseen-first own (is_in seen r.handle.0) (or-none _ last e).0
 
-    by : (o : Option HandleRow) → row_at w r.handle ≡ o
-        → if_there (λ (row : HandleRow). row_fault w r (refused_if (not (is_owner me row.owner) || is_in seen r.handle.0) errors.NotYours) row) (Some errors.NoSuchHandle) o ≡ None → (is_in seen r.handle.0 ≡ false) × IsOwn w me r.handle.0
-    by None at e = absurd (cc)
-    by (Some row) at e = here row (row.node.0 == r.node.0) _ at e
+    by : (o : Option HandleRow) → if_there (λ (row : HandleRow). row_fault w r (refused_if (not (is_owner me row.owner) || is_in seen r.handle.0) errors.NotYours) row) (Some errors.NoSuchHandle) o ≡ None → is_in seen r.handle.0 ≡ false
+    by None e = absurd (cc)
+    by (Some row) e = here (is_owner me row.owner) (row.node.0 == r.node.0) _ e
 
--- what is named is own, and wasn't named before
-good-name : (w : Core) (me : Owner) (seen : List ℕ) (rs : List ArcRef) → references_fault w me seen rs ≡ None → (q : ℕ) → is_named_by rs q ≡ true → (is_in seen q ≡ false) × IsOwn w me q
+-- what is named wasn't named before
+unseen : (w : Core) (me : Owner) (seen : List ℕ) (rs : List ArcRef) → references_fault w me seen rs ≡ None → (q : ℕ) → is_named_by rs q ≡ true → is_in seen q ≡ false
 unfolding references_fault is_named_by is_in
-good-name w me seen [] fit q is = absurd (cc)
-good-name w me seen (r ∷ rs) fit q is = by (r.handle.0 == q) refl is (good-name w me (r.handle.0 ∷ seen) rs (or-none (reference_fault w me seen r) _ fit).1 q)
+unseen w me seen [] fit q is = absurd (cc)
+unseen w me seen (r ∷ rs) fit q is = by (r.handle.0 == q) refl is (unseen w me (r.handle.0 ∷ seen) rs (or-none (reference_fault w me seen r) _ fit).1 q)
   where
-    by : (b : Bool) → (r.handle.0 == q) ≡ b → (b || is_named_by rs q) ≡ true → (is_named_by rs q ≡ true → (((r.handle.0 == q) || is_in seen q) ≡ false) × IsOwn w me q) → (is_in seen q ≡ false) × IsOwn w me q
-    by true same is rest = let e : r.handle.0 ≡ q = grind (arith, nat_tests) in subst (λ k. (is_in seen k ≡ false) × IsOwn w me k) e (named-own w me seen r (or-none (reference_fault w me seen r) _ fit).0)
-    by false other is rest = let a = rest is in (sym (ap (λ b. b || is_in seen q) other) ∙ a.0, a.1)
+    by : (b : Bool) → (r.handle.0 == q) ≡ b → (b || is_named_by rs q) ≡ true → (is_named_by rs q ≡ true → ((r.handle.0 == q) || is_in seen q) ≡ false) → is_in seen q ≡ false
+    by true same is rest = let e : r.handle.0 ≡ q = grind (arith, nat_tests) in subst (λ k. is_in seen k ≡ false) e (unseen-one w me seen r (or-none (reference_fault w me seen r) _ fit).0)
+    by false other is rest = sym (ap (λ b. b || is_in seen q) other) ∙ rest is
 
 once-named : (w : Core) (me : Owner) (seen : List ℕ) (rs : List ArcRef) → references_fault w me seen rs ≡ None → (q : ℕ) → named q rs ≡ one (is_named_by rs q)
 unfolding references_fault is_named_by is_in
 once-named w me seen [] fit q = refl
 once-named w me seen (r ∷ rs) fit q =
     let rest = (or-none (reference_fault w me seen r) _ fit).1 in
-    sum_by-cons (λ (x : ArcRef). one (x.handle.0 == q)) r rs ∙ by (r.handle.0 == q) refl (is_named_by rs q) refl (once-named w me (r.handle.0 ∷ seen) rs rest q) (good-name w me (r.handle.0 ∷ seen) rs rest q)
+    sum_by-cons (λ (x : ArcRef). one (x.handle.0 == q)) r rs ∙ by (r.handle.0 == q) refl (is_named_by rs q) refl (once-named w me (r.handle.0 ∷ seen) rs rest q) (unseen w me (r.handle.0 ∷ seen) rs rest q)
   where
-    by : (b : Bool) → (r.handle.0 == q) ≡ b → (d : Bool) → is_named_by rs q ≡ d → named q rs ≡ one (is_named_by rs q) → (is_named_by rs q ≡ true → (((r.handle.0 == q) || is_in seen q) ≡ false) × IsOwn w me q) → one b + named q rs ≡ one (b || is_named_by rs q)
-    by true same true is once good = let a = sym (ap (λ b. b || is_in seen q) same) ∙ (good is).0 in absurd (cc)
-    by true same false is once good = let a = ap one is in omega arith
-    by false other d is once good = omega arith
+    by : (b : Bool) → (r.handle.0 == q) ≡ b → (d : Bool) → is_named_by rs q ≡ d → named q rs ≡ one (is_named_by rs q) → (is_named_by rs q ≡ true → ((r.handle.0 == q) || is_in seen q) ≡ false)
+        → one b + named q rs ≡ one (b || is_named_by rs q)
+    by true same true is once new = let a = sym (ap (λ b. b || is_in seen q) same) ∙ new is in absurd (cc)
+    by true same false is once new = let a = ap one is in omega arith
+    by false other d is once new = omega arith
 
 module _ (w : Core) (me : Owner) (n : ℕ) (rs : List ArcRef) (ordered : AllPairs IsHandleBefore w.rows) (fit : references_fault w me [] rs ≡ None) (unvalued : is_valued me ≡ false) where
   abbrev to : HandleRow → HandleRow
@@ -90,11 +83,11 @@ module _ (w : Core) (me : Owner) (n : ℕ) (rs : List ArcRef) (ordered : AllPair
   -- a row that is named isn't a value's
   named-free : (h : HandleRow) → Among w.rows h → is_named_by rs h.number.0 ≡ true → is_valued h.owner ≡ false
   named-free h among is =
-      let o = (good-name w me [] rs fit h.number.0 is).1 in
+      let o = named-mine w me [] rs fit h.number.0 is in
       let found : find_row h.number.0 w.rows ≡ Some h = found-so h.number.0 w.rows h ordered among refl in
       let e : Some o.row ≡ Some h = sym o.live ∙ found in
       let same : o.row ≡ h = cc in
-      ap (λ (r : HandleRow). is_valued r.owner) (sym same) ∙ ap is_valued (owner-same me o.row.owner o.own) ∙ unvalued
+      ap (λ (r : HandleRow). is_valued r.owner) (sym same) ∙ ap is_valued o.own ∙ unvalued
 
   others-own : (m q : ℕ) → m ≢ n → sum_by (is_owned m q) (map to w.rows) ≡ sum_by (is_owned m q) w.rows
   others-own m q other = sum-map (is_owned m q) (is_owned m q) to w.rows (λ h among. by h among (is_named_by rs h.number.0) refl)
@@ -108,7 +101,7 @@ module _ (w : Core) (me : Owner) (n : ℕ) (rs : List ArcRef) (ordered : AllPair
 
   sum-both : (q : ℕ) (b : Bool) → is_named_by rs q ≡ b → sum_by (both q) w.rows ≡ one b
   sum-both q true is =
-      let o = (good-name w me [] rs fit q is).1 in
+      let o = named-mine w me [] rs fit q is in
       let (there, number) = found-among q w.rows o.row o.live in
       let a = only-row (both q) w.rows o.row ordered there (λ x other. let e : (x.number.0 == q) ≡ false = ap (λ k. x.number.0 == k) (sym number) ∙ other in ap (λ b. one (b && is_named_by rs q)) e) in
       let b : is_handle q o.row ≡ true = grind (arith, nat_tests) in

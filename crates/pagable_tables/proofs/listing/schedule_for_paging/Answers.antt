@@ -4,14 +4,13 @@ use Rattle.pagable_world.specs.declared.handles.Owner.TheVariants as owners
 use Rattle.pagable_world.specs.Calls.{moved}
 use Rattle.pagable_world.specs.Cascade.{only_handle}
 use Rattle.pagable_tables.specs.Live.{live}
-use Rattle.pagable_tables.specs.Falling.{is_valued, owns_nothing}
+use Rattle.pagable_tables.specs.Falling.{is_valued}
 use Rattle.pagable_tables.specs.Core.{plain_of}
 use Rattle.pagable_tables.proofs.keeps.Comes.{not-a-value}
 use Rattle.pagable_tables.proofs.keeps.ListCalls.{schedule-whole}
 use Rattle.pagable_tables.proofs.keeps.Told.{alike-whole}
 use Rattle.pagable_tables.proofs.keeps.Placed.{whole-so}
 use Rattle.pagable_tables.proofs.Listed.{alike-listed}
-use Rattle.pagable_tables.proofs.Owned.{no-values}
 use Rattle.pagable_tables.proofs.Worlds.{still, owner-same}
 use Rattle.pagable_tables.proofs.listing.schedule_for_paging.Goals as goal
 
@@ -35,10 +34,9 @@ returns-clause-scheduled c stored failures =
 pub returns-clause-whole : goal.returns-clause-whole
 returns-clause-whole c =
     let u = c.args.t.now in
-    let row = c.in-Ok.at.row in
     let w = c.requires.whole.steady in
-    let unvalued = ap is_valued (owner-same c.args.me row.owner c.in-Ok.ensures.owner) ∙ not-a-value (plain_of u) c.args.me c.requires.holder in
-    let steady = c.hand_over.ensures.falling (record u.holdings { list = c.push.new.self }) owns_nothing owns_nothing (no-values row owners.List unvalued refl) (record { sound = w.sound; next = w.next; fits = w.fits }) in
+    let unvalued = ap is_valued (owner-same c.args.me c.in-Ok.at.row.owner c.in-Ok.ensures.owner) ∙ not-a-value (plain_of u) c.args.me c.requires.holder in
+    let steady = c.hand_over.ensures.stands (record u.holdings { list = c.push.new.self }) unvalued refl (record { sound = w.sound; next = w.next; fits = w.fits }) in
     whole-so steady (schedule-whole c.args.me c.args.handle (Ok tt) c.requires.whole.core c.requires.holder (returns-clause-scheduled c (λ key. None) 0))
 
 pub returns-in_default-clause-whole : goal.returns-in_default-clause-whole
