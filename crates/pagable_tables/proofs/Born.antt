@@ -38,11 +38,13 @@ unseen-first true true e = absurd (cc)
 unseen-one : (w : Core) (me : Owner) (seen : List ℕ) (r : ArcRef) → reference_fault w me seen r ≡ None → is_in seen r.handle.0 ≡ false
 unseen-one w me seen r none = by (row_at w r.handle) none
   where
-    here : (own b : Bool) (last : Option Error) → (if not b then Some errors.NoSuchHandle else or_else (refused_if (not own || is_in seen r.handle.0) errors.NotYours) last) ≡ None → is_in seen r.handle.0 ≡ false
+    here : (own b : Bool) (last : Option Error) → (if not b then Some errors.NoSuchHandle else or_else (refused_if (not own || is_in seen r.handle.0) errors.NotYours) last) ≡ None
+        → is_in seen r.handle.0 ≡ false
     here own false last e = absurd (cc)
     here own true last e = unseen-first own (is_in seen r.handle.0) (or-none _ last e).0
 
-    by : (o : Option HandleRow) → if_there (λ (row : HandleRow). row_fault w r (refused_if (not (is_owner me row.owner) || is_in seen r.handle.0) errors.NotYours) row) (Some errors.NoSuchHandle) o ≡ None → is_in seen r.handle.0 ≡ false
+    by : (o : Option HandleRow) → if_there (λ (row : HandleRow). row_fault w r (refused_if (not (is_owner me row.owner) || is_in seen r.handle.0) errors.NotYours) row) (Some errors.NoSuchHandle) o ≡ None
+        → is_in seen r.handle.0 ≡ false
     by None e = absurd (cc)
     by (Some row) e = here (is_owner me row.owner) (row.node.0 == r.node.0) _ e
 
@@ -61,7 +63,8 @@ unfolding references_fault is_named_by is_in
 once-named w me seen [] fit q = refl
 once-named w me seen (r ∷ rs) fit q =
     let rest = (or-none (reference_fault w me seen r) _ fit).1 in
-    sum_by-cons (λ (x : ArcRef). one (x.handle.0 == q)) r rs ∙ by (r.handle.0 == q) refl (is_named_by rs q) refl (once-named w me (r.handle.0 ∷ seen) rs rest q) (unseen w me (r.handle.0 ∷ seen) rs rest q)
+    sum_by-cons (λ (x : ArcRef). one (x.handle.0 == q)) r rs
+    ∙ by (r.handle.0 == q) refl (is_named_by rs q) refl (once-named w me (r.handle.0 ∷ seen) rs rest q) (unseen w me (r.handle.0 ∷ seen) rs rest q)
   where
     by : (b : Bool) → (r.handle.0 == q) ≡ b → (d : Bool) → is_named_by rs q ≡ d → named q rs ≡ one (is_named_by rs q) → (is_named_by rs q ≡ true → ((r.handle.0 == q) || is_in seen q) ≡ false)
         → one b + named q rs ≡ one (b || is_named_by rs q)
@@ -113,7 +116,8 @@ module _ (w : Core) (me : Owner) (n : ℕ) (rs : List ArcRef) (ordered : AllPair
       none false = refl
 
   pub own-own : (q : ℕ) → sum_by (is_owned n q) w.rows ≡ 0 → sum_by (is_owned n q) (map to w.rows) ≡ named q rs
-  own-own q before = sum-map (is_owned n q) (both q) to w.rows (λ h among. by h among (is_named_by rs h.number.0) refl (is_handle q h) refl) ∙ sum-both q (is_named_by rs q) refl ∙ sym (once-named w me [] rs fit q)
+  own-own q before =
+      sum-map (is_owned n q) (both q) to w.rows (λ h among. by h among (is_named_by rs h.number.0) refl (is_handle q h) refl) ∙ sum-both q (is_named_by rs q) refl ∙ sym (once-named w me [] rs fit q)
     where
       by : (h : HandleRow) → Among w.rows h → (b : Bool) → is_named_by rs h.number.0 ≡ b → (d : Bool) → is_handle q h ≡ d → is_owned n q (if b then owned-by (owner_value n) h else h) ≡ both q h
       by h among true is true here =
@@ -132,7 +136,8 @@ module _ (w : Core) (me : Owner) (n : ℕ) (rs : List ArcRef) (ordered : AllPair
       by h among false is false other = rw other refl
 
 -- the counts of a new node are right, where it has no key or its value refers to nothing
-right-new : (c : Counts) (mode : Mode) (rs : List ArcRef) → c ≡ record c { pins = one (is_pinning mode); holds = 1; is_falling = false; next = 0 } → (c.key ≡ 0) ⊎ (rs ≡ []) → is_right c (is_bare rs) ≡ true
+right-new : (c : Counts) (mode : Mode) (rs : List ArcRef) → c ≡ record c { pins = one (is_pinning mode); holds = 1; is_falling = false; next = 0 }
+    → (c.key ≡ 0) ⊎ (rs ≡ []) → is_right c (is_bare rs) ≡ true
 right-new c mode rs new or = subst (λ d. is_right d (is_bare rs) ≡ true) (sym new) (by or)
   where
     either : (a k b : Bool) → (k ≡ false) ⊎ (b ≡ true) → (a || not k || b) ≡ true

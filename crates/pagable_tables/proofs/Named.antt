@@ -86,8 +86,13 @@ pub named-end : (rs : List ArcRef) (i q : ℕ) → length rs ≤ i → is_named_
 unfolding is_named_by
 named-end rs i q past = ap (λ l. is_named_by l q) (drop_all i rs past)
 
-pub named-take : (rs : List ArcRef) (i : ℕ) (d : ArcRef) (q : ℕ) → i < length rs → is_named_by (take (i + 1) rs) q ≡ ((get_or rs i d).handle.0 == q) || is_named_by (take i rs) q
+named-take : (rs : List ArcRef) (i : ℕ) (d : ArcRef) (q : ℕ) → i < length rs → is_named_by (take (i + 1) rs) q ≡ ((get_or rs i d).handle.0 == q) || is_named_by (take i rs) q
 named-take rs i d q lt = ap (λ l. is_named_by l q) (ap (λ n. take n rs) (add-one i) ∙ take-suc rs i d lt) ∙ named-push (take i rs) (get_or rs i d) q
+
+pub above-named : (rs : List ArcRef) (i : ℕ) (d : ArcRef) (q : ℕ) → (get_or rs i d).handle.0 < q → i < length rs → is_named_by (take i rs) q ≡ false → is_named_by (take (i + 1) rs) q ≡ false
+above-named rs i d q less lt before =
+    let a : ((get_or rs i d).handle.0 == q) ≡ false = grind (arith, nat_tests) in
+    named-take rs i d q lt ∙ ap (λ b. b || is_named_by (take i rs) q) a ∙ before
 
 pub named-none : (q : ℕ) → is_named_by [] q ≡ false
 unfolding is_named_by

@@ -1,6 +1,7 @@
 -- A birth, by what it is made of; and why references are refused before a number that is spent.
 use Rattle.std.proofs.Common.{◌≡◌, ℕ, ◌<◌, ◌≤◌, ◌==◌, ◌||◌, Bool, true, false, List, [], ◌∷◌, refl, ap, sym, ◌∙◌, subst, arith, Ok, Err, Option, Some, None, zero, suc, if◌then◌else◌}
 use Rattle.std.specs.Prelude.{Result, not}
+use Rattle.pagable_model.specs.declared.data_key.OptionalDataKey.{OptionalDataKey}
 use Rattle.pagable_model.specs.declared.data_key.OptionalDataKey.TheVariants as optional
 use Rattle.pagable_model.specs.declared.error.Error.{Error}
 use Rattle.pagable_model.specs.declared.error.Error.TheVariants as errors
@@ -12,9 +13,9 @@ use Rattle.pagable_world.specs.declared.rows.Mode.{Mode}
 use Rattle.pagable_world.specs.declared.rows.Mode.TheVariants as modes
 use Rattle.pagable_world.specs.Plain.{is_in, if_there, or_else, type_of}
 use Rattle.pagable_world.specs.Kinds.{is_owner, fits_mode}
-use Rattle.pagable_world.specs.World.{Core, row_at, type_at}
+use Rattle.pagable_world.specs.World.{Core, Alike, row_at, type_at}
 use Rattle.pagable_world.specs.Refusals.{earlier, rank, refused_if, spent, reference_fault, references_fault, row_fault, is_type, Refused}
-use Rattle.pagable_world.specs.Calls.{birth_fault, AwayBirthCall}
+use Rattle.pagable_world.specs.Calls.{birth_fault, with_handle, with_node, next_node, AwayBirthCall}
 use Rattle.pagable_world.specs.Pager.{IsWhole}
 use Rattle.pagable_tables.specs.Core.{ArePlaced, MayHold}
 use Rattle.pagable_tables.proofs.keeps.BirthCalls.{birth-whole, no-references}
@@ -69,22 +70,25 @@ key-is : (k : ℕ) → 0 < k → key_in k ≡ optional.Some k
 key-is zero some = absurd (omega arith)
 key-is (suc k) some = refl
 
-module _ (w : Core) (me : Owner) (node_type : ℕ) (c : Counts) (rs : List ArcRef) (w' : Core) (typed : c.node_type ≡ node_type) where
-  pub away-born : (key : ℕ) (r : Result HandleNumber Error) → c.key ≡ key → 0 < key → rs ≡ [] → Bears w me c.node_type (key_in c.key) rs modes.LooseUnpinned r w' → AwayBirthCall w me node_type key r w'
-  away-born key r is some none b =
-      let k : key_in c.key ≡ optional.Some key = ap key_in is ∙ key-is key some in
-      let a = subst (λ t. Bears w me t (key_in c.key) rs modes.LooseUnpinned r w') typed b in
-      let d = subst (λ k. Bears w me node_type k rs modes.LooseUnpinned r w') k a in
-      let e = subst (λ l. Bears w me node_type (optional.Some key) l modes.LooseUnpinned r w') none d in
-      record { made = e.made; refused = e.refused }
+module _ (w : Core) (me : Owner) (node_type : ℕ) (c : Counts) (rs : List ArcRef) (mode : Mode) (w' : Core) (typed : c.node_type ≡ node_type) where
+  abbrev born : ℕ → OptionalDataKey → Core
+  born t k = with_handle (with_node w t k rs) (next_node w) mode me
 
-  pub node-born : (mode : Mode) (r : Result HandleNumber Error) → references_fault w me [] rs ≡ None → c.key ≡ 0 → Bears w me c.node_type (key_in c.key) rs mode r w' → BirthOf w me node_type rs mode r w'
-  node-born mode r fit none b = by r (subst (λ k. Bears w me node_type (key_in k) rs mode r w') none (subst (λ t. Bears w me t (key_in c.key) rs mode r w') typed b))
-    where
-      by : (r : Result HandleNumber Error) → Bears w me node_type optional.None rs mode r w' → BirthOf w me node_type rs mode r w'
-      by (Ok k) e = let m = e.made in record { made = (fit, m.0, m.1, m.2); refused = tt }
-      by (Err x) e = record { made = tt; refused = subst (λ f. Refused (earlier f (birth_fault w)) None (Unit {0}) w x w') (sym fit) e.refused }
+  alike-as : (k : OptionalDataKey) → key_in c.key ≡ k → Alike (born c.node_type (key_in c.key)) w' → Alike (born node_type k) w'
+  alike-as k is a = subst (λ t. Alike (born t k) w') typed (subst (λ k. Alike (born c.node_type k) w') is a)
 
-pub birth-of-whole : {w w' : Core} (me : Owner) (node_type : ℕ) (rs : List ArcRef) (mode : Mode) (r : Result HandleNumber Error) → IsWhole w → MayHold w me → BirthOf w me node_type rs mode r w' → ArePlaced w' → IsWhole w'
+  pub node-born : (r : Result HandleNumber Error) → references_fault w me [] rs ≡ None → c.key ≡ 0 → Bears w me c rs mode r w' → BirthOf w me node_type rs mode r w'
+  node-born (Ok k) fit none b = let m = b.made in record { made = (fit, m.0, m.1, alike-as optional.None (ap key_in none) m.2); refused = tt }
+  node-born (Err e) fit none b = record { made = tt; refused = subst (λ f. Refused (earlier f (birth_fault w)) None (Unit {0}) w e w') (sym fit) b.refused }
+
+pub away-born : (w : Core) (me : Owner) (node_type : ℕ) (c : Counts) (w' : Core) (key : ℕ) (r : Result HandleNumber Error) → c.node_type ≡ node_type → c.key ≡ key → 0 < key → Bears w me c [] modes.LooseUnpinned r w'
+    → AwayBirthCall w me node_type key r w'
+away-born w me node_type c w' key (Ok k) typed is some b =
+    let m = b.made in
+    record { made = (m.0, m.1, alike-as w me node_type c [] modes.LooseUnpinned w' typed (optional.Some key) (ap key_in is ∙ key-is key some) m.2); refused = tt }
+away-born w me node_type c w' key (Err e) typed is some b = record { made = tt; refused = b.refused }
+
+pub birth-of-whole : {w w' : Core} (me : Owner) (node_type : ℕ) (rs : List ArcRef) (mode : Mode) (r : Result HandleNumber Error) → IsWhole w → MayHold w me
+    → BirthOf w me node_type rs mode r w' → ArePlaced w' → IsWhole w'
 birth-of-whole me node_type rs mode (Ok k) whole holder b placed = birth-whole me (tt {0}) node_type rs mode (Ok k) whole holder (record { made = b.made; refused = tt }) placed
 birth-of-whole me node_type rs mode (Err e) whole holder b placed = alike-whole whole b.refused.stays placed

@@ -50,7 +50,8 @@ module _ (w : Core) (me : Owner) (kind : Kind) (key : ℕ) (h : HandleNumber) wh
   -- where handle and type are as asked, the last cause is left
   pub offer-last : (row : HandleRow) → handle_fault w me h (fits_mode kind.0) ≡ None → row_at w h ≡ Some row → type_at w row.node.0 ≡ Some (type_of kind.0) → offer_fault w me kind key h ≡ last-fault
   offer-last row none at typed =
-      let a : kind-fault ≡ None = ap (λ o. refused_if (not (is_type (type_of kind.0) (if_there (λ (row : HandleRow). type_at w row.node.0) None o))) errors.WrongKind) at ∙ ap (λ o. refused_if (not (is_type (type_of kind.0) o)) errors.WrongKind) typed ∙ same in
+      let here = ap (λ o. refused_if (not (is_type (type_of kind.0) (if_there (λ (row : HandleRow). type_at w row.node.0) None o))) errors.WrongKind) at in
+      let a : kind-fault ≡ None = here ∙ ap (λ o. refused_if (not (is_type (type_of kind.0) o)) errors.WrongKind) typed ∙ same in
       ap (λ f. earlier f (earlier kind-fault last-fault)) none ∙ ap (λ f. earlier f last-fault) a
     where
       same : refused_if (not (is_type (type_of kind.0) (Some (type_of kind.0)))) errors.WrongKind ≡ None

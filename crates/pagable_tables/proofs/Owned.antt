@@ -24,7 +24,8 @@ owned-by owner x = record x { owner = owner }
 
 -- neither owner is a value
 pub move-fits : (at : ℕ → Option Counts) (refs : ℕ → List ArcRef) (rows rows' : List HandleRow) (top : ℕ) (x : HandleRow) (owner : Owner)
-    → ((f : HandleRow → ℕ) → sum_by f rows' + f x ≡ sum_by f rows + f (owned-by owner x)) → is_valued x.owner ≡ false → is_valued owner ≡ false → Fits at refs rows top [] owns_nothing → Fits at refs rows' top [] owns_nothing
+    → ((f : HandleRow → ℕ) → sum_by f rows' + f x ≡ sum_by f rows + f (owned-by owner x)) → is_valued x.owner ≡ false → is_valued owner ≡ false
+    → Fits at refs rows top [] owns_nothing → Fits at refs rows' top [] owns_nothing
 move-fits at refs rows rows' top x owner sums from into fits =
     record {
       pinned = λ n. let a = fits.pinned n in let b = sums (pin_of n) in omega arith;

@@ -5,7 +5,7 @@ ghost use Rattle.pagable_world.specs.Plain.{Blob, one};
 ghost use Rattle.pagable_world.specs.Kinds.{is_pinning};
 ghost use Rattle.pagable_world.specs.Refusals.{references_fault};
 ghost use Rattle.pagable_world.specs.Calls.{AwayBirthCall};
-ghost use Rattle.pagable_tables.specs.Falling.{IsFalling, owns_nothing, key_in};
+ghost use Rattle.pagable_tables.specs.Falling.{IsFalling, owns_nothing};
 ghost use Rattle.pagable_tables.specs.Bearing.{Bears, BirthOf};
 ghost use Rattle.pagable_tables.specs.Core.{core_of, plain_of, IsWhole, MayHold};
 
@@ -48,7 +48,7 @@ fn bear(
     requires counts { counts ≡ record counts { pins = one (is_pinning mode); holds = 1; is_falling = false; next = 0 } }
     requires fit { references_fault (plain_of t.old) me [] references.items ≡ None }
     requires bare { (counts.key ≡ 0) ⊎ (references.items ≡ []) }
-    ensures born { (stored : ℕ → Option Blob) (closed : Bool) (failures : ℕ) → Bears (core_of t.old stored closed failures) me counts.node_type (key_in counts.key) references.items mode result (core_of t.new stored closed failures) }
+    ensures born { (stored : ℕ → Option Blob) (closed : Bool) (failures : ℕ) → Bears (core_of t.old stored closed failures) me counts references.items mode result (core_of t.new stored closed failures) }
     ensures steady { IsFalling t.new.holdings [] owns_nothing }
 {
     if t.last_node == u64::MAX || t.holdings.last_handle == u64::MAX {

@@ -1,6 +1,6 @@
 //! Why the references of a value that is handed in are refused.
 
-ghost use Rattle.std.specs.Prelude.{◌≡◌, ℕ, Bool, List, Option, Some, None, OnOk, IfErr, []};
+ghost use Rattle.std.specs.Prelude.{◌≡◌, ℕ, Bool, List, Option, Some, None, OnOk, IfErr, [], ◌<◌, false};
 ghost use Rattle.pagable_world.specs.Plain.{Blob, is_in};
 ghost use Rattle.pagable_world.specs.Refusals.{reference_fault, references_fault};
 ghost use Rattle.pagable_world.specs.Calls.{is_named_by};
@@ -23,6 +23,14 @@ fn is_named(references: &[ArcRef], handle: HandleNumber) -> bool
         }
     }
     false
+}
+
+/// The same, where no handle that was named has a greater number than the highest. So references in the order of their handles cost a look each.
+fn is_seen(references: &[ArcRef], highest: u64, handle: HandleNumber) -> bool
+    requires { (q : ℕ) → highest < q → is_named_by references.now q ≡ false }
+    ensures { result ≡ is_named_by references.now handle.0 }
+{
+    handle.0 <= highest && is_named(references, handle)
 }
 
 /// Why a reference of a value is refused, where its handle was named before or wasn't.
@@ -57,11 +65,14 @@ pub fn check_references(t: &Tables, me: Owner, references: &[ArcRef]) -> Result<
     ensures fit { OnOk result ((stored : ℕ → Option Blob) (closed : Bool) (failures : ℕ) → references_fault (core_of t.now stored closed failures) me [] references.now ≡ None) }
     ensures fault { IfErr result (λ e. (stored : ℕ → Option Blob) (closed : Bool) (failures : ℕ) → references_fault (core_of t.now stored closed failures) me [] references.now ≡ Some e) }
 {
+    let mut highest = 0;
     for i in 0..references.len() {
-        let is_seen = is_named(&references[..i], references[i].handle);
-        if let Some(e) = fault_of(t, me, references[i], is_seen) {
+        let reference = references[i];
+        let is_seen = is_seen(&references[..i], highest, reference.handle);
+        if let Some(e) = fault_of(t, me, reference, is_seen) {
             return Err(e);
         }
+        highest = highest.max(reference.handle.0);
     }
     Ok(())
 }

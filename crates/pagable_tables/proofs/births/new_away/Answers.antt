@@ -1,5 +1,7 @@
-use Rattle.std.proofs.Common.{ap, ◌∙◌, Ok, Err, None, false, arith}
+use Rattle.std.proofs.Common.{ap, subst, ◌∙◌, Ok, Err, None, false, arith}
 use Rattle.pagable_tables.specs.declared.rows.Counts.{Counts}
+use Rattle.pagable_world.specs.declared.rows.Mode.TheVariants as modes
+use Rattle.pagable_tables.specs.Bearing.{Bears}
 use Rattle.pagable_tables.specs.Core.{core_of, plain_of}
 use Rattle.pagable_tables.proofs.NewNodes.{none-named, away-born}
 use Rattle.pagable_tables.proofs.keeps.BirthCalls.{away-birth-whole}
@@ -14,14 +16,18 @@ returns-in-Ok-clause-born c stored closed failures =
     let w = core_of c.args.t.now stored closed failures in
     let typed = ap (λ (d : Counts). d.node_type) c.first_counts-counts.ensures in
     let keyed = ap (λ (d : Counts). d.key) c.first_counts-counts.ensures ∙ c.get.ensures.value in
-    away-born w c.args.me c.args.node_type c.first_counts-counts.result _ _ typed c.args.key (Ok c.in-Ok.handle) keyed (omega arith) c.new.ensures.items (c.in-Ok.ensures.born stored closed failures)
+    let w' = core_of c.bear.new.t stored closed failures in
+    let born = subst (λ l. Bears w c.args.me c.first_counts-counts.result l modes.LooseUnpinned (Ok c.in-Ok.handle) w') c.new.ensures.items (c.in-Ok.ensures.born stored closed failures) in
+    away-born w c.args.me c.args.node_type c.first_counts-counts.result _ c.args.key (Ok c.in-Ok.handle) typed keyed (omega arith) born
 
 pub returns-in-Err-clause-born : goal.returns-in-Err-clause-born
 returns-in-Err-clause-born c stored closed failures =
     let w = core_of c.args.t.now stored closed failures in
     let typed = ap (λ (d : Counts). d.node_type) c.first_counts-counts.ensures in
     let keyed = ap (λ (d : Counts). d.key) c.first_counts-counts.ensures ∙ c.get.ensures.value in
-    away-born w c.args.me c.args.node_type c.first_counts-counts.result _ _ typed c.args.key (Err c.in-Err.e) keyed (omega arith) c.new.ensures.items (c.in-Err.ensures.born stored closed failures)
+    let w' = core_of c.bear.new.t stored closed failures in
+    let born = subst (λ l. Bears w c.args.me c.first_counts-counts.result l modes.LooseUnpinned (Err c.in-Err.e) w') c.new.ensures.items (c.in-Err.ensures.born stored closed failures) in
+    away-born w c.args.me c.args.node_type c.first_counts-counts.result _ c.args.key (Err c.in-Err.e) typed keyed (omega arith) born
 
 pub returns-in-Ok-clause-whole : goal.returns-in-Ok-clause-whole
 returns-in-Ok-clause-whole c =

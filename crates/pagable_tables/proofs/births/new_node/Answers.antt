@@ -19,7 +19,7 @@ returns-in-Ok-clause-born c stored closed failures =
     let fit = subst (λ l. references_fault w c.args.me [] l ≡ None) c.deref.ensures.value (c.in_default.ensures.fit stored closed failures) in
     let typed = ap (λ (d : Counts). d.node_type) c.first_counts.ensures in
     let none = ap (λ (d : Counts). d.key) c.first_counts.ensures in
-    node-born w c.args.me c.args.node_type c.first_counts.result _ _ typed c.args.mode (Ok c.in-Ok.handle) fit none (c.in-Ok.ensures.born stored closed failures)
+    node-born w c.args.me c.args.node_type c.first_counts.result _ c.args.mode _ typed (Ok c.in-Ok.handle) fit none (c.in-Ok.ensures.born stored closed failures)
 
 pub returns-in-Err-bear-clause-born : goal.returns-in-Err-bear-clause-born
 returns-in-Err-bear-clause-born c stored closed failures =
@@ -27,7 +27,7 @@ returns-in-Err-bear-clause-born c stored closed failures =
     let fit = subst (λ l. references_fault w c.args.me [] l ≡ None) c.deref.ensures.value (c.in_default.ensures.fit stored closed failures) in
     let typed = ap (λ (d : Counts). d.node_type) c.first_counts.ensures in
     let none = ap (λ (d : Counts). d.key) c.first_counts.ensures in
-    node-born w c.args.me c.args.node_type c.first_counts.result _ _ typed c.args.mode (Err c.in-Err-bear.e) fit none (c.in-Err-bear.ensures.born stored closed failures)
+    node-born w c.args.me c.args.node_type c.first_counts.result _ c.args.mode _ typed (Err c.in-Err-bear.e) fit none (c.in-Err-bear.ensures.born stored closed failures)
 
 pub returns-in-Ok-clause-whole : goal.returns-in-Ok-clause-whole
 returns-in-Ok-clause-whole c =

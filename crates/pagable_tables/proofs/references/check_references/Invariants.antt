@@ -1,4 +1,4 @@
-use Rattle.std.proofs.Common.{◌≡◌, ℕ, Bool, Option, List, [], take, drop}
+use Rattle.std.proofs.Common.{◌≡◌, ◌<◌, ℕ, Bool, false, Option, List, [], take, drop}
 use Rattle.pagable_world.specs.Plain.{Blob, is_in}
 use Rattle.pagable_world.specs.Refusals.{references_fault}
 use Rattle.pagable_world.specs.Calls.{is_named_by}
@@ -10,5 +10,6 @@ invariant-loop-i l =
     record {
       seen : List ℕ;
       same : (q : ℕ) → is_in seen q ≡ is_named_by (take l.i l.references) q;
+      highest : (q : ℕ) → l.highest < q → is_named_by (take l.i l.references) q ≡ false;
       rest : (stored : ℕ → Option Blob) (closed : Bool) (failures : ℕ) → references_fault (core_of l.t stored closed failures) l.me [] l.references ≡ references_fault (core_of l.t stored closed failures) l.me seen (drop l.i l.references);
     }
