@@ -96,3 +96,4 @@ mod HeightSteps
 mod Shallow
 mod Climbing
 mod Deeply
+mod Identities

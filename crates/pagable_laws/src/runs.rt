@@ -2,6 +2,7 @@
 
 ghost use Rattle.pagable_world.specs.Headline.{HeadlineLaw};
 ghost use Rattle.pagable_laws.specs.DeepLaws.{ShallowLaw, DeepClaimLaw};
+ghost use Rattle.pagable_laws.specs.IdentityLaws.{IdentitiesDifferLaw};
 
 use crate::world::SeenAs;
 
@@ -20,4 +21,9 @@ pub fn keys_are_shallow<N: SeenAs<B, W>, B, W, E>()
 #[tactic(auto, using(crate::proofs::Deeply::deep_claim_law))]
 pub fn deep_claims_have_a_cause<N: SeenAs<B, W>, B, W, E>()
     ensures { DeepClaimLaw E N.seen }
+{}
+
+/// Two kinds or keys never get one identity through one cache that reading alone has filled.
+pub fn identities_differ<N: SeenAs<B, W>, B, W, E>()
+    ensures { IdentitiesDifferLaw E N.seen }
 {}
