@@ -96,4 +96,7 @@ mod HeightSteps
 mod Shallow
 mod Climbing
 mod Deeply
+mod Usable
+mod UsableCalls
+mod UsableSteps
 mod Identities

@@ -227,7 +227,7 @@ found-kept gone q rows row kept found = found-by q row (λ xs. find_row q (left_
     later h hs is a true goes = rw goes a
     later h hs is a false goes = rw goes (find-later q h _ is ∙ a)
 
-among-kept : {X : Type 0} (test : X → Bool) (xs : List X) (x : X) → Among (filter test xs) x → Among xs x
+pub among-kept : {X : Type 0} (test : X → Bool) (xs : List X) (x : X) → Among (filter test xs) x → Among xs x
 among-kept test [] x among = among
 among-kept {X} test (y ∷ ys) x among = at (λ a. among-kept test ys x a) (test y) among
   where

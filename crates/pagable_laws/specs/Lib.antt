@@ -15,4 +15,3 @@ pub mod KeyRuns
 pub mod TwoLevels
 pub mod LevelLaws
 pub mod DeepLaws
-pub mod IdentityLaws

@@ -1,8 +1,8 @@
 //! The laws of runs: what holds of every chain of moments, however loads and workers take turns.
 
 ghost use Rattle.pagable_world.specs.Headline.{HeadlineLaw};
+ghost use Rattle.pagable_world.specs.OneWorker.{OneIdentityLaw};
 ghost use Rattle.pagable_laws.specs.DeepLaws.{ShallowLaw, DeepClaimLaw};
-ghost use Rattle.pagable_laws.specs.IdentityLaws.{IdentitiesDifferLaw};
 
 use crate::world::SeenAs;
 
@@ -23,7 +23,7 @@ pub fn deep_claims_have_a_cause<N: SeenAs<B, W>, B, W, E>()
     ensures { DeepClaimLaw E N.seen }
 {}
 
-/// Two kinds or keys never get one identity through one cache that reading alone has filled.
-pub fn identities_differ<N: SeenAs<B, W>, B, W, E>()
-    ensures { IdentitiesDifferLaw E N.seen }
+/// Two references that are got through one cache that reading alone has filled have one identity only for one kind and key, and for these always while the node is held.
+pub fn one_identity<N: SeenAs<B, W>, B, W, E>()
+    ensures { OneIdentityLaw E N.seen }
 {}
