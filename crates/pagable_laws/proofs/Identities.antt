@@ -35,7 +35,8 @@ HeldEnters w kind key n = IsHeldFor kind.0 key n w.rows → IsEntered kind.0 key
 -- a reference that is got is of the node that the cache gives, or of the next one where it gives none
 data Got (w : Core) (kind : Kind) (key n : ℕ) (w' : Core) : Type 0 where
   got-old : usable w kind.0 key ≡ Some n → Quiet w w' → HeldEnters w' kind key n → Got w kind key n w'
-  got-new : usable w kind.0 key ≡ None → n ≡ w.last.node + 1 → (l : LoadNumber) (own : OptionalDataKey) (references : List ArcRef) → Alike (adopted w l kind key own references) w' → Got w kind key n w'
+  got-new : usable w kind.0 key ≡ None → n ≡ w.last.node + 1 → (l : LoadNumber) (own : OptionalDataKey) (references : List ArcRef) → Alike (adopted w l kind key own references) w'
+      → Got w kind key n w'
 
 -- a mode that fits a kind of pins is that of a pin
 pinning-by : (kind : ℕ) (mode : Mode) → fits_mode kind mode ≡ true → is_pinned_kind kind ≡ true → is_pinning mode ≡ true
@@ -71,7 +72,8 @@ module _ {w w' : Core} (whole : IsWhole w) (kind : Kind) (key n : ℕ) (g : Gets
     | inr (inl lazy) ↦ elim lazy.makes.3 [ inl c ↦ known c | inr (none, few, next, a) ↦ new (optional.Some key) [] next.above none a ]
     | inr (inr (t, references, c)) ↦ elim c.makes [
       | inl (m, is, f) ↦
-          old m is (got-fallen whole.handles kind g.k g.row g.made c.next.above m (owners.Load g.l) f) (quiet-then (a-handle w _ _ (owners.Load g.l)) (fell-anyhow f)) (λ e h. stays-fell kind.0 key m f.falls e h)
+          let gets = got-fallen whole.handles kind g.k g.row g.made c.next.above m (owners.Load g.l) f in
+          old m is gets (quiet-then (a-handle w _ _ (owners.Load g.l)) (fell-anyhow f)) (λ e h. stays-fell kind.0 key m f.falls e h)
       | inr (none, few, a) ↦ new (first_key kind.0 key) references c.next.above none a
     ]
   ]
@@ -120,7 +122,7 @@ entered-got {w} {w'} kind key n opened (got-new none next l own references a) h 
     made : Core
     made = with_handle (with_node w (type_of kind.0) own references) (next_node w) (mode_of kind.0) (owners.Load l)
 
-    entered : (b : Bool) → b ≡ false → IsEntered kind.0 key n (if b then made else with_cached made kind key (next_node w)).cache (if b then made else with_cached made kind key (next_node w)).cells
+    entered : (b : Bool) → b ≡ false → let d = if b then made else with_cached made kind key (next_node w) in IsEntered kind.0 key n d.cache d.cells
     entered true is = absurd (cc)
     entered false is =
         let k = self-number kind.0 in
@@ -148,8 +150,8 @@ module _ {N B W E : Type 0} (m : Seen N B W) (kind : Kind) (key n : ℕ) where
       let g = event-goes m (world_of s) (world_of x.after) x.event x.reply (keeps-open x.event kept) does.step.happens in
       once-along x.after xs does.whole more (λ y (i, is). leaves y (suc i, is)) (once-goes kind.0 key n g.goes (g.knows whole.pager.whole kept) once)
 
-  used-along : (s : MachineState N E) (xs : List (Moment N E B W)) → AreMoments m s xs → Leave xs → StaysAlive kind n xs → IsEntered kind.0 key n s.pager.core.cache s.pager.core.cells → IsHeldFor kind.0 key n s.pager.core.rows
-      → usable (state_after s xs).pager.core kind.0 key ≡ Some n
+  used-along : (s : MachineState N E) (xs : List (Moment N E B W)) → AreMoments m s xs → Leave xs → StaysAlive kind n xs
+      → IsEntered kind.0 key n s.pager.core.cache s.pager.core.cells → IsHeldFor kind.0 key n s.pager.core.rows → usable (state_after s xs).pager.core kind.0 key ≡ Some n
   unfolding state_after
   used-along s [] chain leaves alive e h = can-use kind.0 key n s.pager.core e h
   used-along s (x ∷ xs) (does, more) leaves (a, alive) e h =
@@ -164,7 +166,8 @@ differ {u} kind other_kind key other_key n other_n once (got-old is q enters) sa
     (once.only other_kind.0 other_key (subst (λ (x : ℕ). u.cache other_kind.0 other_key ≡ Some x) same_node (is-cached u other_kind.0 other_key other_n is))).1
 differ {u} kind other_kind key other_key n other_n once (got-new none next l own references a) same_node = absurd (let few = once.given in omega (arith, few, next, same_node))
 
-same : {u last : Core} (kind other_kind : Kind) (key other_key n other_n : ℕ) → usable u kind.0 key ≡ Some n → Got u other_kind other_key other_n last → other_kind ≡ kind → other_key ≡ key → other_n ≡ n
+same : {u last : Core} (kind other_kind : Kind) (key other_key n other_n : ℕ) → usable u kind.0 key ≡ Some n → Got u other_kind other_key other_n last
+    → other_kind ≡ kind → other_key ≡ key → other_n ≡ n
 same {u} {last} kind other_kind key other_key n other_n is got same_kind same_key = by got
   where
     used : usable u other_kind.0 other_key ≡ Some n

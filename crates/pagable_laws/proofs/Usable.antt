@@ -29,7 +29,11 @@ module _ (kind key n : ℕ) where
 
   -- ---- what can be used
 
-  at-node : (w : Core) → w.cache kind key ≡ Some n → usable w kind key ≡ if_there (λ (x : Cell). if is_pinned_kind kind && not (is_in_memory (pins n w.rows) x.key) then None else Some n) None (w.cells n)
+  -- what the node's cell makes of the entry
+  abbrev of_node : Core → Option Cell → Option ℕ
+  of_node w c = if_there (λ (x : Cell). if is_pinned_kind kind && not (is_in_memory (pins n w.rows) x.key) then None else Some n) None c
+
+  at-node : (w : Core) → w.cache kind key ≡ Some n → usable w kind key ≡ of_node w (w.cells n)
   at-node w entry = ap (λ o. if_there (λ m. if_there (λ (x : Cell). if is_pinned_kind kind && not (is_in_memory (pins m w.rows) x.key) then None else Some m) None (w.cells m)) None o) entry
 
   at-row : (row : HandleRow) → row.node.0 ≡ n → (row.node.0 == n) ≡ true
@@ -51,7 +55,7 @@ module _ (kind key n : ℕ) where
       pick x true is = rw (pinned w.rows h is) refl
       pick x false is = refl
 
-      cell : (c : Option Cell) → is_some c ≡ true → if_there (λ (x : Cell). if is_pinned_kind kind && not (is_in_memory (pins n w.rows) x.key) then None else Some n) None c ≡ Some n
+      cell : (c : Option Cell) → is_some c ≡ true → of_node w c ≡ Some n
       cell None is = absurd (cc)
       cell (Some x) is = pick x (is_pinned_kind kind) refl
 
@@ -64,7 +68,7 @@ module _ (kind key n : ℕ) where
       by : (c : Option Cell) → w.cells n ≡ c → is_some (w.cells n) ≡ true
       by (Some x) e = ap is_some e
       by None e =
-          let f : usable w kind key ≡ None = at-node w entry ∙ ap (λ c. if_there (λ (x : Cell). if is_pinned_kind kind && not (is_in_memory (pins n w.rows) x.key) then None else Some n) None c) e in
+          let f : usable w kind key ≡ None = at-node w entry ∙ ap (of_node w) e in
           absurd (cc)
 
   -- ---- the end of a part
@@ -132,7 +136,8 @@ module _ (kind key n : ℕ) where
       by true = refl
       by false = e.there
 
-  pub keyed : {cache : ℕ → ℕ → Option ℕ} {cells : ℕ → Option Cell} (p k : ℕ) → IsEntered cache cells → IsEntered cache (updated p (if_there (λ (x : Cell). Some (record x { key = optional.Some k })) None (cells p)) cells)
+  pub keyed : {cache : ℕ → ℕ → Option ℕ} {cells : ℕ → Option Cell} (p k : ℕ) → IsEntered cache cells
+      → IsEntered cache (updated p (if_there (λ (x : Cell). Some (record x { key = optional.Some k })) None (cells p)) cells)
   keyed {cache} {cells} p k e = record { entry = e.entry; there = by (n == p) refl }
     where
       some : (c : Option Cell) → is_some c ≡ true → is_some (if_there (λ (x : Cell). Some (record x { key = optional.Some k })) None c) ≡ true

@@ -119,7 +119,8 @@ module _ (kind key n : ℕ) (w w' : Core) where
       made : Core
       made = with_handle (with_node w (type_of k.0) own references) (next_node w) (mode_of k.0) (owners.Load l)
 
-      other : IsEntered kind key n w.cache w.cells → IsHeldFor kind key n w.rows → (b d : Bool) → (kind == k.0) ≡ b → (key == q) ≡ d → (if b && d then Some (next_node w).0 else w.cache kind key) ≡ Some n
+      other : IsEntered kind key n w.cache w.cells → IsHeldFor kind key n w.rows → (b d : Bool) → (kind == k.0) ≡ b → (key == q) ≡ d
+          → (if b && d then Some (next_node w).0 else w.cache kind key) ≡ Some n
       other e h true true x y =
           let f = subst (λ a. usable w a key ≡ Some n) (same-number _ _ x) (can-use kind key n w e h) in
           let g = subst (λ a. usable w k.0 a ≡ Some n) (same-number _ _ y) f in
@@ -127,11 +128,12 @@ module _ (kind key n : ℕ) (w w' : Core) where
       other e h true false x y = e.entry
       other e h false d x y = e.entry
 
-      known-too : IsEntered kind key n w.cache w.cells → IsHeldFor kind key n w.rows → (b : Bool) → IsEntered kind key n (if b then made else with_cached made k q (next_node w)).cache (if b then made else with_cached made k q (next_node w)).cells
+      known-too : IsEntered kind key n w.cache w.cells → IsHeldFor kind key n w.rows → (b : Bool) → let d = if b then made else with_cached made k q (next_node w) in IsEntered kind key n d.cache d.cells
       known-too e h true = born kind key n _ _ e
       known-too e h false = record { entry = other e h (kind == k.0) (key == q) refl refl; there = (born kind key n (w.last.node + 1) (record { node_type = type_of k.0; key = own }) e).there }
 
-  pub adopting : {N : Type 0} {me : Owner} {k : Kind} {q : ℕ} {x : N} {t : ℕ} {references : List ArcRef} {l : LoadNumber} (r : Result HandleNumber (Error × N)) → AdoptCall w me l k q x t references r w' → L
+  pub adopting : {N : Type 0} {me : Owner} {k : Kind} {q : ℕ} {x : N} {t : ℕ} {references : List ArcRef} {l : LoadNumber} (r : Result HandleNumber (Error × N))
+      → AdoptCall w me l k q x t references r w' → L
   adopting {k = k} {q} {references = references} {l} (Ok h) c = elim c.adopts.makes [
     | inl (m, is, f) ↦ by-fell kind key n f.falls (λ e. e)
     | inr (none, few, a) ↦ adopts l k q _ references none a
