@@ -128,7 +128,8 @@ module _ (kind key n : ℕ) (w w' : Core) where
       other e h true false x y = e.entry
       other e h false d x y = e.entry
 
-      known-too : IsEntered kind key n w.cache w.cells → IsHeldFor kind key n w.rows → (b : Bool) → let d = if b then made else with_cached made k q (next_node w) in IsEntered kind key n d.cache d.cells
+      known-too : IsEntered kind key n w.cache w.cells → IsHeldFor kind key n w.rows → (b : Bool)
+          → let d = if b then made else with_cached made k q (next_node w) in IsEntered kind key n d.cache d.cells
       known-too e h true = born kind key n _ _ e
       known-too e h false = record { entry = other e h (kind == k.0) (key == q) refl refl; there = (born kind key n (w.last.node + 1) (record { node_type = type_of k.0; key = own }) e).there }
 

@@ -23,7 +23,7 @@ pub fn deep_claims_have_a_cause<N: SeenAs<B, W>, B, W, E>()
     ensures { DeepClaimLaw E N.seen }
 {}
 
-/// Two references that are got through one cache that reading alone has filled have one identity only for one kind and key, and for these always while the node is held.
+/// Two references that are got through one cache, which reading alone fills, have one identity only if kind and key are the same, and then always while the node is held.
 pub fn one_identity<N: SeenAs<B, W>, B, W, E>()
     ensures { OneIdentityLaw E N.seen }
 {}
