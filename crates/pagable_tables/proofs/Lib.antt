@@ -13,3 +13,8 @@ mod Forced
 mod LeastMore
 mod RowsMore
 mod NoEntry
+mod Listing
+mod Telling
+mod Going
+mod Next
+mod Begun

@@ -12,6 +12,7 @@ pub mod lookups;
 pub mod making;
 pub mod nodes;
 pub mod places;
+pub mod releases;
 pub mod rows;
 pub mod tables;
 pub mod turning;
