@@ -18,3 +18,4 @@ mod Telling
 mod Going
 mod Next
 mod Begun
+mod Shedding

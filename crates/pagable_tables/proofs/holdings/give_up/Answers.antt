@@ -1,15 +1,21 @@
-use Rattle.std.proofs.Common.{◌+◌, ◌-◌, ◌≡◌, ◌≤◌, ℕ, arith, refl, ap, sym, ◌∙◌, subst, Some, None, ◌∷◌, if◌then◌else◌}
+use Rattle.std.proofs.lemmas.Bool.{cases_eq}
+use Rattle.std.proofs.lemmas.Bool.Decides.{nat_tests}
+use Rattle.std.proofs.Common.{false, inl, inr, Bool, ◌+◌, ◌-◌, ◌≡◌, ◌≤◌, ℕ, arith, refl, ap, sym, ◌∙◌, subst, Some, None, ◌∷◌, if◌then◌else◌}
 use Rattle.std.specs.Prelude.{◌≢◌}
 use Rattle.pagable_world.specs.Plain.{one}
 use Rattle.pagable_world.specs.Kinds.{is_pinning}
 use Rattle.pagable_tables.specs.Live.{live}
 use Rattle.pagable_tables.specs.ByNumber.{counts_at, refs_at}
-use Rattle.pagable_tables.specs.Falling.{Fits, pins_in, holds_in, after, is_fallen_by, is_new, owns_nothing, Leaves}
+use Rattle.pagable_tables.specs.Falling.{Fits, pins_in, holds_in, after, is_fallen_by, is_new, has_value, falls_in, ValueStays, owns_nothing, Leaves}
 use Rattle.pagable_tables.specs.declared.rows.Counts.{Counts}
 use Rattle.pagable_tables.proofs.Alive.{row-le-live}
 use Rattle.pagable_tables.proofs.Leaving.{leaves-sums}
 use Rattle.pagable_tables.proofs.Fitting.{given-fits, given-cells, new-top, long-if, pin-here, held-here, pin_of, handle_of}
 use Rattle.pagable_tables.proofs.holdings.give_up.Goals as goal
+
+-- a handle that leaves takes no value with it at once
+after-value : (y : Counts) (pinning listed : Bool) (top : ℕ) → one pinning ≤ y.pins → ValueStays (Some y) (Some (after y pinning listed top))
+after-value y pinning listed top some falls = let stood : y.is_falling ≡ false = grind (arith, nat_tests) in (stood, grind (arith, nat_tests))
 
 pub unreachable-requires : goal.unreachable-requires
 unreachable-requires c =
@@ -79,6 +85,10 @@ returns c stack w =
       leaves = subst (λ w. Leaves old x w listed mid) c.wants_entry-wanted.ensures leaves;
       same = refl;
       cells = given-cells at at' refs refs' rows rows' old.top stack x counts listed (old.last_handle + 1) w.fits is sums here others same some live';
+      values = λ m. elim (cases_eq m n) [
+        | inl eq ↦ subst (λ k. ValueStays (at k) (at' k)) (sym eq) (subst (λ o. ValueStays o (at' n)) (sym is) (subst (ValueStays (Some counts)) (sym here) (after-value counts (is_pinning x.mode) listed old.top some)))
+        | inr ne ↦ λ falls. (ap falls_in (sym (others m ne)) ∙ falls, ap has_value (others m ne))
+      ];
       more = if b then n ∷ stack else stack;
       falling = record {
         sound = e.sound;

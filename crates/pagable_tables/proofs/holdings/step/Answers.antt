@@ -10,7 +10,7 @@ use Rattle.pagable_world.specs.declared.handles.HandleRow.{HandleRow}
 use Rattle.pagable_world.specs.Plain.{one}
 use Rattle.pagable_tables.specs.Live.{live, alive, AreSound, IsNext}
 use Rattle.pagable_tables.specs.ByNumber.{counts_at, refs_at}
-use Rattle.pagable_tables.specs.Falling.{IsFalling, Fits, Settles, GivesUp, CellsStay, cell_in, owns, owns_nothing, entry, is_valued, valued}
+use Rattle.pagable_tables.specs.Falling.{IsFalling, Fits, Settles, GivesUp, CellsStay, cell_in, ValueStays, owns, owns_nothing, entry, is_valued, valued}
 use Rattle.pagable_tables.specs.declared.rows.Counts.{Counts}
 use Rattle.pagable_tables.specs.declared.holdings.Holdings.{Holdings}
 use Rattle.pagable_tables.proofs.Alive.{only-row, none-found}
@@ -111,6 +111,8 @@ returns-in-Some-look c stack w =
       falling = g.falling;
       less = omega arith;
       cells = cells-through (counts_at t.nodes) (counts_at mid.nodes) (counts_at c.give_up.new.t.nodes) e.counts g.cells;
+      values = λ m _. subst (λ o. ValueStays o (counts_at c.give_up.new.t.nodes m)) (e.counts m) (g.values m);
+      gone = tt;
       what = inr (
         x,
         t.top,
@@ -141,5 +143,7 @@ returns-in-None c stack w =
       falling = g.falling;
       less = omega arith;
       cells = cells-through (counts_at t.nodes) (counts_at mid.nodes) (counts_at c.settle.new.t.nodes) e.counts g.cells;
+      values = λ m ne. subst (λ o. ValueStays o (counts_at c.settle.new.t.nodes m)) (e.counts m) (g.values m (λ eq. ne (ap (λ k. Some (record { 0 = k })) (sym eq))));
+      gone = g.gone;
       what = inl (refl, g.same);
     }
