@@ -19,3 +19,4 @@ mod Going
 mod Next
 mod Begun
 mod Shedding
+mod keeps
