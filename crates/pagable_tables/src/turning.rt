@@ -45,7 +45,7 @@ fn is_pinned(mode: Mode) -> bool
 }
 
 /// The own handle of this number, with its place.
-fn own(t: &Tables, me: Owner, handle: HandleNumber) -> Result<HandleAt, Error>
+pub fn own(t: &Tables, me: Owner, handle: HandleNumber) -> Result<HandleAt, Error>
     requires { IsWhole t.now }
     ensures place { IfOk result (λ at. slice_get t.now.holdings.handles.places.items at.place ≡ Some (alive at.row)) }
     ensures found { IfOk result (λ at. find_row handle.0 (live t.now.holdings.handles.places.items) ≡ Some at.row) }
