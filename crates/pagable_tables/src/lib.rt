@@ -8,6 +8,7 @@ pub mod cache;
 pub mod cascade;
 pub mod handles;
 pub mod holdings;
+pub mod loading;
 pub mod loads;
 pub mod lookups;
 pub mod making;
