@@ -13,3 +13,5 @@ mod Forced
 mod LeastMore
 mod RowsMore
 mod NoEntry
+mod Owned
+mod Listed
