@@ -16,7 +16,7 @@ load-comes at at' l row here others q = elim (cases_eq q l) [
 ]
 
 -- no load has a number that wasn't given yet
-pub none-yet : (o : Option LoadRow) (last : ℕ) → (is_some o ≡ true → last + 1 ≤ last) → o ≡ None
+pub none-yet : (o : Option LoadRow) (last : ℕ) → (is_some (option_map load_in o) ≡ true → last + 1 ≤ last) → o ≡ None
 none-yet None last h = refl
 none-yet (Some row) last h = let a = h refl in absurd (omega arith)
 

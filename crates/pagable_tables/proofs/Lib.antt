@@ -15,3 +15,4 @@ mod RowsMore
 mod NoEntry
 mod Owned
 mod Listed
+mod Opened
