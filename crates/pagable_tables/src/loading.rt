@@ -115,6 +115,8 @@ pub fn load_begin(t: &mut Tables, me: Owner, handle: HandleNumber) -> Result<Beg
     if t.last_load == u64::MAX || t.holdings.last_handle == u64::MAX {
         return Err(Error::NumbersSpent);
     }
-    let load = open_cell(t, me, at, counts.node_type, key)?;
-    Ok(Beginning::Load(load, key))
+    match open_cell(t, me, at, counts.node_type, key) {
+        Ok(load) => Ok(Beginning::Load(load, key)),
+        Err(e) => Err(e),
+    }
 }
