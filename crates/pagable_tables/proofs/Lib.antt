@@ -16,3 +16,4 @@ mod NoEntry
 mod Owned
 mod Listed
 mod Opened
+mod Recalled

@@ -9,6 +9,7 @@ pub mod cascade;
 pub mod handles;
 pub mod holdings;
 pub mod kinds;
+pub mod known;
 pub mod listing;
 pub mod loading;
 pub mod loads;
