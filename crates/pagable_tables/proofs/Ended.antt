@@ -1,5 +1,5 @@
 -- Where no node falls any more, all has gone that had to go, and no more.
-use Rattle.std.proofs.Common.{◌≡◌, ℕ, ◌+◌, ◌≤◌, ◌==◌, ◌&&◌, Bool, true, false, not, if◌then◌else◌, List, [], ◌∷◌, ◌++◌, sum_by, refl, ap, sym, ◌∙◌, subst, arith, inl, inr, zero, suc, Option, Some, None}
+use Rattle.std.proofs.Common.{◌≡◌, ℕ, ◌+◌, ◌≤◌, ◌==◌, ◌&&◌, Bool, true, false, not, if◌then◌else◌, List, [], ◌∷◌, ◌++◌, sum_by, refl, ap, sym, ◌∙◌, subst, arith, inl, inr, Option, Some, None}
 use Rattle.std.specs.Prelude.{◌⊎◌, is_some, nat_lt, nat_eq, ◌||◌, Result, Ok, Err}
 use Rattle.std.proofs.lemmas.Bool.Decides.{nat_tests}
 use Rattle.std.proofs.lemmas.List.Sums.{sum_by-cons, sum_by-append}
@@ -16,9 +16,10 @@ use Rattle.pagable_tables.specs.declared.rows.Counts.{Counts}
 use Rattle.pagable_tables.specs.declared.holdings.Holdings.{Holdings}
 use Rattle.pagable_tables.specs.Live.{live}
 use Rattle.pagable_tables.specs.ByNumber.{counts_at, refs_at}
-use Rattle.pagable_tables.specs.Falling.{Fits, IsFalling, Right, is_bare, pins_in, holds_in, falls_in, keyed_in, key_in, cell_in, HasFallen, owns, owns_nothing, named}
+use Rattle.pagable_tables.specs.Falling.{Fits, IsFalling, Right, is_bare, pins_in, holds_in, falls_in, keyed_in, cell_in, HasFallen, owns, owns_nothing, named}
 use Rattle.pagable_tables.specs.Onward.{with_tables, told_by, SoFar}
 use Rattle.pagable_tables.proofs.Left.{times-left, entries-none}
+use Rattle.pagable_tables.proofs.Forced.{keyed-cell}
 
 bare-then : (w : Bool) (p h : ℕ) (k bare : Bool) → w ≡ false → (if w then h == 0 || (p == 0 && k) else nat_lt 0 h && (nat_lt 0 p || not k || bare)) ≡ true → (h ≡ 0) ⊎ ((k ≡ true) × (p ≡ 0)) → bare ≡ true
 bare-then true p h k bare e r down = absurd (cc)
@@ -54,10 +55,6 @@ none-owned n (x ∷ xs) none =
     let rest = none-owned n xs (λ q. let k = sum_by-cons (λ h. owns h n q) x xs in let l = none q in omega arith) in
     let here : one (is_owned_by (owner_value n) x) ≡ 0 = grind (arith, nat_tests) in
     omega arith
-
-keyed-cell : (k : ℕ) → has_key (key_in k) ≡ nat_lt 0 k
-keyed-cell zero = refl
-keyed-cell (suc n) = let some : nat_lt 0 (suc n) ≡ true = grind (arith, nat_tests) in sym some
 
 down-keyed : (o : Option Counts) (cell : Option Cell) → (is_some o ≡ true → cell_in o ≡ cell) → has_key (if_there (λ (c : Cell). c.key) optional.None cell) ≡ true → (holds_in o ≡ 0) ⊎ (keyed_in o ≡ true)
 down-keyed None cell same e = inl refl

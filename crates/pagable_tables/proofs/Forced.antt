@@ -1,6 +1,6 @@
 -- A handle that a fallen value owned is in each closed set.
-use Rattle.std.proofs.Common.{◌≡◌, ℕ, ◌+◌, ◌≤◌, ◌==◌, ◌&&◌, Bool, true, false, not, if◌then◌else◌, List, [], ◌∷◌, ◌++◌, refl, ap, sym, ◌∙◌, arith, Option, Some, None, inl, inr, zero, suc}
-use Rattle.std.specs.Prelude.{◌⊎◌, is_some, nat_lt, nat_eq}
+use Rattle.std.proofs.Common.{◌≡◌, ℕ, ◌+◌, ◌≤◌, ◌&&◌, Bool, true, false, not, if◌then◌else◌, List, [], ◌∷◌, refl, ap, sym, ◌∙◌, arith, Option, Some, None, inl, inr, zero, suc}
+use Rattle.std.specs.Prelude.{is_some, nat_lt, nat_eq}
 use Rattle.std.proofs.lemmas.Bool.Decides.{nat_tests}
 use Rattle.std.proofs.lemmas.List.Sums.{sum_by-cons, sum_by-append, sum_by-le-sum_by}
 use Rattle.pagable_model.specs.declared.data_key.OptionalDataKey.TheVariants as optional
@@ -8,7 +8,7 @@ use Rattle.pagable_world.specs.declared.handles.HandleRow.{HandleRow}
 use Rattle.pagable_world.specs.Plain.{one, times, if_there}
 use Rattle.pagable_world.specs.Kinds.{is_at, is_pin, is_owned_by, owner_value, held, pins, has_key}
 use Rattle.pagable_world.specs.World.{Core, Cell}
-use Rattle.pagable_world.specs.Cascade.{IsWithin, IsClosed, is_keyed, is_outside, left_rows, loses_value, held_outside, pins_outside, owned_outside}
+use Rattle.pagable_world.specs.Cascade.{IsWithin, IsClosed, is_keyed, is_outside, left_rows, held_outside, pins_outside}
 use Rattle.pagable_tables.specs.declared.rows.Counts.{Counts}
 use Rattle.pagable_tables.specs.declared.holdings.Holdings.{Holdings}
 use Rattle.pagable_tables.specs.Live.{live}
@@ -38,7 +38,7 @@ cut f gone s (x ∷ xs) =
 le : (f g : HandleRow → Bool) (rows : List HandleRow) → ((h : HandleRow) → one (f h) ≤ one (g h)) → times f rows ≤ times g rows
 le f g rows h = sum_by-le-sum_by (λ x. one (f x)) (λ x. one (g x)) rows h
 
-keyed-cell : (k : ℕ) → has_key (key_in k) ≡ nat_lt 0 k
+pub keyed-cell : (k : ℕ) → has_key (key_in k) ≡ nat_lt 0 k
 keyed-cell zero = refl
 keyed-cell (suc n) = let some : nat_lt 0 (suc n) ≡ true = grind (arith, nat_tests) in sym some
 

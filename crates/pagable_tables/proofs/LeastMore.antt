@@ -1,5 +1,5 @@
 -- One handle more has gone, which a fallen value owned: each closed set has it.
-use Rattle.std.proofs.Common.{◌≡◌, ℕ, ◌+◌, ◌≤◌, ◌==◌, ◌&&◌, ◌||◌, Bool, true, false, not, if◌then◌else◌, List, refl, ap, sym, ◌∙◌, arith}
+use Rattle.std.proofs.Common.{◌≡◌, ℕ, ◌≤◌, ◌==◌, ◌&&◌, ◌||◌, Bool, true, false, not, List, ap, ◌∙◌, arith}
 use Rattle.std.proofs.lemmas.Bool.Decides.{nat_tests}
 use Rattle.std.proofs.lemmas.List.Sums.{sum_by-le-sum_by}
 use Rattle.pagable_world.specs.declared.handles.HandleRow.{HandleRow}
@@ -17,7 +17,7 @@ use Rattle.pagable_tables.proofs.Leaving.{leaves-sums}
 use Rattle.pagable_tables.proofs.Forced.{forced}
 
 -- no handle comes where there was none
-none-comes : (old new : Holdings) (x : HandleRow) (wanted listed : Bool) (m : ℕ) → Leaves old x wanted listed new → held m (live old.handles.places.items) ≡ 0 → held m (live new.handles.places.items) ≡ 0
+pub none-comes : (old new : Holdings) (x : HandleRow) (wanted listed : Bool) (m : ℕ) → Leaves old x wanted listed new → held m (live old.handles.places.items) ≡ 0 → held m (live new.handles.places.items) ≡ 0
 none-comes old new x wanted true m leaves none = let a = leaves-sums old new x wanted true leaves (λ h. one (is_at m h)) in omega arith
 none-comes old new x wanted false m leaves none = let a = leaves-sums old new x wanted false leaves (λ h. one (is_at m h)) in omega arith
 
@@ -27,7 +27,7 @@ in-set n x s owner none = let is : is_owned_by (owner_value n) x ≡ (n == n) = 
 with-one : (gone s : ℕ → Bool) (q : ℕ) (rows : List HandleRow) → s q ≡ true → IsWithin rows gone s → IsWithin rows (and_one gone q) s
 with-one gone s q rows is within =
     let a : times (λ h. and_one gone q h.number.0 && not (s h.number.0)) rows ≤ times (λ h. gone h.number.0 && not (s h.number.0)) rows =
-        sum_by-le-sum_by (λ h. one (and_one gone q h.number.0 && not (s h.number.0))) (λ h. one (gone h.number.0 && not (s h.number.0))) rows (λ h. here h.number.0) in
+    sum_by-le-sum_by (λ h. one (and_one gone q h.number.0 && not (s h.number.0))) (λ h. one (gone h.number.0 && not (s h.number.0))) rows (λ h. here h.number.0) in
     omega arith
   where
     here : (r : ℕ) → one ((gone r || r == q) && not (s r)) ≤ one (gone r && not (s r))

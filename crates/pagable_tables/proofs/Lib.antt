@@ -17,3 +17,8 @@ mod Owned
 mod Listed
 mod Opened
 mod Recalled
+mod Listing
+mod Telling
+mod Going
+mod Next
+mod Begun

@@ -1,18 +1,18 @@
--- A handle that a value owned is no entry.
-use Rattle.std.proofs.Common.{◌≡◌, ℕ, ◌+◌, ◌≤◌, ◌==◌, ◌&&◌, Bool, true, false, not, List, [], ◌∷◌, ◌++◌, refl, ap, ◌∙◌, arith}
+-- A handle that the list doesn't own is no entry.
+use Rattle.std.proofs.Common.{◌≡◌, ℕ, ◌+◌, ◌==◌, ◌&&◌, Bool, true, false, not, List, [], ◌∷◌, ◌++◌, refl, ap, arith}
 use Rattle.std.proofs.lemmas.Bool.Decides.{nat_tests}
 use Rattle.std.proofs.lemmas.List.Sums.{sum_by-cons, sum_by-append}
 use Rattle.pagable_world.specs.declared.handles.HandleRow.{HandleRow}
 use Rattle.pagable_world.specs.declared.handles.Owner.TheVariants as owners
 use Rattle.pagable_world.specs.Plain.{one, times}
-use Rattle.pagable_world.specs.Kinds.{is_handle, is_owned_by, is_owner, owner_value}
-use Rattle.pagable_world.specs.Cascade.{left_rows, only_handle, AreNewEntries}
+use Rattle.pagable_world.specs.Kinds.{is_handle, is_owned_by, is_owner}
+use Rattle.pagable_world.specs.Cascade.{only_handle, AreNewEntries}
 use Rattle.pagable_tables.specs.declared.holdings.Holdings.{Holdings}
 use Rattle.pagable_tables.specs.Live.{live}
 use Rattle.pagable_tables.specs.Falling.{Leaves}
 use Rattle.pagable_tables.proofs.Left.{times-left, entries-none}
 
-abbrev of_list : ℕ → HandleRow → Bool
+abbrev pub of_list : ℕ → HandleRow → Bool
 of_list q h = is_handle q h && is_owned_by owners.List h
 
 abbrev of_other : ℕ → HandleRow → Bool
@@ -46,13 +46,12 @@ none-of p q (x ∷ xs) =
     bits true false = refl
     bits false b = refl
 
-pub none-listed : (old new : Holdings) (x : HandleRow) (wanted listed : Bool) (n : ℕ) → Leaves old x wanted listed new → x.owner ≡ owner_value n → times (of_list x.number.0) (live old.handles.places.items) ≡ 0
-none-listed old new x wanted listed n leaves owner =
+pub none-listed : (old new : Holdings) (x : HandleRow) (wanted listed : Bool) → Leaves old x wanted listed new → is_owned_by owners.List x ≡ false → times (of_list x.number.0) (live old.handles.places.items) ≡ 0
+none-listed old new x wanted listed leaves owner =
     let a = leaves.sums (λ h. one (of_list x.number.0 h)) in
     let b = ap (times (of_list x.number.0)) leaves.rows in
     let d = times-left (of_list x.number.0) (only_handle x.number) (live old.handles.places.items) in
     let e = none-of (is_owned_by owners.List) x.number.0 (live old.handles.places.items) in
-    let is : is_owned_by owners.List x ≡ false = ap (is_owner owners.List) owner in
     let z : one (of_list x.number.0 x) ≡ 0 = grind (arith, nat_tests) in
     omega arith
 

@@ -1,15 +1,15 @@
 -- One handle more has gone: what rows are left, where no entry is that handle.
-use Rattle.std.proofs.Common.{◌≡◌, ℕ, ◌+◌, ◌&&◌, Bool, not, List, ◌++◌, ap, sym, ◌∙◌, arith}
+use Rattle.std.proofs.Common.{◌≡◌, ℕ, ◌+◌, ◌&&◌, Bool, not, List, ◌++◌, ap, ◌∙◌}
 use Rattle.std.proofs.lemmas.List.{append_assoc}
 use Rattle.std.proofs.lemmas.List.Elements.{filter-append}
 use Rattle.pagable_world.specs.declared.handles.HandleRow.{HandleRow}
-use Rattle.pagable_world.specs.Plain.{one, times}
+use Rattle.pagable_world.specs.Plain.{times}
 use Rattle.pagable_world.specs.Kinds.{is_handle}
 use Rattle.pagable_world.specs.World.{Core}
 use Rattle.pagable_world.specs.Cascade.{left_rows, only_handle}
 use Rattle.pagable_tables.specs.declared.holdings.Holdings.{Holdings}
 use Rattle.pagable_tables.specs.Live.{live}
-use Rattle.pagable_tables.specs.Falling.{entries_of, is_listing, Leaves, FallsBy}
+use Rattle.pagable_tables.specs.Falling.{entries_of, is_listing, Leaves, GivesUp}
 use Rattle.pagable_tables.specs.Onward.{SoFar}
 use Rattle.pagable_tables.proofs.Left.{and_one, left-more, left-none}
 
@@ -18,18 +18,17 @@ rows-leaves : (rows entries : List HandleRow) (gone : ℕ → Bool) (old new : H
 rows-leaves rows entries gone old new x wanted listed leaves is none =
     let last : leaves.between.last_handle ≡ old.last_handle = ap (λ (t : Holdings). t.last_handle) leaves.same in
     let split : left_rows (only_handle x.number) (left_rows gone rows ++ entries) ≡ left_rows (only_handle x.number) (left_rows gone rows) ++ left_rows (only_handle x.number) entries =
-        filter-append (λ (h : HandleRow). not (only_handle x.number h.number.0)) (left_rows gone rows) entries in
+    filter-append (λ (h : HandleRow). not (only_handle x.number h.number.0)) (left_rows gone rows) entries in
     let left : live leaves.between.handles.places.items ≡ left_rows (and_one gone x.number.0) rows ++ entries =
-        leaves.rows ∙ ap (left_rows (only_handle x.number)) is ∙ split ∙ ap (λ r. r ++ left_rows (only_handle x.number) entries) (left-more gone x.number.0 rows) ∙ ap (λ r. left_rows (and_one gone x.number.0) rows ++ r) (left-none x.number.0 entries none) in
+    leaves.rows ∙ ap (left_rows (only_handle x.number)) is ∙ split ∙ ap (λ r. r ++ left_rows (only_handle x.number) entries) (left-more gone x.number.0 rows) ∙ ap (λ r. left_rows (and_one gone x.number.0) rows ++ r) (left-none x.number.0 entries none) in
     leaves.lists.comes.rows ∙ ap (λ r. r ++ entries_of listed (leaves.between.last_handle + 1) x.node) left ∙ ap (λ k. (left_rows (and_one gone x.number.0) rows ++ entries) ++ entries_of listed (k + 1) x.node) last
-        ∙ append_assoc (left_rows (and_one gone x.number.0) rows) entries (entries_of listed (old.last_handle + 1) x.node)
+    ∙ append_assoc (left_rows (and_one gone x.number.0) rows) entries (entries_of listed (old.last_handle + 1) x.node)
 
-pub rows-more : (before w : Core) (given : ℕ → Bool) (lists : Bool) (t new : Holdings) (x : HandleRow) (n : ℕ) → (f : SoFar before w given lists t) → (by : FallsBy t x n lists new) → times (is_handle x.number.0) f.entries ≡ 0
-    → live new.handles.places.items ≡ left_rows (and_one f.gone x.number.0) w.rows ++ (f.entries ++ entries_of by.gives.listed (t.last_handle + 1) x.node)
-rows-more before w given lists t new x n f by none =
-    let g = by.gives in
-    let last : by.popped.last_handle ≡ t.last_handle = ap (λ (h : Holdings). h.last_handle) by.same in
-    let handles : live by.popped.handles.places.items ≡ live t.handles.places.items = ap (λ (h : Holdings). live h.handles.places.items) by.same in
+pub rows-more : (before w : Core) (given : ℕ → Bool) (lists : Bool) (t popped new : Holdings) (stack : List ℕ) (x : HandleRow) (f : SoFar before w given lists t) (g : GivesUp popped stack x lists new) → popped ≡ record t { nodes = popped.nodes } → times (is_handle x.number.0) f.entries ≡ 0
+    → live new.handles.places.items ≡ left_rows (and_one f.gone x.number.0) w.rows ++ (f.entries ++ entries_of g.listed (t.last_handle + 1) x.node)
+rows-more before w given lists t popped new stack x f g same none =
+    let last : popped.last_handle ≡ t.last_handle = ap (λ (h : Holdings). h.last_handle) same in
+    let handles : live popped.handles.places.items ≡ live t.handles.places.items = ap (λ (h : Holdings). live h.handles.places.items) same in
     let kept : live new.handles.places.items ≡ live g.between.handles.places.items = ap (λ (h : Holdings). live h.handles.places.items) g.same in
-    kept ∙ rows-leaves w.rows f.entries f.gone by.popped g.between x (lists && is_listing g.counts x.mode) g.listed g.leaves (handles ∙ f.rows) none
-        ∙ ap (λ k. left_rows (and_one f.gone x.number.0) w.rows ++ (f.entries ++ entries_of g.listed (k + 1) x.node)) last
+    kept ∙ rows-leaves w.rows f.entries f.gone popped g.between x (lists && is_listing g.counts x.mode) g.listed g.leaves (handles ∙ f.rows) none
+    ∙ ap (λ k. left_rows (and_one f.gone x.number.0) w.rows ++ (f.entries ++ entries_of g.listed (k + 1) x.node)) last

@@ -133,6 +133,7 @@ pub record Comes (old : Holdings) (node : NodeNumber) (listed : Bool) (new : Hol
   pub rows : live new.handles.places.items ≡ live old.handles.places.items ++ entries_of listed (old.last_handle + 1) node
   pub list : new.list.items ≡ old.list.items ++ (if listed then record { 0 = old.last_handle + 1 } ∷ [] else [])
   pub last : new.last_handle ≡ old.last_handle + one listed
+  pub left : listed ≡ true → old.last_handle < greatest
   pub places : HasPlaces old new
   pub nodes : new.nodes ≡ old.nodes
   pub top : new.top ≡ old.top

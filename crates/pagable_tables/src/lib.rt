@@ -18,6 +18,7 @@ pub mod making;
 pub mod moving;
 pub mod nodes;
 pub mod places;
+pub mod releases;
 pub mod rows;
 pub mod tables;
 pub mod turning;

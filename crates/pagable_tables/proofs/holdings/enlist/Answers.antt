@@ -15,6 +15,7 @@ returns-then-is_err c =
         rows = rows ∙ sym (append-nil _);
         list = c.make_place.ensures.items ∙ sym (append-nil _);
         last = search rules;
+        left = search rules;
         places = record { handles = search rules; entries = search rules };
         nodes = refl;
         top = refl;

@@ -1,0 +1,198 @@
+-- One handle more has gone, given up directly or by a value that has fallen: what has gone so far.
+use Rattle.std.proofs.Common.{◌≡◌, ℕ, ◌+◌, ◌<◌, ◌≤◌, ◌==◌, ◌&&◌, Bool, true, false, not, if◌then◌else◌, List, [], ◌∷◌, ◌++◌, length, filter, map, sum_by, refl, ap, sym, ◌∙◌, subst, arith, inl, inr}
+use Rattle.std.specs.Prelude.{is_some, vec_capacity}
+use Rattle.std.proofs.lemmas.Bool.{cases_Bool}
+use Rattle.std.proofs.lemmas.Bool.Decides.{nat_tests}
+use Rattle.std.proofs.lemmas.List.{append_assoc, append-nil, map-append, length-append}
+use Rattle.std.proofs.lemmas.List.Sums.{sum_by-cons, sum_by-append, sum_by-le-sum_by}
+use Rattle.pagable_model.specs.declared.error.Error.{Error}
+use Rattle.pagable_model.specs.declared.numbers.HandleNumber.{HandleNumber}
+use Rattle.pagable_model.specs.declared.numbers.NodeNumber.{NodeNumber}
+use Rattle.pagable_world.specs.declared.handles.HandleRow.{HandleRow}
+use Rattle.pagable_world.specs.declared.handles.Owner.TheVariants as owners
+use Rattle.pagable_world.specs.Plain.{one, times}
+use Rattle.pagable_world.specs.Kinds.{is_pin, is_handle, is_owned_by, held, pins}
+use Rattle.pagable_world.specs.World.{Core, greatest}
+use Rattle.pagable_world.specs.Cascade.{left_rows, IsWithin, IsClosed, AreNewEntries, TellsListing, IsListRefusal, is_keyed}
+use Rattle.pagable_tables.specs.declared.holdings.Holdings.{Holdings}
+use Rattle.pagable_tables.specs.Live.{live}
+use Rattle.pagable_tables.specs.ByNumber.{counts_at}
+use Rattle.pagable_tables.specs.Falling.{pins_in, entry, entries_of, is_listing, cell_in, first_cause, IsUnlisted, GivesUp, HasPlaces}
+use Rattle.pagable_tables.specs.Onward.{with_tables, told_by, SoFar}
+use Rattle.pagable_tables.proofs.Left.{and_one, kept-more, times-left, entries-more}
+use Rattle.pagable_tables.proofs.Leaving.{leaves-sums}
+use Rattle.pagable_tables.proofs.Listing.{entry-pins}
+use Rattle.pagable_tables.proofs.NoEntry.{of_list, none-listed, none-entered}
+use Rattle.pagable_tables.proofs.RowsMore.{rows-more}
+use Rattle.pagable_tables.proofs.Telling.{only-more, tells-more, refusal-now}
+
+-- a handle of which the list has none may go, whether it had gone or not
+kept-gone : (gone : ℕ → Bool) (q : ℕ) (list : List HandleNumber) → gone q ≡ true → filter (λ (h : HandleNumber). not (and_one gone q h.0)) list ≡ filter (λ (h : HandleNumber). not (gone h.0)) list
+kept-gone gone q [] e = refl
+kept-gone gone q (x ∷ xs) e =
+    let rest = kept-gone gone q xs e in
+    let same : not (and_one gone q x.0) ≡ not (gone x.0) = ap not (also x.0) in
+    ap (λ b. if b then x ∷ filter (λ (h : HandleNumber). not (and_one gone q h.0)) xs else filter (λ (h : HandleNumber). not (and_one gone q h.0)) xs) same ∙ ap (λ r. if not (gone x.0) then x ∷ r else r) rest
+  where
+    also : (r : ℕ) → and_one gone q r ≡ gone r
+    also r = elim (cases_Bool (r == q)) [ inl is ↦ (let a : r ≡ q = grind (arith, nat_tests) in let b : gone r ≡ true = ap gone a ∙ e in grind (arith, nat_tests)) | inr other ↦ grind (arith, nat_tests) ]
+
+list-kept : (gone : ℕ → Bool) (q : ℕ) (rows : List HandleRow) (list : List HandleNumber) → times (λ (h : HandleNumber). h.0 == q) list ≡ times (of_list q) rows → times (λ h. of_list q h && not (gone h.number.0)) rows ≡ 0
+    → filter (λ (h : HandleNumber). not (and_one gone q h.0)) list ≡ filter (λ (h : HandleNumber). not (gone h.0)) list
+list-kept gone q rows list listed none =
+    elim (cases_Bool (gone q)) [
+      | inl e ↦ kept-gone gone q list e
+      | inr e ↦
+          let a : times (of_list q) rows ≤ times (λ h. of_list q h && not (gone h.number.0)) rows = sum_by-le-sum_by (λ h. one (of_list q h)) (λ h. one (of_list q h && not (gone h.number.0))) rows (less e) in
+          kept-more gone q list (omega arith)
+    ]
+  where
+    less : gone q ≡ false → (h : HandleRow) → one (of_list q h) ≤ one (of_list q h && not (gone h.number.0))
+    less e h = elim (cases_Bool (h.number.0 == q)) [ inl is ↦ (let a : h.number.0 ≡ q = grind (arith, nat_tests) in let b : gone h.number.0 ≡ false = ap gone a ∙ e in grind (arith, nat_tests)) | inr other ↦ grind (arith, nat_tests) ]
+
+entry-number : (listed : Bool) (k : ℕ) (node : NodeNumber) → map (λ (h : HandleRow). h.number) (entries_of listed k node) ≡ (if listed then record { 0 = k } ∷ [] else [])
+entry-number true k node = refl
+entry-number false k node = refl
+
+new-more : (last : ℕ) (entries : List HandleRow) (listed : Bool) (k : ℕ) (node : NodeNumber) → AreNewEntries last entries → k ≡ last + length entries + 1 → AreNewEntries last (entries ++ entries_of listed k node)
+new-more last entries true k node new is = entries-more last entries (entry k node) new is refl refl
+new-more last entries false k node new is = subst (AreNewEntries last) (sym (append-nil entries)) new
+
+long-one : (listed : Bool) (k : ℕ) (node : NodeNumber) → length (entries_of listed k node) ≡ one listed
+long-one true k node = refl
+long-one false k node = refl
+
+within-more : (listed : Bool) (last : ℕ) → last ≤ greatest → (listed ≡ true → last < greatest) → last + one listed ≤ greatest
+within-more true last within left = let a = left refl in omega arith
+within-more false last within left = omega arith
+
+ones : (rows : List HandleRow) → sum_by (λ (h : HandleRow). 1) rows ≡ length rows
+ones [] = refl
+ones (x ∷ xs) = let a = sum_by-cons (λ (h : HandleRow). 1) x xs in let b = ones xs in omega arith
+
+one-more : (listed : Bool) → (if listed then 1 else 0) ≤ 1
+one-more true = omega arith
+one-more false = omega arith
+
+module _ (before w : Core) (given given' : ℕ → Bool) (lists : Bool) (t popped new : Holdings) (stack : List ℕ) (x : HandleRow) (f : SoFar before w given lists t) (g : GivesUp popped stack x lists new) (same : popped ≡ record t { nodes = popped.nodes })
+    (counts : (n : ℕ) → counts_at popped.nodes n ≡ counts_at t.nodes n) (pinned : (n : ℕ) → pins_in (counts_at t.nodes n) ≡ pins n (live t.handles.places.items)) (owner : is_owned_by owners.List x ≡ false) (few : length (live t.handles.places.items) ≤ length w.rows) where
+  before-rows : live popped.handles.places.items ≡ live t.handles.places.items
+  before-rows = ap (λ (h : Holdings). live h.handles.places.items) same
+
+  after-rows : live new.handles.places.items ≡ live g.between.handles.places.items
+  after-rows = ap (λ (h : Holdings). live h.handles.places.items) g.same
+
+  sums : (s : HandleRow → ℕ) → sum_by s (live new.handles.places.items) + s x ≡ sum_by s (live t.handles.places.items) + (if g.listed then s (entry (t.last_handle + 1) x.node) else 0)
+  sums s =
+      let a = leaves-sums popped g.between x (lists && is_listing g.counts x.mode) g.listed g.leaves s in
+      let b = ap (sum_by s) before-rows in
+      let d = ap (sum_by s) after-rows in
+      let e = ap (λ (h : Holdings). if g.listed then s (entry (h.last_handle + 1) x.node) else 0) same in
+      omega arith
+
+  left : (n : ℕ) → pins n (live new.handles.places.items) + one (is_pin n x) ≡ pins n (live t.handles.places.items)
+  left n = let a = sums (λ h. one (is_pin n h)) in let b = entry-pins g.listed (t.last_handle + 1) n x.node in omega arith
+
+  here : (p : HandleRow → Bool) → one (p x) ≤ times p (live t.handles.places.items)
+  here p = let a = g.leaves.sums (λ h. one (p h)) in let b = ap (times p) before-rows in omega arith
+
+  none-on-list : times (of_list x.number.0) (live t.handles.places.items) ≡ 0
+  none-on-list = sym (ap (times (of_list x.number.0)) before-rows) ∙ none-listed popped g.between x (lists && is_listing g.counts x.mode) g.listed g.leaves owner
+
+  since : g.leaves.between.last_handle ≡ t.last_handle
+  since = ap (λ (h : Holdings). h.last_handle) g.leaves.same ∙ ap (λ (h : Holdings). h.last_handle) same
+
+  last : new.last_handle ≡ t.last_handle + one g.listed
+  last =
+      let a : new.last_handle ≡ g.between.last_handle = ap (λ (h : Holdings). h.last_handle) g.same in
+      let b = g.leaves.lists.comes.last in
+      let d = since in
+      omega arith
+
+  no-entry : times (is_handle x.number.0) f.entries ≡ 0
+  no-entry = none-entered x.number.0 w.last.handle (live t.handles.places.items) (left_rows f.gone w.rows) f.entries f.rows f.new none-on-list
+
+  abbrev came : List HandleNumber
+  came = if g.listed then record { 0 = t.last_handle + 1 } ∷ [] else []
+
+  added : new.list.items ≡ t.list.items ++ came
+  added =
+      ap (λ (h : Holdings). h.list.items) g.same ∙ g.leaves.lists.comes.list ∙ ap (λ (h : Holdings). h.list.items ++ (if g.listed then record { 0 = h.last_handle + 1 } ∷ [] else [])) g.leaves.same
+      ∙ ap (λ (h : Holdings). h.list.items ++ (if g.listed then record { 0 = h.last_handle + 1 } ∷ [] else [])) same
+
+  list-more : new.list.items ≡ filter (λ (q : HandleNumber). not (and_one f.gone x.number.0 q.0)) w.list ++ map (λ (h : HandleRow). h.number) (f.entries ++ entries_of g.listed (t.last_handle + 1) x.node)
+  list-more =
+      let old = filter (λ (q : HandleNumber). not (f.gone q.0)) w.list in
+      let numbers = map (λ (h : HandleRow). h.number) f.entries in
+      let none : times (λ h. of_list x.number.0 h && not (f.gone h.number.0)) w.rows ≡ 0 = (
+      let a = none-on-list in
+      let b = ap (times (of_list x.number.0)) f.rows in
+      let d = sum_by-append (λ h. one (of_list x.number.0 h)) (left_rows f.gone w.rows) f.entries in
+      let e = times-left (of_list x.number.0) f.gone w.rows in
+      omega arith
+      ) in
+      let kept : filter (λ (q : HandleNumber). not (and_one f.gone x.number.0 q.0)) w.list ≡ old = list-kept f.gone x.number.0 w.rows w.list (f.begins.listed x.number.0) none in
+      let entries : map (λ (h : HandleRow). h.number) (f.entries ++ entries_of g.listed (t.last_handle + 1) x.node) ≡ numbers ++ came = map-append (λ (h : HandleRow). h.number) f.entries (entries_of g.listed (t.last_handle + 1) x.node) ∙ ap (λ l. numbers ++ l) (entry-number g.listed (t.last_handle + 1) x.node) in
+      added ∙ ap (λ l. l ++ came) f.list ∙ append_assoc old numbers came ∙ ap (λ l. old ++ l) (sym entries) ∙ ap (λ l. l ++ map (λ (h : HandleRow). h.number) (f.entries ++ entries_of g.listed (t.last_handle + 1) x.node)) (sym kept)
+
+  room : HasPlaces popped new
+  room =
+      let a = g.leaves.places in
+      let b = g.leaves.lists.comes.places in
+      let d : vec_capacity new.handles.places ≡ vec_capacity g.between.handles.places = ap (λ (h : Holdings). vec_capacity h.handles.places) g.same in
+      let e : vec_capacity new.list ≡ vec_capacity g.between.list = ap (λ (h : Holdings). vec_capacity h.list) g.same in
+      record { handles = omega arith; entries = omega arith }
+
+  -- why none came
+  wanting : (e : Error) → g.listed ≡ false → IsUnlisted g.leaves.between e → IsListRefusal w (with_tables w new) e
+  wanting e none why =
+      let b = g.leaves.between in
+      let listed = ap one none in
+      let k = last in
+      let s = since in
+      let p = g.leaves.places in
+      let q = f.places in
+      let handles = ap (λ (h : Holdings). vec_capacity h.handles.places) same in
+      let entries = ap (λ (h : Holdings). vec_capacity h.list) same in
+      let list : length b.list.items ≡ length t.list.items = ap (λ (h : Holdings). length h.list.items) g.leaves.same ∙ ap (λ (h : Holdings). length h.list.items) same in
+      let more = ap length added in
+      let long = length-append t.list.items came in
+      let gone = g.leaves.sums (λ h. 1) in
+      let fewer = ones (live b.handles.places.items) in
+      let all = ones (live popped.handles.places.items) in
+      let rows = ap length before-rows in
+      let begun = f.last in
+      refusal-now w b new e why (omega arith) (omega arith) (omega arith) (omega arith) (omega arith) (omega arith)
+
+  told : TellsListing before w (f.entries ++ entries_of g.listed (t.last_handle + 1) x.node) (told_by new.unlisted) (with_tables w new)
+  told =
+      let b = g.leaves.between in
+      let l = g.leaves.lists in
+      let unlisted : b.unlisted ≡ t.unlisted = ap (λ (h : Holdings). h.unlisted) g.leaves.same ∙ ap (λ (h : Holdings). h.unlisted) same in
+      let kept : new.unlisted ≡ g.between.unlisted = ap (λ (h : Holdings). h.unlisted) g.same in
+      tells-more before w given lists t f x g.counts (sym (counts x.node.0) ∙ g.is) (pinned x.node.0) here new left g.listed (t.last_handle + 1) l.only t.unlisted new.unlisted b f.tells
+      (λ s. kept ∙ l.told s ∙ unlisted)
+      (λ none wanted. let y = l.why none wanted in (y.0, y.1, kept ∙ y.2 ∙ ap (λ u. first_cause u y.0) unlisted))
+      wanting
+      (let a = last in omega arith)
+      (let a = ap length added in let b = length-append t.list.items came in omega arith)
+
+  pub one-goes : IsWithin w.rows given' (and_one f.gone x.number.0) → ((s : ℕ → Bool) (final : List HandleRow) → ((n : ℕ) → held n (live new.handles.places.items) ≡ 0 → held n final ≡ 0) → IsWithin w.rows given' s → IsClosed w.rows (is_keyed w) final s → IsWithin w.rows (and_one f.gone x.number.0) s) → SoFar before w given' lists new
+  one-goes holds least =
+      record {
+        begins = f.begins;
+        gone = and_one f.gone x.number.0;
+        entries = f.entries ++ entries_of g.listed (t.last_handle + 1) x.node;
+        rows = rows-more before w given lists t popped new stack x f g same no-entry;
+        list = list-more;
+        last = let a = last in let b = f.last in let d = length-append f.entries (entries_of g.listed (t.last_handle + 1) x.node) in let e = long-one g.listed (t.last_handle + 1) x.node in omega arith;
+        within = subst (λ k. k ≤ greatest) (sym last) (within-more g.listed t.last_handle f.within (λ l. subst (λ k. k < greatest) since (g.leaves.lists.comes.left l)));
+        places = let a = room in let b = f.places in let d = ap (λ (h : Holdings). vec_capacity h.handles.places) same in let e = ap (λ (h : Holdings). vec_capacity h.list) same in record { handles = omega arith; entries = omega arith };
+        cells = λ n there. let s = g.cells n there in s.1 ∙ ap cell_in (counts n) ∙ f.cells n (sym (ap is_some (counts n)) ∙ s.0);
+        holds = holds;
+        least = least;
+        new = new-more w.last.handle f.entries g.listed (t.last_handle + 1) x.node f.new (let a = f.last in omega arith);
+        only = only-more before w given lists t f x g.counts (sym (counts x.node.0) ∙ g.is) (pinned x.node.0) here new left g.listed (t.last_handle + 1) g.leaves.lists.only;
+        tells = told;
+        few = λ falls. let a = sums (λ h. 1) in let b = ones (live new.handles.places.items) in let d = ones (live t.handles.places.items) in let e = one-more g.listed in omega arith;
+      }

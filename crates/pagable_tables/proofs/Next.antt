@@ -1,0 +1,69 @@
+-- What has gone so far, after one step of a cascade, and after a handle that is given.
+use Rattle.std.proofs.Common.{◌≡◌, ℕ, ◌+◌, ◌≤◌, ◌==◌, ◌&&◌, ◌||◌, Bool, not, List, length, ap, ◌∙◌, arith, inl, inr}
+use Rattle.std.specs.Prelude.{◌≢◌, Option}
+use Rattle.std.proofs.lemmas.Bool.Decides.{nat_tests}
+use Rattle.std.proofs.lemmas.List.Sums.{sum_by-cons, sum_by-le-sum_by}
+use Rattle.std.proofs.Common.{false, [], ◌∷◌, refl}
+use Rattle.pagable_model.specs.declared.numbers.NodeNumber.{NodeNumber}
+use Rattle.pagable_world.specs.declared.handles.HandleRow.{HandleRow}
+use Rattle.pagable_world.specs.declared.handles.Owner.TheVariants as owners
+use Rattle.pagable_world.specs.Plain.{one}
+use Rattle.pagable_world.specs.Kinds.{is_owned_by, is_owner, held, pins}
+use Rattle.pagable_world.specs.World.{Core}
+use Rattle.pagable_world.specs.Cascade.{IsWithin}
+use Rattle.pagable_tables.specs.declared.holdings.Holdings.{Holdings}
+use Rattle.pagable_tables.specs.Live.{live}
+use Rattle.pagable_tables.specs.ByNumber.{counts_at}
+use Rattle.pagable_tables.specs.Falling.{pins_in, is_listing, IsFalling, GivesUp, Steps, FallsBy, owns_nothing}
+use Rattle.pagable_tables.specs.Onward.{SoFar}
+use Rattle.pagable_tables.proofs.Left.{and_one}
+use Rattle.pagable_tables.proofs.Kept.{settled}
+use Rattle.pagable_tables.proofs.LeastMore.{least-more, none-comes}
+use Rattle.pagable_tables.proofs.Going.{one-goes}
+
+-- one handle more on both sides, or on the right
+within-less : (a b c d : ℕ → Bool) (rows : List HandleRow) → ((r : ℕ) → one (a r && not (b r)) ≤ one (c r && not (d r))) → IsWithin rows c d → IsWithin rows a b
+within-less a b c d rows less is =
+    let e = sum_by-le-sum_by (λ h. one (a h.number.0 && not (b h.number.0))) (λ h. one (c h.number.0 && not (d h.number.0))) rows (λ h. less h.number.0) in
+    omega arith
+
+within-both : (gone given s : ℕ → Bool) (q : ℕ) (rows : List HandleRow) → IsWithin rows gone s → IsWithin rows (and_one given q) s → IsWithin rows (and_one gone q) s
+within-both gone given s q [] a b = refl
+within-both gone given s q (x ∷ xs) a b =
+    let d = sum_by-cons (λ h. one (gone h.number.0 && not (s h.number.0))) x xs in
+    let e = sum_by-cons (λ h. one (and_one given q h.number.0 && not (s h.number.0))) x xs in
+    let g = sum_by-cons (λ h. one (and_one gone q h.number.0 && not (s h.number.0))) x xs in
+    let rest = within-both gone given s q xs (omega arith) (omega arith) in
+    let here = bits (gone x.number.0) (given x.number.0) (x.number.0 == q) (s x.number.0) in
+    omega arith
+  where
+    bits : (g v r s : Bool) → one ((g || r) && not s) ≤ one (g && not s) + one ((v || r) && not s)
+    bits g v r s = grind (arith, nat_tests)
+
+-- one step of a cascade
+pub steps-on : (before w : Core) (given : ℕ → Bool) (lists : Bool) (t new : Holdings) (stack : List ℕ) (r : Option NodeNumber) → SoFar before w given lists t → IsFalling t stack owns_nothing → t.top ≢ 0 → Steps t stack lists r new → SoFar before w given lists new
+steps-on before w given lists t new stack r f falling some s =
+    elim s.what [
+      | inl done ↦ settled before w given lists t new f s.cells some done.1
+      | inr gone ↦ owned gone.0 gone.1 gone.3
+    ]
+  where
+    bits : (a g e : Bool) → one (a && not (g || e)) ≤ one (a && not g)
+    bits a g e = grind (arith, nat_tests)
+
+    owned : (x : HandleRow) (n : ℕ) → FallsBy t x n lists new → SoFar before w given lists new
+    owned x n by =
+        one-goes before w given given lists t by.popped new by.stack x f by.gives by.same by.counts falling.fits.pinned (ap (is_owner owners.List) by.owner) (f.few some)
+        (within-less given (and_one f.gone x.number.0) given f.gone w.rows (λ r. bits (given r) (f.gone r) (r == x.number.0)) f.holds)
+        (least-more before w given lists t new x n f by)
+
+-- a handle is given
+pub gives-on : (before w : Core) (given : ℕ → Bool) (lists : Bool) (t new : Holdings) (stack : List ℕ) (x : HandleRow) → SoFar before w given lists t → ((n : ℕ) → pins_in (counts_at t.nodes n) ≡ pins n (live t.handles.places.items)) → is_owned_by owners.List x ≡ false → length (live t.handles.places.items) ≤ length w.rows
+    → GivesUp t stack x lists new → SoFar before w (and_one given x.number.0) lists new
+gives-on before w given lists t new stack x f pinned owner few g =
+    one-goes before w given (and_one given x.number.0) lists t t new stack x f g refl (λ n. refl) pinned owner few
+    (within-less (and_one given x.number.0) (and_one f.gone x.number.0) given f.gone w.rows (λ r. grind (arith, nat_tests)) f.holds)
+    (λ s final bare has closed. within-both f.gone given s x.number.0 w.rows (f.least s final (λ n none. bare n (ap (held n) after ∙ none-comes t g.between x (lists && is_listing g.counts x.mode) g.listed n g.leaves none)) (within-less given s (and_one given x.number.0) s w.rows (λ r. grind (arith, nat_tests)) has) closed) has)
+  where
+    after : live new.handles.places.items ≡ live g.between.handles.places.items
+    after = ap (λ (h : Holdings). live h.handles.places.items) g.same

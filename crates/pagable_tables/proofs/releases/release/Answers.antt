@@ -1,0 +1,22 @@
+use Rattle.std.proofs.Common.{refl, subst, arith, inl, inr}
+use Rattle.pagable_world.specs.Kinds.{any_mode}
+use Rattle.pagable_world.specs.Cascade.{Falls, only_handle}
+use Rattle.pagable_tables.specs.Core.{core_of}
+use Rattle.pagable_tables.proofs.Begun.{begun-whole}
+use Rattle.pagable_tables.proofs.Worlds.{still, owner-same}
+use Rattle.pagable_tables.proofs.releases.release.Goals as goal
+
+pub returns-in-Err-clause-released : goal.returns-in-Err-clause-released
+returns-in-Err-clause-released c stored closed failures e = record { does = inl (record { e = c.in-Err.e; why = c.in-Err.ensures.fault stored closed failures any_mode; told = refl; stays = still _ }) }
+
+pub returns-clause-released : goal.returns-clause-released
+returns-clause-released c stored closed failures e =
+    let row = c.in-Ok.at.row in
+    let w = core_of c.args.t.now stored closed failures in
+    record {
+      does = inr (
+        row,
+        record { live = c.in-Ok.ensures.found; own = owner-same c.args.me row.owner c.in-Ok.ensures.owner; as_asked = refl },
+        subst (λ q. Falls w w (only_handle q) c.give_back.result (core_of (record c.args.t.now { holdings = c.give_back.new.t }) stored closed failures)) c.in-Ok.ensures.number (c.give_back.ensures.falls w w (begun-whole c.args.t.now stored closed c.args.lists failures c.requires.whole e) (omega arith)),
+      );
+    }
