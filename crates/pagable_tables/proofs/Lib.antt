@@ -17,8 +17,9 @@ mod Owned
 mod Listed
 mod Opened
 mod Recalled
-mod Listing
+mod Listings
 mod Telling
 mod Going
 mod Next
 mod Begun
+mod Fewer
