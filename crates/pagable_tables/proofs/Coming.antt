@@ -26,7 +26,7 @@ no-value n owners.List e = refl
 no-value n (owners.Load l) e = refl
 no-value n (owners.Worker v) e = refl
 
-owned-by-none : (n q : ℕ) (x : HandleRow) → is_valued x.owner ≡ false → is_owned n q x ≡ 0
+pub owned-by-none : (n q : ℕ) (x : HandleRow) → is_valued x.owner ≡ false → is_owned n q x ≡ 0
 owned-by-none n q x e = let a = no-value n x.owner e in grind (arith, nat_tests)
 
 -- nothing falls, so no node is marked

@@ -21,7 +21,7 @@ use Rattle.pagable_tables.specs.Falling.{pins_in, entry, entries_of, is_listing,
 use Rattle.pagable_tables.specs.Onward.{with_tables, told_by, SoFar}
 use Rattle.pagable_tables.proofs.Left.{and_one, kept-more, times-left, entries-more}
 use Rattle.pagable_tables.proofs.Leaving.{leaves-sums}
-use Rattle.pagable_tables.proofs.Listing.{entry-pins}
+use Rattle.pagable_tables.proofs.Listings.{entry-pins}
 use Rattle.pagable_tables.proofs.NoEntry.{of_list, none-listed, none-entered}
 use Rattle.pagable_tables.proofs.RowsMore.{rows-more}
 use Rattle.pagable_tables.proofs.Telling.{only-more, tells-more, refusal-now}
@@ -66,7 +66,7 @@ within-more : (listed : Bool) (last : ℕ) → last ≤ greatest → (listed ≡
 within-more true last within left = let a = left refl in omega arith
 within-more false last within left = omega arith
 
-ones : (rows : List HandleRow) → sum_by (λ (h : HandleRow). 1) rows ≡ length rows
+pub ones : (rows : List HandleRow) → sum_by (λ (h : HandleRow). 1) rows ≡ length rows
 ones [] = refl
 ones (x ∷ xs) = let a = sum_by-cons (λ (h : HandleRow). 1) x xs in let b = ones xs in omega arith
 

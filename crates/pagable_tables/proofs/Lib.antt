@@ -13,10 +13,15 @@ mod Forced
 mod LeastMore
 mod RowsMore
 mod NoEntry
-mod Listing
+mod Owned
+mod Listed
+mod Opened
+mod Recalled
+mod Listings
 mod Telling
 mod Going
 mod Next
 mod Begun
 mod Shedding
 mod keeps
+mod Fewer

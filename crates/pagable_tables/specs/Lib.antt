@@ -3,3 +3,4 @@ pub mod ByNumber
 pub mod Falling
 pub mod Onward
 pub mod Core
+pub mod Owning

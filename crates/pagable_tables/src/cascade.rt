@@ -38,6 +38,8 @@ pub fn cascade<N: Drop>(t: &mut Holdings, values: &mut IndexMap<u64, Arc<N>>, li
     requires kept { AreKept (counts_at t.old.nodes) (get nat_eq values.old) }
     requires falling { (stack : List ℕ) × IsFalling t.old stack owns_nothing × (length stack ≤ 1) }
     ensures whole { IsFalling t.new [] owns_nothing }
+    ensures fewer { length (live t.new.handles.places.items) ≤ length (live t.old.handles.places.items) }
+    ensures so_far { (before w : Core) (given : ℕ → Bool) → SoFar before w given lists t.old → SoFar before w given lists t.new }
     ensures falls { (before w : Core) (given : ℕ → Bool) → SoFar before w given lists t.old → Falls before w given (told_by t.new.unlisted) (with_tables w t.new) }
     ensures left { AreLeft (counts_at t.new.nodes) (get nat_eq values.old) (get nat_eq values.new) }
 {

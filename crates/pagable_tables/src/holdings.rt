@@ -46,7 +46,7 @@ pub fn pins(mode: Mode) -> bool
 }
 
 /// A place for one more entry of the list. It is refused only where there is none.
-fn make_place(list: &mut Vec<HandleNumber>) -> Result<(), AllocError>
+pub fn make_place(list: &mut Vec<HandleNumber>) -> Result<(), AllocError>
     ensures items { list.new.items ≡ list.old.items }
     ensures ok { OnOk result (vec_len list.new < vec_capacity list.new) }
     ensures full { OnErr result (vec_capacity list.old ≤ vec_len list.old) }

@@ -8,6 +8,7 @@ use Rattle.pagable_tables.proofs.Shedding.{lasts-on, is-left}
 use Rattle.pagable_tables.specs.ByNumber.{counts_at}
 use Rattle.pagable_tables.proofs.Standing.{valued-le, none-falls, one-falls}
 use Rattle.pagable_tables.proofs.Ended.{ended}
+use Rattle.pagable_tables.proofs.Fewer.{steps-fewer}
 use Rattle.pagable_tables.proofs.Next.{steps-on}
 use Rattle.pagable_tables.proofs.cascade.cascade.Goals as goal
 
@@ -29,7 +30,7 @@ fall-init g c =
     let v = valued-le (live c.args.t.now.handles.places.items) in
     let b = c.budget-left.ensures in
     let few = w.2 in
-    ((w.0, w.1, omega arith), λ before w given f. f, λ n. (inl refl, c.requires.kept n))
+    ((w.0, w.1, omega arith), λ before w given f. f, λ n. (inl refl, c.requires.kept n), omega arith)
 
 pub overflow_sub-left : goal.overflow_sub-left
 overflow_sub-left g c =
@@ -44,7 +45,9 @@ fall-preserved g c =
     let s : Steps c.fall.t i.0 c.args.lists c.step-done.result c.step-done.new.t = c.step-done.ensures i.0 i.1 in
     let less = s.less in
     let few = i.2 in
-    ((s.rest, s.falling, omega arith), λ before w given f. steps-on before w given c.args.lists c.fall.t c.step-done.new.t i.0 c.step-done.result (c.fall.invariant.1 before w given f) i.1 c.fall-test.true s, λ n. lasts-on (is_node c.step-done.result n) (counts_at c.fall.t.nodes n) (counts_at c.step-done.new.t.nodes n) _ _ _ (c.let_go.ensures n) (λ other. s.values n (not-node c.step-done.result n other)) (gone-node (λ m. has_value (counts_at c.step-done.new.t.nodes m)) c.step-done.result n s.gone) (c.fall.invariant.2 n))
+    let fewer = steps-fewer c.fall.t c.step-done.new.t i.0 c.args.lists c.step-done.result s in
+    let so-far = c.fall.invariant.3 in
+    ((s.rest, s.falling, omega arith), λ before w given f. steps-on before w given c.args.lists c.fall.t c.step-done.new.t i.0 c.step-done.result (c.fall.invariant.1 before w given f) i.1 c.fall-test.true s, λ n. lasts-on (is_node c.step-done.result n) (counts_at c.fall.t.nodes n) (counts_at c.step-done.new.t.nodes n) _ _ _ (c.let_go.ensures n) (λ other. s.values n (not-node c.step-done.result n other)) (gone-node (λ m. has_value (counts_at c.step-done.new.t.nodes m)) c.step-done.result n s.gone) (c.fall.invariant.2 n), omega arith)
 
 pub returns-clause-whole : goal.returns-clause-whole
 returns-clause-whole g c = let w = c.fall.invariant.0 in none-falls c.fall.t w.0 w.1 (omega arith)

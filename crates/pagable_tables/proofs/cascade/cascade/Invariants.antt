@@ -13,6 +13,7 @@ invariant-fall g l =
     ((stack : List ℕ) × IsFalling l.t stack owns_nothing × (2 * valued (live l.t.handles.places.items) + length stack ≤ l.left))
     × ((before w : Core) (given : ℕ → Bool) → SoFar before w given l.lists l.initial.t → SoFar before w given l.lists l.t)
     × ((n : ℕ) → Lasting (counts_at l.t.nodes n) (get nat_eq l.initial.values n) (get nat_eq l.values n))
+    × (length (live l.t.handles.places.items) ≤ length (live l.initial.t.handles.places.items))
 
 abbrev pub decreases-fall : goal.decreases-fall
 decreases-fall g l = l.left

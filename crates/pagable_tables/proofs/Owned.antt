@@ -1,0 +1,79 @@
+-- A handle comes to another owner. What the list has is there.
+use Rattle.std.proofs.Common.{◌≡◌, ℕ, ◌+◌, ◌<◌, ◌≤◌, ◌==◌, ◌&&◌, Bool, true, false, List, [], length, get_or, sum_by, slice_get, refl, ap, sym, arith, Some, None}
+use Rattle.std.specs.List.{AllPairs}
+use Rattle.std.specs.Prelude.{Option}
+use Rattle.std.proofs.lemmas.Bool.Decides.{nat_tests}
+use Rattle.std.proofs.lemmas.List.Sums.{get_or-le-sum_by, sum_by-le-sum_by}
+use Rattle.pagable_model.specs.declared.numbers.ArcRef.{ArcRef}
+use Rattle.pagable_model.specs.declared.numbers.HandleNumber.{HandleNumber}
+use Rattle.pagable_world.specs.declared.handles.HandleRow.{HandleRow}
+use Rattle.pagable_world.specs.declared.handles.Owner.{Owner}
+use Rattle.pagable_world.specs.declared.handles.Owner.TheVariants as owners
+use Rattle.pagable_world.specs.Plain.{one, times}
+use Rattle.pagable_world.specs.Kinds.{find_row, is_handle, is_owner, is_owned_by}
+use Rattle.pagable_tables.specs.declared.rows.Counts.{Counts}
+use Rattle.pagable_tables.specs.declared.rows.Place.{Place}
+use Rattle.pagable_tables.specs.Live.{live, alive, IsBefore}
+use Rattle.pagable_tables.specs.Owning.{Passes}
+use Rattle.pagable_tables.specs.Falling.{Fits, owns, owns_nothing, is_valued}
+use Rattle.pagable_tables.proofs.Alive.{none-found, only-row}
+use Rattle.pagable_tables.proofs.Coming.{owned-by-none}
+use Rattle.pagable_tables.proofs.Fitting.{pin_of, handle_of, is_owned}
+
+abbrev pub owned-by : Owner → HandleRow → HandleRow
+owned-by owner x = record x { owner = owner }
+
+pub move-fits : (at : ℕ → Option Counts) (refs : ℕ → List ArcRef) (rows rows' : List HandleRow) (top : ℕ) (extra more : ℕ → ℕ → ℕ) (x : HandleRow) (owner : Owner)
+    → ((f : HandleRow → ℕ) → sum_by f rows' + f x ≡ sum_by f rows + f (owned-by owner x)) → Passes x owner extra more → Fits at refs rows top [] extra → Fits at refs rows' top [] more
+move-fits at refs rows rows' top extra more x owner sums less fits =
+    record {
+      pinned = λ n. let a = fits.pinned n in let b = sums (pin_of n) in omega arith;
+      holding = λ n. let a = fits.holding n in let b = sums (handle_of n) in omega arith;
+      owned = λ n q. let a = fits.owned n q in let b = sums (is_owned n q) in let d = less n q in omega arith;
+      chain = fits.chain;
+      marked = fits.marked;
+      right = fits.right;
+      from_one = fits.from_one;
+    }
+
+-- neither owner is a value
+pub no-values : (x : HandleRow) (owner : Owner) → is_valued x.owner ≡ false → is_valued owner ≡ false → Passes x owner owns_nothing owns_nothing
+no-values x owner e f n q = let a = owned-by-none n q x e in let b = owned-by-none n q (owned-by owner x) f in omega arith
+
+-- the list's owner is none, and what it has is there
+pub list-owner : (o : Owner) → is_owner owners.List o ≡ true → is_valued o ≡ false
+list-owner owners.Caller e = refl
+list-owner (owners.Value n) e = absurd (cc)
+list-owner owners.List e = refl
+list-owner (owners.Load l) e = refl
+list-owner (owners.Worker v) e = refl
+
+abbrev entry-at : ℕ → HandleRow → ℕ
+entry-at q h = one (is_handle q h && is_owned_by owners.List h)
+
+entry-less : (q : ℕ) (h : HandleRow) → entry-at q h ≤ one (is_handle q h)
+entry-less q h = grind (arith, nat_tests)
+
+module _ (list : List HandleNumber) (ss : List Place) (i : ℕ) (h : HandleNumber) (lt : i < length list) (is : h ≡ get_or list i h)
+    (listed : times (λ (x : HandleNumber). x.0 == h.0) list ≡ sum_by (entry-at h.0) (live ss)) where
+  some-entry : 1 ≤ sum_by (entry-at h.0) (live ss)
+  some-entry =
+      let a = get_or-le-sum_by (λ (x : HandleNumber). one (x.0 == h.0)) list i h lt in
+      let b : one ((get_or list i h).0 == h.0) ≡ one (h.0 == h.0) = ap (λ (x : HandleNumber). one (x.0 == h.0)) (sym is) in
+      let d : one (h.0 == h.0) ≡ 1 = grind (arith, nat_tests) in
+      omega arith
+
+  pub entry-lives : find_row h.0 (live ss) ≡ None → ⊥
+  entry-lives none =
+      let a = none-found h.0 (live ss) none in
+      let b = sum_by-le-sum_by (entry-at h.0) (λ r. one (is_handle h.0 r)) (live ss) (entry-less h.0) in
+      let d = some-entry in
+      absurd (omega arith)
+
+  pub entry-unvalued : (place : ℕ) (row : HandleRow) → AllPairs IsBefore ss → slice_get ss place ≡ Some (alive row) → row.number ≡ h → is_valued row.owner ≡ false
+  entry-unvalued place row ordered at number =
+      let same : row.number.0 ≡ h.0 = ap (λ (x : HandleNumber). x.0) number in
+      let less : (r : HandleRow) → entry-at h.0 r ≤ one (is_handle row.number.0 r) = λ r. (let a = entry-less h.0 r in let b = ap (λ q. one (is_handle q r)) same in omega arith) in
+      let a = only-row (entry-at h.0) ss place row ordered at less in
+      let b = some-entry in
+      list-owner row.owner (grind (arith, nat_tests))

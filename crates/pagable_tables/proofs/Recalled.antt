@@ -1,0 +1,31 @@
+-- A handle is made of the node that the cache gives.
+use Rattle.std.proofs.Common.{◌≡◌, ℕ, true, ap, sym, ◌∙◌, subst, Ok, Err, Option, Some, inl, inr}
+use Rattle.std.specs.Prelude.{is_some, Result}
+use Rattle.pagable_model.specs.declared.error.Error.{Error}
+use Rattle.pagable_model.specs.declared.numbers.HandleNumber.{HandleNumber}
+use Rattle.pagable_model.specs.declared.numbers.NodeNumber.{NodeNumber}
+use Rattle.pagable_model.specs.declared.numbers.Kind.{Kind}
+use Rattle.pagable_world.specs.declared.handles.Owner.{Owner}
+use Rattle.pagable_world.specs.declared.rows.Mode.{Mode}
+use Rattle.pagable_world.specs.Kinds.{mode_of}
+use Rattle.pagable_world.specs.World.{Core, usable, Alike}
+use Rattle.pagable_world.specs.Refusals.{where_so, spent}
+use Rattle.pagable_world.specs.Calls.{with_handle, is_usable, recall_fault, RecallCall}
+use Rattle.pagable_tables.specs.Core.{Makes}
+
+module _ (w : Core) (me : Owner) (kind : Kind) (key : ℕ) (node : NodeNumber) (mode : Mode) (w' : Core) (is : usable w kind.0 key ≡ Some node.0) (fits : mode ≡ mode_of kind.0) where
+  so : is_usable w kind key ≡ true
+  so = ap is_some is
+
+  cause : recall_fault w kind key ≡ spent w.last.handle
+  cause = ap (λ b. where_so b (spent w.last.handle)) so
+
+  pub recalls : (k : HandleNumber) → Makes w node mode me (Ok k) w' → RecallCall w me kind key (Ok (Some k)) w'
+  recalls k m = record { answers = (node.0, is, m.made.0, subst (λ x. Alike (with_handle w node x me) w') fits m.made.1); refused = tt }
+
+  pub not-recalled : (e : Error) → Makes w node mode me (Err e) w' → RecallCall w me kind key (Err e) w'
+  not-recalled e m =
+      record {
+        answers = tt;
+        refused = record { why = elim m.refused.why [ inl a ↦ inl (cause ∙ a) | inr b ↦ inr (b.0, cause ∙ b.1, (so, b.2)) ]; stays = m.refused.stays };
+      }

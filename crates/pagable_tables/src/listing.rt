@@ -1,0 +1,64 @@
+//! The list of cells that wait for page-out: entries come and are taken.
+
+ghost use Rattle.std.specs.Prelude.{◌≡◌, ℕ, [], Bool, Option, false, length};
+ghost use Rattle.pagable_world.specs.Plain.{Blob};
+ghost use Rattle.pagable_world.specs.Calls.{ScheduleCall, TakeCall};
+ghost use Rattle.pagable_tables.specs.Falling.{IsFalling, owns_nothing, is_valued};
+ghost use Rattle.pagable_tables.specs.Core.{core_of, IsWhole};
+
+use crate::handles;
+use crate::holdings::make_place;
+use crate::kinds::is_unpinned;
+use crate::moving::hand_over;
+use crate::tables::Tables;
+use crate::turning::own;
+use pagable_model::{Error, HandleNumber};
+use pagable_world::handles::Owner;
+
+/// How many cells wait for page-out.
+pub fn pending_len(t: &Tables) -> usize
+    ensures { result ≡ length t.now.holdings.list.items }
+{
+    t.holdings.list.len()
+}
+
+/// A loose unpinned handle moves to the list's end, while the storage is open. It is refused where it isn't an own handle of that mode, or the list has no
+/// place.
+pub fn schedule_for_paging(t: &mut Tables, me: Owner, handle: HandleNumber) -> Result<(), Error>
+    requires whole { IsWhole t.old }
+    requires owner { is_valued me ≡ false }
+    ensures scheduled { (stored : ℕ → Option Blob) (failures : ℕ) → ScheduleCall (core_of t.old stored false failures) me handle result (core_of t.new stored false failures) }
+    ensures steady { IsFalling t.new.holdings [] owns_nothing }
+{
+    let at = match own(t, me, handle) {
+        Ok(at) => at,
+        Err(e) => return Err(e),
+    };
+    if !is_unpinned(at.row.mode) {
+        return Err(Error::WrongMode);
+    }
+    let Ok(()) = make_place(&mut t.holdings.list) else {
+        return Err(Error::OutOfMemory);
+    };
+    t.holdings.list.push(handle).unwrap();
+    hand_over(&mut t.holdings.handles, at, Owner::List);
+    Ok(())
+}
+
+/// The entry at this place of the list moves to the one who asks. None past the end.
+pub fn take_pending(t: &mut Tables, me: Owner, place: usize) -> Option<HandleNumber>
+    requires whole { IsWhole t.old }
+    requires owner { is_valued me ≡ false }
+    ensures taken { (stored : ℕ → Option Blob) (closed : Bool) (failures : ℕ) → TakeCall (core_of t.old stored closed failures) me place result (core_of t.new stored closed failures) }
+    ensures steady { IsFalling t.new.holdings [] owns_nothing }
+{
+    if place >= t.holdings.list.len() {
+        return None;
+    }
+    let handle = t.holdings.list.remove(place);
+    let Some(at) = handles::look(&t.holdings.handles, handle) else {
+        unreachable!();
+    };
+    hand_over(&mut t.holdings.handles, at, me);
+    Some(handle)
+}
