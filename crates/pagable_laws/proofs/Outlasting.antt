@@ -133,7 +133,7 @@ none-above last q rows few above = at (find_row q rows) refl
     at None e = e
     at (Some h) e = let a = few h (among-found q rows h e) in let b = found-number q rows h e in absurd (omega arith)
 
-once : (rows : List HandleRow) → AllPairs IsHandleBefore rows → (a b : HandleRow) → Among rows a → Among rows b → a.number.0 ≡ b.number.0 → a ≡ b
+pub once : (rows : List HandleRow) → AllPairs IsHandleBefore rows → (a b : HandleRow) → Among rows a → Among rows b → a.number.0 ≡ b.number.0 → a ≡ b
 once rows ordered a b (i, at) (j, there) same =
     let n = get_or_from_slice_get rows i a a at in
     let k = get_or_from_slice_get rows j b a there in

@@ -1,2 +1,5 @@
 pub mod Spared
 pub mod SparedParts
+pub mod SparedHandles
+pub mod SparedLists
+pub mod SparedLoads
