@@ -3,3 +3,4 @@ pub mod SparedParts
 pub mod SparedHandles
 pub mod SparedLists
 pub mod SparedLoads
+pub mod Coming

@@ -55,7 +55,7 @@ sum-mapped f g h (x ∷ xs) each =
     let d = sum_by-cons h x xs in
     omega arith
 
-and-false : (b : Bool) → (b && false) ≡ false
+pub and-false : (b : Bool) → (b && false) ≡ false
 and-false true = refl
 and-false false = refl
 
