@@ -8,7 +8,7 @@ pub mod Prefix
 mod OneForm
 mod Preimages
 mod Along
-mod Trees
+pub mod Trees
 mod Merkle
 mod Tame
 mod Local
@@ -19,15 +19,15 @@ mod AnyOrder
 mod JsonNumbers
 mod Inside
 mod Computed
-mod Sums
+pub mod Sums
 mod Existing
 mod Two
 mod Joining
 mod Nexts
-mod Goes
-mod Outlasting
+pub mod Goes
+pub mod Outlasting
 mod PinSteps
-mod GoodReferences
+pub mod GoodReferences
 mod Calling
 mod Called
 mod ReadingStepsRows
@@ -61,7 +61,7 @@ mod Following
 mod Naming
 mod Held
 mod KeysGoing
-mod Sparing
+pub mod Sparing
 mod SparingCalls
 mod SparingSteps
 mod Shelves
@@ -69,7 +69,7 @@ mod Stepping
 mod Publishing
 mod Leading
 mod TreesGoing
-mod Taking
+pub mod Taking
 mod Felt
 mod Answering
 mod Brought
@@ -96,7 +96,7 @@ mod HeightSteps
 mod Shallow
 mod Climbing
 mod Deeply
-mod Usable
+pub mod Usable
 mod UsableCalls
 mod UsableSteps
 mod Identities
