@@ -88,7 +88,7 @@ alike-away {w} {w'} a n = still-away w w' (alike a) (λ k. le-of _ _ (ap (pins k
 pin : ℕ → HandleRow → ℕ
 pin n h = one (is_pin n h)
 
-pins-left : (n : ℕ) (gone : ℕ → Bool) (rows more : List HandleRow) (k : ℕ) → pins n more ≡ 0 → pins n (left_rows gone rows ++ more) ≤ pins n rows
+pub pins-left : (n : ℕ) (gone : ℕ → Bool) (rows more : List HandleRow) (k : ℕ) → pins n more ≡ 0 → pins n (left_rows gone rows ++ more) ≤ pins n rows
 pins-left n gone [] more k none = le-of _ none
   where
     le-of : (b : ℕ) → b ≡ 0 → b ≤ 0
@@ -104,7 +104,7 @@ entry-pins : (b : Bool) → one (b && false) ≡ 0
 entry-pins true = refl
 entry-pins false = refl
 
-no-pins : (n last : ℕ) (entries : List HandleRow) → AreNewEntries last entries → pins n entries ≡ 0
+pub no-pins : (n last : ℕ) (entries : List HandleRow) → AreNewEntries last entries → pins n entries ≡ 0
 no-pins n last [] new = refl
 no-pins n last (h ∷ hs) (number, mode, owner, new) =
     let a : one (is_pin n h) ≡ 0 = rw mode (entry-pins _) in

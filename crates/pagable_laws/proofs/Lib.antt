@@ -8,7 +8,7 @@ pub mod Prefix
 mod OneForm
 mod Preimages
 mod Along
-mod Trees
+pub mod Trees
 mod Merkle
 mod Tame
 mod Local
@@ -19,18 +19,18 @@ mod AnyOrder
 mod JsonNumbers
 mod Inside
 mod Computed
-mod Sums
-mod Existing
+pub mod Sums
+pub mod Existing
 mod Two
 mod Joining
 mod Nexts
-mod Goes
-mod Outlasting
+pub mod Goes
+pub mod Outlasting
 mod PinSteps
-mod GoodReferences
+pub mod GoodReferences
 mod Calling
 mod Called
-mod ReadingStepsRows
+pub mod ReadingStepsRows
 mod ReadingSteps
 mod ReadingStepsMachine
 mod ReadingStepsKinds
@@ -55,21 +55,21 @@ mod Failing
 mod Histories
 mod ClaimsMade
 mod Arriving
-mod Decoding
+pub mod Decoding
 mod Fitting
 mod Following
 mod Naming
 mod Held
 mod KeysGoing
-mod Sparing
-mod SparingCalls
+pub mod Sparing
+pub mod SparingCalls
 mod SparingSteps
 mod Shelves
 mod Stepping
 mod Publishing
 mod Leading
 mod TreesGoing
-mod Taking
+pub mod Taking
 mod Felt
 mod Answering
 mod Brought
@@ -96,7 +96,7 @@ mod HeightSteps
 mod Shallow
 mod Climbing
 mod Deeply
-mod Usable
+pub mod Usable
 mod UsableCalls
 mod UsableSteps
 mod Identities

@@ -1,1 +1,2 @@
 pub mod Spared
+pub mod Falling
