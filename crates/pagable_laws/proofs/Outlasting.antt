@@ -23,7 +23,7 @@ use Rattle.pagable_laws.proofs.Goes.{le-more, found-number, none-in-new}
 abbrev pub NotValues : Owner → Type 0
 NotValues o = (n : NodeNumber) → o ≡ owners.Value n → ⊥
 
-not-owned : (n : ℕ) (o : Owner) → NotValues o → is_owner (owner_value n) o ≡ false
+pub not-owned : (n : ℕ) (o : Owner) → NotValues o → is_owner (owner_value n) o ≡ false
 not-owned n owners.Caller free = refl
 not-owned n (owners.Value m) free = absurd (free m refl)
 not-owned n owners.List free = refl

@@ -1,2 +1,3 @@
 pub mod Spared
 pub mod Falling
+pub mod SparedParts
