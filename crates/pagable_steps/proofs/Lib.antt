@@ -1,3 +1,5 @@
 pub mod Spared
-pub mod Falling
 pub mod SparedParts
+pub mod Staying
+pub mod Falling
+pub mod Keeping

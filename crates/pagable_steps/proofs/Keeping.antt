@@ -1,0 +1,221 @@
+-- What a call does directly before handles go: nodes and values stay as they are, but that a node may get a key and lose a pin.
+use Rattle.std.proofs.Common.{◌≡◌, ℕ, suc, zero, ◌+◌, ◌<◌, ◌≤◌, ◌==◌, ◌&&◌, ◌||◌, Bool, true, false, List, [], ◌∷◌, refl, ap, sym, subst, ◌∙◌, inl, inr, if◌then◌else◌, arith}
+use Rattle.std.specs.Prelude.{Option, Some, None, is_some, not, nat_lt}
+use Rattle.std.proofs.lemmas.Bool.{and_parts}
+use Rattle.std.proofs.lemmas.Bool.Decides.{nat_tests}
+use Rattle.pagable_model.specs.declared.numbers.ArcRef.{ArcRef}
+use Rattle.pagable_model.specs.declared.data_key.OptionalDataKey.TheVariants as optional
+use Rattle.pagable_world.specs.declared.handles.HandleRow.{HandleRow}
+use Rattle.pagable_world.specs.declared.handles.Owner.{Owner}
+use Rattle.pagable_world.specs.declared.rows.Mode.{Mode}
+use Rattle.pagable_world.specs.declared.rows.Mode.TheVariants as modes
+use Rattle.pagable_world.specs.Plain.{OptionalDataKey, HandleNumber, NodeNumber, Among, one, if_there}
+use Rattle.pagable_world.specs.Kinds.{find_row, is_handle, is_owner, is_owned_by, owner_value, is_pin, is_pinning, pins, is_in_memory, has_key}
+use Rattle.pagable_world.specs.World.{Core, Cell, Alike, Values, type_at, key_at, is_here}
+use Rattle.pagable_world.specs.Cascade.{Falls}
+use Rattle.pagable_world.specs.Refusals.{Owns, IsReference}
+use Rattle.pagable_world.specs.Calls.{with_mode, with_key}
+use Rattle.pagable_world.specs.Pager.{PagerState, HandlesAreWhole, IsWhole, WellFormed}
+use Rattle.pagable_laws.proofs.Trees.{same_some}
+use Rattle.pagable_laws.proofs.Sums.{same-number, self-number, one-true, sum-le, at-most-sum, counted}
+use Rattle.pagable_laws.proofs.Goes.{found-number}
+use Rattle.pagable_laws.proofs.GoodReferences.{same-owner}
+use Rattle.pagable_laws.proofs.Outlasting.{NotValues, among-found, none-found, once, found-after}
+use Rattle.pagable_steps.proofs.Spared.{owns, owns_any, Spares, spared}
+use Rattle.pagable_steps.proofs.SparedParts.{spares-alike, sum-mapped, here-by}
+use Rattle.pagable_steps.proofs.Staying.{owned-some}
+use Rattle.pagable_steps.proofs.Falling.{Sits, Sweeps, fell-from}
+
+-- nodes stay with their types, and none comes to memory; values own the same handles, by the same rows
+pub record Keeps (w m : Core) : Type 0 where
+  pub typed : (n : ℕ) → type_at m n ≡ type_at w n
+  pub here : (n : ℕ) → is_here m n ≡ true → is_here w n ≡ true
+  pub owned : (n q : ℕ) → owns n q m.rows ≡ owns n q w.rows
+  pub rows : (n q : ℕ) (row : HandleRow) → find_row q w.rows ≡ Some row → row.owner ≡ owner_value n → find_row q m.rows ≡ Some row
+
+-- no value owns such a handle
+abbrev pub AreFree : Core → (ℕ → Bool) → Type 0
+AreFree w given = (n q : ℕ) (row : HandleRow) → find_row q w.rows ≡ Some row → row.owner ≡ owner_value n → given q ≡ false
+
+-- what a call leaves: the values whose nodes are in memory, right counts and a whole world
+pub record Leaves {N E : Type 0} (values : ℕ → Option N) (s' : PagerState N E) : Type 0 where
+  pub swept : Sweeps values s'.core s'.values
+  pub counted : (n : ℕ) → s'.counts n ≡ pins n s'.core.rows
+  pub whole : IsWhole s'.core
+
+-- ---- rows
+
+pub found-whole : {w : Core} → HandlesAreWhole w → (h : HandleRow) → Among w.rows h → find_row h.number.0 w.rows ≡ Some h
+found-whole {w} whole h among = at (find_row h.number.0 w.rows) refl
+  where
+    at : (found : Option HandleRow) → find_row h.number.0 w.rows ≡ found → find_row h.number.0 w.rows ≡ Some h
+    at None e = absurd (none-found h.number.0 w.rows h e among refl)
+    at (Some row) e = e ∙ ap (λ (x : HandleRow). Some x) (once w.rows whole.ordered row h (among-found h.number.0 w.rows row e) among (found-number h.number.0 w.rows row e))
+
+-- the handle of a value, by its row
+pub record Owned (w : Core) (n q : ℕ) : Type 0 where
+  pub row : HandleRow
+  pub live : find_row q w.rows ≡ Some row
+  pub own : row.owner ≡ owner_value n
+
+pub owned-row : {w : Core} → HandlesAreWhole w → (n q : ℕ) → 0 < owns n q w.rows → Owned w n q
+owned-row {w} whole n q some =
+    let c = counted (λ h. one (is_handle q h && is_owned_by (owner_value n) h)) w.rows some in
+    let both = and_parts (is_handle q c.0) (is_owned_by (owner_value n) c.0) (one-true _ c.2) in
+    record { row = c.0; live = subst (λ p. find_row p w.rows ≡ Some c.0) (same-number _ _ both.0) (found-whole whole c.0 c.1); own = same-owner (owner_value n) c.0.owner both.1 }
+
+one-value : (n m : ℕ) (o : Owner) → o ≡ owner_value n → o ≡ owner_value m → m ≡ n
+one-value n m o a b = same-number m n (sym (ap (is_owner (owner_value n)) b) ∙ (ap (is_owner (owner_value n)) a ∙ self-number n))
+
+-- values that own nothing of any number own nothing
+none-owned : (n : ℕ) (rows rows' : List HandleRow) → ((q : ℕ) → owns n q rows' ≡ owns n q rows) → owns_any n rows ≡ 0 → owns_any n rows' ≡ 0
+none-owned n rows rows' same none = at (owns_any n rows') refl
+  where
+    at : (k : ℕ) → owns_any n rows' ≡ k → owns_any n rows' ≡ 0
+    at zero e = e
+    at (suc k) e =
+        let c = counted (λ h. one (is_owned_by (owner_value n) h)) rows' (omega (arith, e)) in
+        let a = owned-some n rows' c.0 c.1 (one-true _ c.2) in
+        let b = same c.0.number.0 in
+        let le = sum-le (λ h. one (is_handle c.0.number.0 h && is_owned_by (owner_value n) h)) (λ h. one (is_owned_by (owner_value n) h)) rows (λ h among. less (is_handle c.0.number.0 h) (is_owned_by (owner_value n) h)) in
+        absurd (omega (arith, a, b, le, none))
+      where
+        less : (a b : Bool) → one (a && b) ≤ one b
+        less true b = omega arith
+        less false true = omega arith
+        less false false = omega arith
+
+-- ---- what stands
+
+type-some : (w : Core) (n : ℕ) → is_some (type_at w n) ≡ is_some (w.cells n)
+type-some w n = at (w.cells n)
+  where
+    at : (c : Option Cell) → is_some (if_there (λ (cell : Cell). Some cell.node_type) None c) ≡ is_some c
+    at None = refl
+    at (Some cell) = refl
+
+module _ {N E : Type 0} {v : Values N} {s : PagerState N E} (is : WellFormed v s) where
+  -- where a node is there, it has its value if it is in memory
+  pub keeps-sits : (m : Core) → Keeps s.core m → Sits v m s.values
+  keeps-sits m k =
+      record {
+        there = λ n live here. is.valued n ∙ both _ _ (sym (type-some s.core n) ∙ (ap is_some (sym (k.typed n)) ∙ (type-some m n ∙ live))) (k.here n here);
+        typed = λ n x e. k.typed n ∙ is.typed n x e;
+        inside = λ n x q e. is.inside n x q e ∙ sym (k.owned n q);
+        bare = λ n e. none-owned n s.core.rows m.rows (k.owned n) (is.bare n e);
+        references = λ n x r e among.
+            let old = is.references n x r e among in
+            record { row = old.row; live = k.rows n r.handle.0 old.row old.live old.owned; at = old.at; owned = old.owned; fits = old.fits; typed = k.typed r.node.0 ∙ old.typed };
+        single = λ n p q a b. one-row n p q (subst (λ j. 0 < j) (k.owned n q) a) (subst (λ j. 0 < j) (k.owned p q) b);
+      }
+    where
+      both : (a b : Bool) → a ≡ true → b ≡ true → (a && b) ≡ true
+      both true b e f = f
+      both false b e f = e
+
+      one-row : (n p q : ℕ) → 0 < owns n q s.core.rows → 0 < owns p q s.core.rows → p ≡ n
+      one-row n p q a b =
+          let x = owned-row is.whole.handles n q a in
+          let y = owned-row is.whole.handles p q b in
+          let same = same_some _ _ (sym x.live ∙ y.live) in
+          one-value n p x.row.owner x.own (ap (λ (h : HandleRow). h.owner) same ∙ y.own)
+
+  -- The handles go from a world where values stand as they stood, and none of them is a value's.
+  pub fell : {before m : Core} {given : ℕ → Bool} {r : _} {s' : PagerState N E} → Keeps s.core m → Falls before m given r s'.core → AreFree s.core given → Leaves s.values s' → WellFormed v s'
+  fell {before} {m} {given} {r} {s'} k f free l = fell-from (keeps-sits m k) s' f none l.swept l.counted l.whole
+    where
+      none : (n q : ℕ) → 0 < owns n q m.rows → given q ≡ false
+      none n q some = let x = owned-row is.whole.handles n q (subst (λ j. 0 < j) (k.owned n q) some) in free n q x.row x.live x.own
+
+  -- nothing changes
+  pub stayed : {s' : PagerState N E} → Spares s.core s'.core → Leaves s.values s' → WellFormed v s'
+  stayed {s'} k l = spared v s s' is k (λ n. l.swept n ∙ at (s.values n) _ (is.valued n ∙ sym (now n))) l.counted l.whole
+    where
+      now : (n : ℕ) → (is_some (s'.core.cells n) && is_here s'.core n) ≡ (is_some (s.core.cells n) && is_here s.core n)
+      now n = ap (λ o. is_some o && is_here s'.core n) (k.cells n) ∙ ap (λ b. is_some (s.core.cells n) && b) (k.here n)
+
+      at : (o : Option N) (b : Bool) → is_some o ≡ b → (if b then o else None) ≡ o
+      at None true e = absurd (cc)
+      at None false e = refl
+      at (Some x) true e = refl
+      at (Some x) false e = absurd (cc)
+
+-- ---- what calls do directly
+
+pub spares-keeps : {w m : Core} → Spares w m → Keeps w m
+spares-keeps s = record { typed = λ n. ap (λ o. if_there (λ (cell : Cell). Some cell.node_type) None o) (s.cells n); here = λ n is. sym (s.here n) ∙ is; owned = s.owned; rows = s.rows }
+
+-- an own handle isn't a value's
+pub own-free : {w : Core} {me : Owner} {fits : Mode → Bool} (h : HandleNumber) (row : HandleRow) → NotValues me → Owns w me h fits row → AreFree w (λ q. q == h.0)
+own-free {w} {me} h row none owns n q x live own = at (q == h.0) refl
+  where
+    at : (b : Bool) → (q == h.0) ≡ b → (q == h.0) ≡ false
+    at false e = e
+    at true e =
+        let same : row ≡ x = same_some _ _ (sym owns.live ∙ (ap (λ p. find_row p w.rows) (sym (same-number q h.0 e)) ∙ live)) in
+        absurd (none (record { 0 = n }) (sym owns.own ∙ (ap (λ (y : HandleRow). y.owner) same ∙ own)))
+
+-- an own handle pins no more
+pub unpin-keeps : {w : Core} {me : Owner} {fits : Mode → Bool} (h : HandleNumber) (row : HandleRow) → NotValues me → Owns w me h fits row → Keeps w (with_mode w h modes.LooseUnpinned)
+unpin-keeps {w} h row none owns =
+    record {
+      typed = λ n. refl;
+      here = λ n is. here-by (pins n (with_mode w h modes.LooseUnpinned).rows) (pins n w.rows) (key_at w n) (fewer n) is;
+      owned = λ n q. sum-mapped (λ x. if is_handle h.0 x then to x else x) (λ x. one (is_handle q x && is_owned_by (owner_value n) x)) (λ x. one (is_handle q x && is_owned_by (owner_value n) x)) w.rows (λ x among. same n q x (is_handle h.0 x));
+      rows = λ n q x live own. found-after (is_handle h.0) to (λ y. refl) q w.rows x live ∙ ap (λ b. Some (if b then to x else x)) (other n q x live own);
+    }
+  where
+    to : HandleRow → HandleRow
+    to x = record x { mode = modes.LooseUnpinned }
+
+    same : (n q : ℕ) (x : HandleRow) (b : Bool) → one (is_handle q (if b then to x else x) && is_owned_by (owner_value n) (if b then to x else x)) ≡ one (is_handle q x && is_owned_by (owner_value n) x)
+    same n q x true = refl
+    same n q x false = refl
+
+    other : (n q : ℕ) (x : HandleRow) → find_row q w.rows ≡ Some x → x.owner ≡ owner_value n → is_handle h.0 x ≡ false
+    other n q x live own = ap (λ p. p == h.0) (found-number q w.rows x live) ∙ own-free h row none owns n q x live own
+
+    less : (n : ℕ) (x : HandleRow) (b : Bool) → one (is_pin n (if b then to x else x)) ≤ one (is_pin n x)
+    less n x true = none-pins (x.node.0 == n) (is_pinning x.mode)
+      where
+        none-pins : (a b : Bool) → one (a && false) ≤ one (a && b)
+        none-pins true b = omega arith
+        none-pins false b = omega arith
+    less n x false = le-self (one (is_pin n x))
+      where
+        le-self : (k : ℕ) → k ≤ k
+        le-self k = omega arith
+
+    fewer : (n : ℕ) → pins n (with_mode w h modes.LooseUnpinned).rows ≤ pins n w.rows
+    fewer n =
+        let a = sum-mapped (λ x. if is_handle h.0 x then to x else x) (λ x. one (is_pin n x)) (λ x. one (is_pin n (if is_handle h.0 x then to x else x))) w.rows (λ x among. refl) in
+        let b = sum-le (λ x. one (is_pin n (if is_handle h.0 x then to x else x))) (λ x. one (is_pin n x)) w.rows (λ x among. less n x (is_handle h.0 x)) in
+        omega (arith, a, b)
+
+-- a node gets a key
+pub keyed-keeps : (w : Core) (node : NodeNumber) (key : ℕ) → Keeps w (with_key w node key)
+keyed-keeps w node key =
+    record { typed = λ n. typed-at n (n == node.0) refl; here = λ n is. here-at n (n == node.0) refl is; owned = λ n q. refl; rows = λ n q row live own. live }
+  where
+    keyed : Option Cell → Option Cell
+    keyed c = if_there (λ (cell : Cell). Some (record cell { key = optional.Some key })) None c
+
+    typed : (c : Option Cell) → if_there (λ (cell : Cell). Some cell.node_type) None (keyed c) ≡ if_there (λ (cell : Cell). Some cell.node_type) None c
+    typed None = refl
+    typed (Some cell) = refl
+
+    typed-at : (n : ℕ) (b : Bool) → (n == node.0) ≡ b → if_there (λ (cell : Cell). Some cell.node_type) None (if b then keyed (w.cells node.0) else w.cells n) ≡ type_at w n
+    typed-at n true e = typed (w.cells node.0) ∙ ap (type_at w) (sym (same-number n node.0 e))
+    typed-at n false e = refl
+
+    key-of : Option Cell → OptionalDataKey
+    key-of c = if_there (λ (cell : Cell). cell.key) optional.None c
+
+    here-at : (n : ℕ) (b : Bool) → (n == node.0) ≡ b → is_in_memory (pins n w.rows) (key-of (if b then keyed (w.cells node.0) else w.cells n)) ≡ true → is_here w n ≡ true
+    here-at n false e is = is
+    here-at n true e is = at (w.cells node.0) refl (nat_lt 0 (pins n w.rows)) is
+      where
+        at : (c : Option Cell) → w.cells node.0 ≡ c → (b : Bool) → (b || not (has_key (key-of (keyed c)))) ≡ true → (b || not (has_key (key_at w n))) ≡ true
+        at c f true is = refl
+        at (Some cell) f false is = absurd (cc)
+        at None f false is = ap (λ m. not (has_key (key_at w m))) (same-number n node.0 e) ∙ ap (λ c. not (has_key (key-of c))) f
