@@ -17,7 +17,7 @@ use Rattle.pagable_laws.specs.TreeSteps.{AreGood, StaysAway}
 use Rattle.pagable_laws.proofs.Sums.{same-number}
 use Rattle.pagable_laws.proofs.Goes.{Quiet, alike, fell}
 
-or-none : {X : Type 0} (a b : Option X) → or_else a b ≡ None → (a ≡ None) × (b ≡ None)
+pub or-none : {X : Type 0} (a b : Option X) → or_else a b ≡ None → (a ≡ None) × (b ≡ None)
 or-none None b is = (refl, is)
 or-none (Some x) b is = absurd (cc)
 
@@ -88,7 +88,7 @@ alike-away {w} {w'} a n = still-away w w' (alike a) (λ k. le-of _ _ (ap (pins k
 pin : ℕ → HandleRow → ℕ
 pin n h = one (is_pin n h)
 
-pub pins-left : (n : ℕ) (gone : ℕ → Bool) (rows more : List HandleRow) (k : ℕ) → pins n more ≡ 0 → pins n (left_rows gone rows ++ more) ≤ pins n rows
+pins-left : (n : ℕ) (gone : ℕ → Bool) (rows more : List HandleRow) (k : ℕ) → pins n more ≡ 0 → pins n (left_rows gone rows ++ more) ≤ pins n rows
 pins-left n gone [] more k none = le-of _ none
   where
     le-of : (b : ℕ) → b ≡ 0 → b ≤ 0
@@ -104,7 +104,7 @@ entry-pins : (b : Bool) → one (b && false) ≡ 0
 entry-pins true = refl
 entry-pins false = refl
 
-pub no-pins : (n last : ℕ) (entries : List HandleRow) → AreNewEntries last entries → pins n entries ≡ 0
+no-pins : (n last : ℕ) (entries : List HandleRow) → AreNewEntries last entries → pins n entries ≡ 0
 no-pins n last [] new = refl
 no-pins n last (h ∷ hs) (number, mode, owner, new) =
     let a : one (is_pin n h) ≡ 0 = rw mode (entry-pins _) in

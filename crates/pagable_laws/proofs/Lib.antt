@@ -30,14 +30,14 @@ mod PinSteps
 pub mod GoodReferences
 mod Calling
 mod Called
-pub mod ReadingStepsRows
+mod ReadingStepsRows
 mod ReadingSteps
 mod ReadingStepsMachine
 mod ReadingStepsKinds
 mod ReadingStepsBound
 mod ReadingStepsWaiting
 mod ReadingStepsWithin
-mod ReadingStepsHanding
+pub mod ReadingStepsHanding
 mod ReadingStepsHeld
 mod ReadingStepsGive
 mod WalkSteps
@@ -55,14 +55,14 @@ mod Failing
 mod Histories
 mod ClaimsMade
 mod Arriving
-pub mod Decoding
+mod Decoding
 mod Fitting
 mod Following
 mod Naming
 mod Held
 mod KeysGoing
 pub mod Sparing
-pub mod SparingCalls
+mod SparingCalls
 mod SparingSteps
 mod Shelves
 mod Stepping

@@ -77,11 +77,11 @@ pub record Stands (last : ℕ) (rows : List HandleRow) (q : ℕ) (row : HandleRo
   pub only : (h : HandleRow) → Among rows h → h.number.0 ≡ q → h ≡ row
   pub given : q ≤ last
 
-pub find-front : (q : ℕ) (h : HandleRow) (hs : List HandleRow) → is_handle q h ≡ true → find_row q (h ∷ hs) ≡ Some h
+find-front : (q : ℕ) (h : HandleRow) (hs : List HandleRow) → is_handle q h ≡ true → find_row q (h ∷ hs) ≡ Some h
 unfolding find_row
 find-front q h hs is = rw is refl
 
-pub find-later : (q : ℕ) (h : HandleRow) (hs : List HandleRow) → is_handle q h ≡ false → find_row q (h ∷ hs) ≡ find_row q hs
+find-later : (q : ℕ) (h : HandleRow) (hs : List HandleRow) → is_handle q h ≡ false → find_row q (h ∷ hs) ≡ find_row q hs
 unfolding find_row
 find-later q h hs is = rw is refl
 

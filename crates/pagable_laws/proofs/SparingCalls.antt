@@ -192,7 +192,7 @@ module _ (v : ℕ) (w w' : Core) where
     ends-load l (Err (e, Some y)) c = spares-alike v c.refused.1.stays
     ends-load l (Err (e, None)) c = closes l c.refused.closes
 
-    pub earlier-none : (a b : Option Error) → earlier a b ≡ None → (a ≡ None) × (b ≡ None)
+    earlier-none : (a b : Option Error) → earlier a b ≡ None → (a ≡ None) × (b ≡ None)
     earlier-none None b e = (refl, e)
     earlier-none (Some x) None e = absurd (cc)
     earlier-none (Some x) (Some y) e = by (nat_lt (rank y) (rank x)) e

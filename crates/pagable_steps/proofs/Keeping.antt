@@ -23,6 +23,7 @@ use Rattle.pagable_laws.proofs.GoodReferences.{same-owner}
 use Rattle.pagable_laws.proofs.Outlasting.{NotValues, among-found, none-found, once, found-after}
 use Rattle.pagable_steps.proofs.Spared.{owns, owns_any, Spares, spared}
 use Rattle.pagable_steps.proofs.SparedParts.{spares-alike, sum-mapped, here-by}
+use Rattle.pagable_steps.proofs.SparedLists.{own-free}
 use Rattle.pagable_steps.proofs.Staying.{owned-some}
 use Rattle.pagable_steps.proofs.Falling.{Sits, Sweeps, fell-from}
 
@@ -35,7 +36,7 @@ pub record Keeps (w m : Core) : Type 0 where
 
 -- no value owns such a handle
 abbrev pub AreFree : Core → (ℕ → Bool) → Type 0
-AreFree w given = (n q : ℕ) (row : HandleRow) → find_row q w.rows ≡ Some row → row.owner ≡ owner_value n → given q ≡ false
+AreFree w given = (h : HandleRow) → Among w.rows h → given h.number.0 ≡ true → NotValues h.owner
 
 -- what a call leaves: the values whose nodes are in memory, right counts and a whole world
 pub record Leaves {N E : Type 0} (values : ℕ → Option N) (s' : PagerState N E) : Type 0 where
@@ -125,7 +126,11 @@ module _ {N E : Type 0} {v : Values N} {s : PagerState N E} (is : WellFormed v s
   fell {before} {m} {given} {r} {s'} k f free l = fell-from (keeps-sits m k) s' f none l.swept l.counted l.whole
     where
       none : (n q : ℕ) → 0 < owns n q m.rows → given q ≡ false
-      none n q some = let x = owned-row is.whole.handles n q (subst (λ j. 0 < j) (k.owned n q) some) in free n q x.row x.live x.own
+      none n q some = at (given q) refl (owned-row is.whole.handles n q (subst (λ j. 0 < j) (k.owned n q) some))
+        where
+          at : (b : Bool) → given q ≡ b → Owned s.core n q → given q ≡ false
+          at false e x = e
+          at true e x = absurd (free x.row (among-found q s.core.rows x.row x.live) (ap given (found-number q s.core.rows x.row x.live) ∙ e) (record { 0 = n }) x.own)
 
   -- nothing changes
   pub stayed : {s' : PagerState N E} → Spares s.core s'.core → Leaves s.values s' → WellFormed v s'
@@ -145,19 +150,9 @@ module _ {N E : Type 0} {v : Values N} {s : PagerState N E} (is : WellFormed v s
 pub spares-keeps : {w m : Core} → Spares w m → Keeps w m
 spares-keeps s = record { typed = λ n. ap (λ o. if_there (λ (cell : Cell). Some cell.node_type) None o) (s.cells n); here = λ n is. sym (s.here n) ∙ is; owned = s.owned; rows = s.rows }
 
--- an own handle isn't a value's
-pub own-free : {w : Core} {me : Owner} {fits : Mode → Bool} (h : HandleNumber) (row : HandleRow) → NotValues me → Owns w me h fits row → AreFree w (λ q. q == h.0)
-own-free {w} {me} h row none owns n q x live own = at (q == h.0) refl
-  where
-    at : (b : Bool) → (q == h.0) ≡ b → (q == h.0) ≡ false
-    at false e = e
-    at true e =
-        let same : row ≡ x = same_some _ _ (sym owns.live ∙ (ap (λ p. find_row p w.rows) (sym (same-number q h.0 e)) ∙ live)) in
-        absurd (none (record { 0 = n }) (sym owns.own ∙ (ap (λ (y : HandleRow). y.owner) same ∙ own)))
-
 -- an own handle pins no more
-pub unpin-keeps : {w : Core} {me : Owner} {fits : Mode → Bool} (h : HandleNumber) (row : HandleRow) → NotValues me → Owns w me h fits row → Keeps w (with_mode w h modes.LooseUnpinned)
-unpin-keeps {w} h row none owns =
+pub unpin-keeps : {w : Core} {me : Owner} {fits : Mode → Bool} → IsWhole w → (h : HandleNumber) (row : HandleRow) → NotValues me → Owns w me h fits row → Keeps w (with_mode w h modes.LooseUnpinned)
+unpin-keeps {w} whole h row none owns =
     record {
       typed = λ n. refl;
       here = λ n is. here-by (pins n (with_mode w h modes.LooseUnpinned).rows) (pins n w.rows) (key_at w n) (fewer n) is;
@@ -173,7 +168,11 @@ unpin-keeps {w} h row none owns =
     same n q x false = refl
 
     other : (n q : ℕ) (x : HandleRow) → find_row q w.rows ≡ Some x → x.owner ≡ owner_value n → is_handle h.0 x ≡ false
-    other n q x live own = ap (λ p. p == h.0) (found-number q w.rows x live) ∙ own-free h row none owns n q x live own
+    other n q x live own = at (is_handle h.0 x) refl
+      where
+        at : (b : Bool) → is_handle h.0 x ≡ b → is_handle h.0 x ≡ false
+        at false e = e
+        at true e = absurd (own-free whole h row none owns x (among-found q w.rows x live) e (record { 0 = n }) own)
 
     less : (n : ℕ) (x : HandleRow) (b : Bool) → one (is_pin n (if b then to x else x)) ≤ one (is_pin n x)
     less n x true = none-pins (x.node.0 == n) (is_pinning x.mode)

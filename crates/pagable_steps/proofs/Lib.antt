@@ -1,5 +1,10 @@
 pub mod Spared
 pub mod SparedParts
+pub mod SparedHandles
+pub mod SparedLists
+pub mod SparedLoads
+pub mod Coming
 pub mod Staying
 pub mod Falling
 pub mod Keeping
+pub mod FallingCalls

@@ -1,6 +1,6 @@
 -- A step by which no value comes or goes leaves a pager in step.
-use Rattle.std.proofs.Common.{◌≡◌, ℕ, ◌&&◌, Bool, true, false, List, [], ap, sym, ◌∙◌}
-use Rattle.std.specs.Prelude.{Option, Some, None, is_some}
+use Rattle.std.proofs.Common.{◌≡◌, ℕ, ◌&&◌, List, ap, sym, ◌∙◌}
+use Rattle.std.specs.Prelude.{Some, None, is_some}
 use Rattle.pagable_model.specs.declared.numbers.ArcRef.{ArcRef}
 use Rattle.pagable_world.specs.declared.handles.HandleRow.{HandleRow}
 use Rattle.pagable_world.specs.Plain.{SameAt, times, if_there}

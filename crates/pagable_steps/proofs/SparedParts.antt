@@ -1,6 +1,6 @@
 -- Parts of steps by which no value comes or goes: one more handle, a handle in another mode, handles that move.
-use Rattle.std.proofs.Common.{◌≡◌, ℕ, suc, zero, ◌+◌, ◌<◌, ◌≤◌, ◌==◌, ◌&&◌, ◌||◌, Bool, true, false, List, [], ◌∷◌, ◌++◌, sum_by, map, refl, ap, sym, subst, ◌∙◌, if◌then◌else◌, arith}
-use Rattle.std.specs.Prelude.{Option, Some, None, not, nat_lt}
+use Rattle.std.proofs.Common.{◌≡◌, ℕ, suc, zero, ◌+◌, ◌≤◌, ◌==◌, ◌&&◌, ◌||◌, Bool, true, false, List, [], ◌∷◌, ◌++◌, sum_by, map, refl, ap, sym, subst, ◌∙◌, if◌then◌else◌, arith}
+use Rattle.std.specs.Prelude.{Some, not, nat_lt}
 use Rattle.std.proofs.lemmas.Bool.{and_parts}
 use Rattle.std.proofs.lemmas.Bool.Decides.{nat_tests}
 use Rattle.std.proofs.lemmas.List.Sums.{sum_by-cons, sum_by_push}
@@ -9,11 +9,10 @@ use Rattle.pagable_world.specs.declared.handles.HandleRow.{HandleRow}
 use Rattle.pagable_world.specs.declared.handles.Owner.{Owner}
 use Rattle.pagable_world.specs.declared.rows.Mode.{Mode}
 use Rattle.pagable_world.specs.Plain.{OptionalDataKey, HandleNumber, NodeNumber, SameAt, Among, changed, one, if_there, or_else}
-use Rattle.pagable_world.specs.Kinds.{find_row, is_handle, is_owner, is_owned_by, owner_value, is_pin, is_pinning, pins, is_in_memory, has_key}
+use Rattle.pagable_world.specs.Kinds.{find_row, is_handle, is_owned_by, owner_value, is_pin, is_pinning, pins, is_in_memory, has_key}
 use Rattle.pagable_world.specs.World.{Core, Cell, Alike, key_at, is_here}
-use Rattle.pagable_world.specs.Refusals.{Owns}
 use Rattle.pagable_world.specs.Calls.{row_of, with_handle, with_mode, moved}
-use Rattle.pagable_laws.proofs.Sums.{self-number, same-number, sum-le}
+use Rattle.pagable_laws.proofs.Sums.{same-number, sum-le}
 use Rattle.pagable_laws.proofs.Outlasting.{NotValues, not-owned, find-both, found-after, among-found}
 use Rattle.pagable_steps.proofs.Spared.{owns, owns_any, Spares}
 
@@ -56,7 +55,7 @@ sum-mapped f g h (x ∷ xs) each =
     let d = sum_by-cons h x xs in
     omega arith
 
-and-false : (b : Bool) → (b && false) ≡ false
+pub and-false : (b : Bool) → (b && false) ≡ false
 and-false true = refl
 and-false false = refl
 
