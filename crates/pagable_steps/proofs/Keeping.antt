@@ -1,6 +1,6 @@
 -- What a call does directly before handles go: nodes and values stay as they are, but that a node may get a key and lose a pin.
 use Rattle.std.proofs.Common.{◌≡◌, ℕ, suc, zero, ◌+◌, ◌<◌, ◌≤◌, ◌==◌, ◌&&◌, ◌||◌, Bool, true, false, List, [], ◌∷◌, refl, ap, sym, subst, ◌∙◌, inl, inr, if◌then◌else◌, arith}
-use Rattle.std.specs.Prelude.{Option, Some, None, is_some, not, nat_lt}
+use Rattle.std.specs.Prelude.{Option, Some, None, is_some, not, nat_lt, sum_by}
 use Rattle.std.proofs.lemmas.Bool.{and_parts}
 use Rattle.std.proofs.lemmas.Bool.Decides.{nat_tests}
 use Rattle.pagable_model.specs.declared.numbers.ArcRef.{ArcRef}
@@ -20,19 +20,22 @@ use Rattle.pagable_laws.proofs.Trees.{same_some}
 use Rattle.pagable_laws.proofs.Sums.{same-number, self-number, one-true, sum-le, at-most-sum, counted}
 use Rattle.pagable_laws.proofs.Goes.{found-number}
 use Rattle.pagable_laws.proofs.GoodReferences.{same-owner}
-use Rattle.pagable_laws.proofs.Outlasting.{NotValues, among-found, none-found, once, found-after}
+use Rattle.pagable_laws.proofs.Outlasting.{NotValues, Stands, among-found, none-found, once, found-after, stands-whole}
 use Rattle.pagable_steps.proofs.Spared.{owns, owns_any, Spares, spared}
 use Rattle.pagable_steps.proofs.SparedParts.{spares-alike, sum-mapped, here-by}
-use Rattle.pagable_steps.proofs.SparedLists.{own-free}
 use Rattle.pagable_steps.proofs.Staying.{owned-some}
 use Rattle.pagable_steps.proofs.Falling.{Sits, Sweeps, fell-from}
 
--- nodes stay with their types, and none comes to memory; values own the same handles, by the same rows
-pub record Keeps (w m : Core) : Type 0 where
+-- nodes stay with their types, and values own the same handles, by the same rows
+pub record OwnsAlike (w m : Core) : Type 0 where
   pub typed : (n : ℕ) → type_at m n ≡ type_at w n
-  pub here : (n : ℕ) → is_here m n ≡ true → is_here w n ≡ true
   pub owned : (n q : ℕ) → owns n q m.rows ≡ owns n q w.rows
   pub rows : (n q : ℕ) (row : HandleRow) → find_row q w.rows ≡ Some row → row.owner ≡ owner_value n → find_row q m.rows ≡ Some row
+
+-- and no node comes to memory
+pub record Keeps (w m : Core) : Type 0 where
+  pub owned : OwnsAlike w m
+  pub here : (n : ℕ) → is_here m n ≡ true → is_here w n ≡ true
 
 -- no value owns such a handle
 abbrev pub AreFree : Core → (ℕ → Bool) → Type 0
@@ -95,25 +98,32 @@ type-some w n = at (w.cells n)
     at None = refl
     at (Some cell) = refl
 
+-- where values own alike they stand again, if nodes that are in memory have one
+pub sits-on : {N : Type 0} {v : Values N} {values : ℕ → Option N} {w m : Core} → Sits v w values → OwnsAlike w m → ((n : ℕ) → is_some (m.cells n) ≡ true → is_here m n ≡ true → is_some (values n) ≡ true)
+    → Sits v m values
+sits-on {w = w} {m} sits k there =
+    record {
+      there = there;
+      typed = λ n x e. k.typed n ∙ sits.typed n x e;
+      inside = λ n x q e. sits.inside n x q e ∙ sym (k.owned n q);
+      bare = λ n e. none-owned n w.rows m.rows (k.owned n) (sits.bare n e);
+      references = λ n x r e among.
+          let old = sits.references n x r e among in
+          record { row = old.row; live = k.rows n r.handle.0 old.row old.live old.owned; at = old.at; owned = old.owned; fits = old.fits; typed = k.typed r.node.0 ∙ old.typed };
+      single = λ n p q a b. sits.single n p q (subst (λ j. 0 < j) (k.owned n q) a) (subst (λ j. 0 < j) (k.owned p q) b);
+    }
+
 module _ {N E : Type 0} {v : Values N} {s : PagerState N E} (is : WellFormed v s) where
-  -- where a node is there, it has its value if it is in memory
-  pub keeps-sits : (m : Core) → Keeps s.core m → Sits v m s.values
-  keeps-sits m k =
-      record {
-        there = λ n live here. is.valued n ∙ both _ _ (sym (type-some s.core n) ∙ (ap is_some (sym (k.typed n)) ∙ (type-some m n ∙ live))) (k.here n here);
-        typed = λ n x e. k.typed n ∙ is.typed n x e;
-        inside = λ n x q e. is.inside n x q e ∙ sym (k.owned n q);
-        bare = λ n e. none-owned n s.core.rows m.rows (k.owned n) (is.bare n e);
-        references = λ n x r e among.
-            let old = is.references n x r e among in
-            record { row = old.row; live = k.rows n r.handle.0 old.row old.live old.owned; at = old.at; owned = old.owned; fits = old.fits; typed = k.typed r.node.0 ∙ old.typed };
-        single = λ n p q a b. one-row n p q (subst (λ j. 0 < j) (k.owned n q) a) (subst (λ j. 0 < j) (k.owned p q) b);
-      }
+  pub valued-there : (n : ℕ) → is_some (s.core.cells n) ≡ true → is_here s.core n ≡ true → is_some (s.values n) ≡ true
+  valued-there n live here = is.valued n ∙ both _ _ live here
     where
       both : (a b : Bool) → a ≡ true → b ≡ true → (a && b) ≡ true
       both true b e f = f
       both false b e f = e
 
+  sits : Sits v s.core s.values
+  sits = record { there = valued-there; typed = is.typed; inside = is.inside; bare = is.bare; references = is.references; single = one-row }
+    where
       one-row : (n p q : ℕ) → 0 < owns n q s.core.rows → 0 < owns p q s.core.rows → p ≡ n
       one-row n p q a b =
           let x = owned-row is.whole.handles n q a in
@@ -121,12 +131,15 @@ module _ {N E : Type 0} {v : Values N} {s : PagerState N E} (is : WellFormed v s
           let same = same_some _ _ (sym x.live ∙ y.live) in
           one-value n p x.row.owner x.own (ap (λ (h : HandleRow). h.owner) same ∙ y.own)
 
+  keeps-sits : (m : Core) → Keeps s.core m → Sits v m s.values
+  keeps-sits m k = sits-on sits k.owned (λ n live here. valued-there n (sym (type-some s.core n) ∙ (ap is_some (sym (k.owned.typed n)) ∙ (type-some m n ∙ live))) (k.here n here))
+
   -- The handles go from a world where values stand as they stood, and none of them is a value's.
   pub fell : {before m : Core} {given : ℕ → Bool} {r : _} {s' : PagerState N E} → Keeps s.core m → Falls before m given r s'.core → AreFree s.core given → Leaves s.values s' → WellFormed v s'
   fell {before} {m} {given} {r} {s'} k f free l = fell-from (keeps-sits m k) s' f none l.swept l.counted l.whole
     where
       none : (n q : ℕ) → 0 < owns n q m.rows → given q ≡ false
-      none n q some = at (given q) refl (owned-row is.whole.handles n q (subst (λ j. 0 < j) (k.owned n q) some))
+      none n q some = at (given q) refl (owned-row is.whole.handles n q (subst (λ j. 0 < j) (k.owned.owned n q) some))
         where
           at : (b : Bool) → given q ≡ b → Owned s.core n q → given q ≡ false
           at false e x = e
@@ -147,54 +160,75 @@ module _ {N E : Type 0} {v : Values N} {s : PagerState N E} (is : WellFormed v s
 
 -- ---- what calls do directly
 
+pub spares-owned : {w m : Core} → Spares w m → OwnsAlike w m
+spares-owned s = record { typed = λ n. ap (λ o. if_there (λ (cell : Cell). Some cell.node_type) None o) (s.cells n); owned = s.owned; rows = s.rows }
+
 pub spares-keeps : {w m : Core} → Spares w m → Keeps w m
-spares-keeps s = record { typed = λ n. ap (λ o. if_there (λ (cell : Cell). Some cell.node_type) None o) (s.cells n); here = λ n is. sym (s.here n) ∙ is; owned = s.owned; rows = s.rows }
+spares-keeps s = record { owned = spares-owned s; here = λ n is. sym (s.here n) ∙ is }
+
+-- the one row of a handle that isn't a value's takes another mode
+module _ (w : Core) (h : HandleNumber) (mode : Mode) (row : HandleRow) (stands : Stands w.last.handle w.rows h.0 row) where
+  abbrev to : HandleRow → HandleRow
+  to x = record x { mode = mode }
+
+  abbrev after : HandleRow → HandleRow
+  after x = if is_handle h.0 x then to x else x
+
+  pub mode-owned : NotValues row.owner → OwnsAlike w (with_mode w h mode)
+  mode-owned none =
+      record {
+        typed = λ n. refl;
+        owned = λ n q. sum-mapped after (λ x. one (is_handle q x && is_owned_by (owner_value n) x)) (λ x. one (is_handle q x && is_owned_by (owner_value n) x)) w.rows (λ x among. same n q x (is_handle h.0 x));
+        rows = λ n q x live own. found-after (is_handle h.0) to (λ y. refl) q w.rows x live ∙ ap (λ b. Some (if b then to x else x)) (other n q x live own (is_handle h.0 x) refl);
+      }
+    where
+      same : (n q : ℕ) (x : HandleRow) (b : Bool) → one (is_handle q (if b then to x else x) && is_owned_by (owner_value n) (if b then to x else x)) ≡ one (is_handle q x && is_owned_by (owner_value n) x)
+      same n q x true = refl
+      same n q x false = refl
+
+      other : (n q : ℕ) (x : HandleRow) → find_row q w.rows ≡ Some x → x.owner ≡ owner_value n → (b : Bool) → is_handle h.0 x ≡ b → is_handle h.0 x ≡ false
+      other n q x live own false e = e
+      other n q x live own true e = absurd (none (record { 0 = n }) (sym (ap (λ (y : HandleRow). y.owner) (stands.only x (among-found q w.rows x live) (same-number _ _ e))) ∙ own))
+
+  pins-after : (n : ℕ) → pins n (with_mode w h mode).rows ≡ sum_by (λ x. one (is_pin n (after x))) w.rows
+  pins-after n = sum-mapped after (λ x. one (is_pin n x)) (λ x. one (is_pin n (after x))) w.rows (λ x among. refl)
+
+  -- other nodes are pinned as often
+  pub mode-others : (n : ℕ) → (row.node.0 == n) ≡ false → pins n (with_mode w h mode).rows ≡ pins n w.rows
+  mode-others n other = sum-mapped after (λ x. one (is_pin n x)) (λ x. one (is_pin n x)) w.rows (λ x among. at x among (is_handle h.0 x) refl)
+    where
+      at : (x : HandleRow) → Among w.rows x → (b : Bool) → is_handle h.0 x ≡ b → one (is_pin n (if b then to x else x)) ≡ one (is_pin n x)
+      at x among false e = refl
+      at x among true e = let f : (x.node.0 == n) ≡ false = ap (λ (y : HandleRow). y.node.0 == n) (stands.only x among (same-number _ _ e)) ∙ other in rw f refl
+
+  -- where the mode doesn't pin, no node is pinned more often
+  pub mode-fewer : is_pinning mode ≡ false → (n : ℕ) → pins n (with_mode w h mode).rows ≤ pins n w.rows
+  mode-fewer unpinned n =
+      let a = pins-after n in
+      let b = sum-le (λ x. one (is_pin n (after x))) (λ x. one (is_pin n x)) w.rows (λ x among. less x (is_handle h.0 x)) in
+      omega (arith, a, b)
+    where
+      none-pins : (a b : Bool) → one (a && false) ≤ one (a && b)
+      none-pins true b = omega arith
+      none-pins false b = omega arith
+
+      less : (x : HandleRow) (b : Bool) → one (is_pin n (if b then to x else x)) ≤ one (is_pin n x)
+      less x true = rw unpinned (none-pins (x.node.0 == n) (is_pinning x.mode))
+      less x false = omega arith
 
 -- an own handle pins no more
 pub unpin-keeps : {w : Core} {me : Owner} {fits : Mode → Bool} → IsWhole w → (h : HandleNumber) (row : HandleRow) → NotValues me → Owns w me h fits row → Keeps w (with_mode w h modes.LooseUnpinned)
 unpin-keeps {w} whole h row none owns =
+    let stands = stands-whole whole.handles h.0 row owns.live in
     record {
-      typed = λ n. refl;
-      here = λ n is. here-by (pins n (with_mode w h modes.LooseUnpinned).rows) (pins n w.rows) (key_at w n) (fewer n) is;
-      owned = λ n q. sum-mapped (λ x. if is_handle h.0 x then to x else x) (λ x. one (is_handle q x && is_owned_by (owner_value n) x)) (λ x. one (is_handle q x && is_owned_by (owner_value n) x)) w.rows (λ x among. same n q x (is_handle h.0 x));
-      rows = λ n q x live own. found-after (is_handle h.0) to (λ y. refl) q w.rows x live ∙ ap (λ b. Some (if b then to x else x)) (other n q x live own);
+      owned = mode-owned w h modes.LooseUnpinned row stands (subst NotValues (sym owns.own) none);
+      here = λ n is. here-by (pins n (with_mode w h modes.LooseUnpinned).rows) (pins n w.rows) (key_at w n) (mode-fewer w h modes.LooseUnpinned row stands refl n) is;
     }
-  where
-    to : HandleRow → HandleRow
-    to x = record x { mode = modes.LooseUnpinned }
-
-    same : (n q : ℕ) (x : HandleRow) (b : Bool) → one (is_handle q (if b then to x else x) && is_owned_by (owner_value n) (if b then to x else x)) ≡ one (is_handle q x && is_owned_by (owner_value n) x)
-    same n q x true = refl
-    same n q x false = refl
-
-    other : (n q : ℕ) (x : HandleRow) → find_row q w.rows ≡ Some x → x.owner ≡ owner_value n → is_handle h.0 x ≡ false
-    other n q x live own = at (is_handle h.0 x) refl
-      where
-        at : (b : Bool) → is_handle h.0 x ≡ b → is_handle h.0 x ≡ false
-        at false e = e
-        at true e = absurd (own-free whole h row none owns x (among-found q w.rows x live) e (record { 0 = n }) own)
-
-    less : (n : ℕ) (x : HandleRow) (b : Bool) → one (is_pin n (if b then to x else x)) ≤ one (is_pin n x)
-    less n x true = none-pins (x.node.0 == n) (is_pinning x.mode)
-      where
-        none-pins : (a b : Bool) → one (a && false) ≤ one (a && b)
-        none-pins true b = omega arith
-        none-pins false b = omega arith
-    less n x false = le-self (one (is_pin n x))
-      where
-        le-self : (k : ℕ) → k ≤ k
-        le-self k = omega arith
-
-    fewer : (n : ℕ) → pins n (with_mode w h modes.LooseUnpinned).rows ≤ pins n w.rows
-    fewer n =
-        let a = sum-mapped (λ x. if is_handle h.0 x then to x else x) (λ x. one (is_pin n x)) (λ x. one (is_pin n (if is_handle h.0 x then to x else x))) w.rows (λ x among. refl) in
-        let b = sum-le (λ x. one (is_pin n (if is_handle h.0 x then to x else x))) (λ x. one (is_pin n x)) w.rows (λ x among. less n x (is_handle h.0 x)) in
-        omega (arith, a, b)
 
 -- a node gets a key
 pub keyed-keeps : (w : Core) (node : NodeNumber) (key : ℕ) → Keeps w (with_key w node key)
 keyed-keeps w node key =
-    record { typed = λ n. typed-at n (n == node.0) refl; here = λ n is. here-at n (n == node.0) refl is; owned = λ n q. refl; rows = λ n q row live own. live }
+    record { owned = record { typed = λ n. typed-at n (n == node.0) refl; owned = λ n q. refl; rows = λ n q row live own. live }; here = λ n is. here-at n (n == node.0) refl is }
   where
     keyed : Option Cell → Option Cell
     keyed c = if_there (λ (cell : Cell). Some (record cell { key = optional.Some key })) None c
