@@ -20,7 +20,7 @@ mod JsonNumbers
 mod Inside
 mod Computed
 pub mod Sums
-mod Existing
+pub mod Existing
 mod Two
 mod Joining
 mod Nexts
@@ -37,7 +37,7 @@ mod ReadingStepsKinds
 mod ReadingStepsBound
 mod ReadingStepsWaiting
 mod ReadingStepsWithin
-mod ReadingStepsHanding
+pub mod ReadingStepsHanding
 mod ReadingStepsHeld
 mod ReadingStepsGive
 mod WalkSteps

@@ -217,7 +217,7 @@ stands-new last rows row few next =
 
 -- ---- a cascade
 
-found-kept : (gone : ℕ → Bool) (q : ℕ) (rows : List HandleRow) (row : HandleRow) → gone q ≡ false → find_row q rows ≡ Some row → find_row q (left_rows gone rows) ≡ Some row
+pub found-kept : (gone : ℕ → Bool) (q : ℕ) (rows : List HandleRow) (row : HandleRow) → gone q ≡ false → find_row q rows ≡ Some row → find_row q (left_rows gone rows) ≡ Some row
 found-kept gone q rows row kept found = found-by q row (λ xs. find_row q (left_rows gone xs) ≡ Some row) front (λ h hs is a. later h hs is a (gone h.number.0) refl) rows found
   where
     front : (h : HandleRow) (hs : List HandleRow) → is_handle q h ≡ true → h ≡ row → find_row q (left_rows gone (h ∷ hs)) ≡ Some row

@@ -4,3 +4,7 @@ pub mod SparedHandles
 pub mod SparedLists
 pub mod SparedLoads
 pub mod Coming
+pub mod Staying
+pub mod Falling
+pub mod Keeping
+pub mod FallingCalls

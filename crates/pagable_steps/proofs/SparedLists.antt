@@ -58,7 +58,7 @@ module _ {w : Core} (whole : IsWhole w) where
   pub own-free : {me : Owner} {fits : Mode → Bool} (h : HandleNumber) (row : HandleRow) → NotValues me → Owns w me h fits row → (x : HandleRow) → Among w.rows x → only_handle h x.number.0 ≡ true → NotValues x.owner
   own-free h row free owns x among is = subst NotValues (sym (ap (λ (y : HandleRow). y.owner) ((stands-whole whole.handles h.0 row owns.live).only x among (same-number _ _ is)) ∙ owns.own)) free
 
-  listed-free : (i : ℕ) (h : HandleNumber) → slice_get w.list i ≡ Some h → (x : HandleRow) → Among w.rows x → only_handle h x.number.0 ≡ true → NotValues x.owner
+  pub listed-free : (i : ℕ) (h : HandleNumber) → slice_get w.list i ≡ Some h → (x : HandleRow) → Among w.rows x → only_handle h x.number.0 ≡ true → NotValues x.owner
   listed-free i h at x among is n own =
       let here : one (h.0 == h.0) ≡ 1 = ap one (self-number h.0) in
       let some = above _ _ _ here (at-most-sum (λ (q : HandleNumber). one (q.0 == h.0)) w.list h (i, at)) (whole.owners_there.listed h.0) in
