@@ -2,8 +2,16 @@
 pub mod Rows
 pub mod Told
 pub mod Placed
+pub mod GoingOn
 pub mod Turned
 pub mod Comes
+pub mod Rests
+pub mod Fallen
+pub mod Moved
 pub mod HandleCalls
-pub mod LoadCalls
+pub mod FallCalls
+pub mod ListCalls
+pub mod BirthCalls
 pub mod CacheCalls
+pub mod LoadCalls
+pub mod AdoptCalls

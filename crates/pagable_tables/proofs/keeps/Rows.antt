@@ -24,21 +24,31 @@ pub among-one : {X : Type 0} (x y : X) → Among (x ∷ []) y → y ≡ x
 among-one x y (zero, is) = let e : x ≡ y = cc in sym e
 among-one x y (suc i, is) = absurd (cc)
 
+pub among-last : {X : Type 0} (xs : List X) (x : X) → Among (xs ++ x ∷ []) x
+among-last [] x = (zero, refl)
+among-last (y ∷ ys) x = let a = among-last ys x in (suc a.0, a.1)
+
 -- the element of a changed list was one before
 pub among-map : {X : Type 0} (f : X → X) (xs : List X) (x : X) → Among (map f xs) x → (y : X) × Among xs y × (x ≡ f y)
 among-map f [] x a = absurd (cc)
 among-map f (y ∷ ys) x (zero, is) = let e : f y ≡ x = cc in (y, (zero, refl), sym e)
 among-map f (y ∷ ys) x (suc i, is) = let r = among-map f ys x (i, is) in (r.0, (suc r.1.0, r.1.1), r.2)
 
-among-cond : {X : Type 0} (b : Bool) (y : X) (ys zs : List X) (x : X) → Among (if b then y ∷ ys else ys) x → ((a : Among ys x) → Among zs x) → Among (y ∷ zs) x
-among-cond true y ys zs x (zero, is) rest = (zero, is)
-among-cond true y ys zs x (suc i, is) rest = let a = rest (i, is) in (suc a.0, a.1)
-among-cond false y ys zs x a rest = let b = rest a in (suc b.0, b.1)
+among-cond : {X : Type 0} (test : X → Bool) (b : Bool) (y : X) (ys zs : List X) (x : X) → test y ≡ b → Among (if b then y ∷ ys else ys) x → (Among ys x → Among zs x × (test x ≡ true)) → Among (y ∷ zs) x × (test x ≡ true)
+among-cond test true y ys zs x so (zero, is) rest = let e : y ≡ x = cc in ((zero, is), ap test (sym e) ∙ so)
+among-cond test true y ys zs x so (suc i, is) rest = let a = rest (i, is) in ((suc a.0.0, a.0.1), a.1)
+among-cond test false y ys zs x so a rest = let b = rest a in ((suc b.0.0, b.0.1), b.1)
 
--- what is left was there, and isn't of the set
-pub among-left : {X : Type 0} (test : X → Bool) (xs : List X) (x : X) → Among (filter test xs) x → Among xs x
+-- what is left was there, and passes the test
+pub among-left : {X : Type 0} (test : X → Bool) (xs : List X) (x : X) → Among (filter test xs) x → Among xs x × (test x ≡ true)
 among-left test [] x a = absurd (cc)
-among-left test (y ∷ ys) x a = among-cond (test y) y (filter test ys) ys x a (among-left test ys x)
+among-left test (y ∷ ys) x a = among-cond test (test y) y (filter test ys) ys x refl a (among-left test ys x)
+
+-- and each that was there is there changed
+pub among-to : {X : Type 0} (f : X → X) (xs : List X) (x : X) → Among xs x → Among (map f xs) (f x)
+among-to f [] x a = let b = a.1 in absurd (cc)
+among-to f (y ∷ ys) x (zero, is) = let e : y ≡ x = cc in (zero, ap (λ z. Some (f z)) e)
+among-to f (y ∷ ys) x (suc i, is) = let r = among-to f ys x (i, is) in (suc r.0, r.1)
 
 -- ---- counted
 
@@ -79,6 +89,14 @@ sum-map f g to (x ∷ xs) h =
     let b = sum_by-cons f (to x) (map to xs) in
     let c = sum_by-cons g x xs in
     omega arith
+
+-- nothing at each element, so in sum
+pub sum-none : {X : Type 0} (f : X → ℕ) (xs : List X) → ((x : X) → Among xs x → f x ≡ 0) → sum_by f xs ≡ 0
+sum-none f xs none = at (sum_by f xs) refl
+  where
+    at : (n : ℕ) → sum_by f xs ≡ n → sum_by f xs ≡ 0
+    at zero e = e
+    at (suc n) e = let c = counted f xs (omega arith) in let a = none c.0 c.1 in let b = c.2 in absurd (omega arith)
 
 -- ---- numbers
 
@@ -146,3 +164,30 @@ found-push q (h ∷ hs) x row found = at (is_handle q h) (found-push q hs x row)
     at : (b : Bool) → (find_row q (hs ++ x ∷ []) ≡ Some row → (find_row q hs ≡ Some row) ⊎ (row ≡ x)) → (if b then Some h else find_row q (hs ++ x ∷ [])) ≡ Some row → ((if b then Some h else find_row q hs) ≡ Some row) ⊎ (row ≡ x)
     at true rest found = inl found
     at false rest found = rest found
+
+-- what is counted of one number is counted of its row
+pub only-row : (f : HandleRow → ℕ) (rows : List HandleRow) (row : HandleRow) → AllPairs IsHandleBefore rows → Among rows row → ((x : HandleRow) → (x.number.0 == row.number.0) ≡ false → f x ≡ 0) → sum_by f rows ≡ f row
+only-row f [] row ordered among none = let a = among.1 in absurd (cc)
+only-row f (x ∷ xs) row ordered (zero, is) none =
+    let e : x ≡ row = cc in
+    let n = ap (λ (y : HandleRow). y.number.0) e in
+    let a = sum_by-cons f x xs in
+    let b : f x ≡ f row = ap f e in
+    let c = sum-none f xs (λ y among. none y (above y among n)) in
+    omega arith
+  where
+    above : (y : HandleRow) → Among xs y → x.number.0 ≡ row.number.0 → (y.number.0 == row.number.0) ≡ false
+    above y (j, at) n =
+        let lt = slice_get_within xs j y at in
+        let o = ordered 0 (suc j) x (omega arith) (omega arith) in
+        let k : (get_or xs j x).number.0 ≡ y.number.0 = ap (λ (h : HandleRow). h.number.0) (get_or_from_slice_get xs j y x at) in
+        let less : x.number.0 < (get_or xs j x).number.0 = o in
+        grind (arith, nat_tests)
+only-row f (x ∷ xs) row ordered (suc i, is) none =
+    let lt = slice_get_within xs i row is in
+    let less : x.number.0 < (get_or xs i x).number.0 = ordered 0 (suc i) x (omega arith) (omega arith) in
+    let k : (get_or xs i x).number.0 ≡ row.number.0 = ap (λ (h : HandleRow). h.number.0) (get_or_from_slice_get xs i row x is) in
+    let a = sum_by-cons f x xs in
+    let b = none x (grind (arith, nat_tests)) in
+    let c = only-row f xs row (λ j k d less lt. ordered (suc j) (suc k) d (omega arith) (omega arith)) (i, is) none in
+    omega arith
