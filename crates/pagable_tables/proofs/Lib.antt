@@ -25,3 +25,5 @@ mod Begun
 mod Shedding
 mod keeps
 mod Fewer
+mod Pins
+mod Offers
