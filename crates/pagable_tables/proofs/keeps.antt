@@ -15,3 +15,4 @@ pub mod BirthCalls
 pub mod CacheCalls
 pub mod LoadCalls
 pub mod AdoptCalls
+pub mod EndCalls

@@ -1,5 +1,5 @@
 -- Calls by which a load goes on keep the world whole.
-use Rattle.std.proofs.Common.{◌≡◌, ℕ, ◌+◌, ◌<◌, ◌==◌, ◌%◌, Bool, true, false, if◌then◌else◌, List, [], Ok, Err, Option, Some, None, inl, inr, refl, ap, sym, subst, ◌∙◌, arith}
+use Rattle.std.proofs.Common.{◌≡◌, ℕ, ◌+◌, ◌<◌, ◌==◌, ◌%◌, Bool, true, false, if◌then◌else◌, List, [], Ok, Err, Some, None, inl, inr, refl, ap, sym, ◌∙◌, arith}
 use Rattle.std.specs.Prelude.{Result, is_some}
 use Rattle.std.proofs.lemmas.Bool.Decides.{nat_tests}
 use Rattle.pagable_model.specs.declared.data_key.OptionalDataKey.{OptionalDataKey}
@@ -11,12 +11,11 @@ use Rattle.pagable_model.specs.declared.numbers.Kind.{Kind}
 use Rattle.pagable_model.specs.declared.numbers.LoadNumber.{LoadNumber}
 use Rattle.pagable_world.specs.declared.calls.Want.{Want}
 use Rattle.pagable_world.specs.declared.calls.Want.TheVariants as wants
-use Rattle.pagable_world.specs.declared.handles.HandleRow.{HandleRow}
 use Rattle.pagable_world.specs.declared.handles.Owner.{Owner}
 use Rattle.pagable_world.specs.declared.handles.Owner.TheVariants as owners
-use Rattle.pagable_world.specs.Plain.{Blob, type_of, is_shared_kind, is_loose_kind, is_pinned_kind}
+use Rattle.pagable_world.specs.Plain.{Blob, type_of, is_loose_kind}
 use Rattle.pagable_world.specs.Kinds.{is_shared, mode_of, has_key}
-use Rattle.pagable_world.specs.World.{Core, greatest, usable}
+use Rattle.pagable_world.specs.World.{Core, greatest}
 use Rattle.pagable_world.specs.Refusals.{references_fault, OwnsLoad}
 use Rattle.pagable_world.specs.Calls.{row_of, next_node, with_cached, FetchCall, is_named_by}
 use Rattle.pagable_world.specs.LoadCalls.{AskCall, Given, from_cache, from_store, GetsKnown, adopted, first_key, LazyCall, AdoptCall}
@@ -24,9 +23,9 @@ use Rattle.pagable_world.specs.Pager.{IsWhole, IsEntryWhole}
 use Rattle.pagable_tables.specs.Core.{ArePlaced, MayHold}
 use Rattle.pagable_tables.proofs.keeps.Rows.{among-last}
 use Rattle.pagable_tables.proofs.keeps.Told.{roomy, settles, told-whole, alike-whole}
-use Rattle.pagable_tables.proofs.keeps.Comes.{type_in}
+use Rattle.pagable_tables.proofs.keeps.Comes.{type_in, handle-on}
 use Rattle.pagable_tables.proofs.keeps.Fallen.{may-fall, falls-whole}
-use Rattle.pagable_tables.proofs.keeps.CacheCalls.{mode-shared, known-whole, known-on, cached-whole, shared-alike}
+use Rattle.pagable_tables.proofs.keeps.CacheCalls.{mode-shared, known-whole, cached-whole, shared-alike}
 use Rattle.pagable_tables.proofs.keeps.BirthCalls.{born, born-whole, cell-new, no-references, moved-world}
 
 -- an open load may hold
@@ -44,8 +43,8 @@ ask-whole me l wants.Root (Ok (from_store blob)) whole call placed = let (load, 
 ask-whole me l wants.Root (Ok (from_cache k)) whole call placed = absurd call.gives.2
 ask-whole me l (wants.Nested kind key) (Ok (from_cache k)) whole call placed = let (load, owns, asks) = call.gives in gets-whole l kind key k whole (load-holds load owns) asks placed
 ask-whole me l (wants.Nested kind key) (Ok (from_store blob)) whole call placed = let (load, owns, asks) = call.gives in fetch-whole key (Ok blob) whole asks.1 placed
-ask-whole me l wants.Root (Err e) whole call placed = elim call.refused [ | inl refused ↦ alike-whole whole refused.stays placed | inr (load, owns, asks) ↦ fetch-whole load.key (Err e) whole asks placed ]
-ask-whole me l (wants.Nested kind key) (Err e) whole call placed = elim call.refused [ | inl refused ↦ alike-whole whole refused.stays placed | inr (load, owns, asks) ↦ fetch-whole key (Err e) whole asks.1 placed ]
+ask-whole me l wants.Root (Err e) whole call placed = elim call.refused [ inl refused ↦ alike-whole whole refused.stays placed | inr (load, owns, asks) ↦ fetch-whole load.key (Err e) whole asks placed ]
+ask-whole me l (wants.Nested kind key) (Err e) whole call placed = elim call.refused [ inl refused ↦ alike-whole whole refused.stays placed | inr (load, owns, asks) ↦ fetch-whole key (Err e) whole asks.1 placed ]
 
 -- ---- a node that was read
 
@@ -91,11 +90,11 @@ shared-keyless kind key shared =
     ap (λ t. has_key (if t then optional.Some key else optional.None)) c
 
 pub adopt-whole : {N : Type 0} {w w' : Core} (me : Owner) (l : LoadNumber) (kind : Kind) (key : ℕ) (x : N) (node_type : ℕ) (refs : List ArcRef) (r : Result HandleNumber (Error × N)) → IsWhole w → AdoptCall w me l kind key x node_type refs r w' → ArePlaced w' → IsWhole w'
-adopt-whole me l kind key x node_type refs (Ok k) whole call placed =
+adopt-whole {N} {w} me l kind key x node_type refs (Ok k) whole call placed =
     let a = call.adopts in
     elim a.makes [
       | inl (n, is, falls) ↦
-          falls-whole (may-fall (is_named_by refs) whole (known-whole kind key n (owners.Load l) whole is (load-holds a.load a.owned) a.next.is_left) (known-on kind key n (owners.Load l) whole is)) falls.falls placed
+          falls-whole (may-fall (is_named_by refs) whole (known-whole kind key n (owners.Load l) whole is (load-holds a.load a.owned) a.next.is_left) (handle-on w (record { 0 = n }) (mode_of kind.0) (owners.Load l))) falls.falls placed
       | inr (none, node_left, leaves) ↦
           settles (adopted-whole whole l kind key (first_key kind.0 key) refs (load-holds a.load a.owned) a.good node_left a.next.is_left (shared-keyless kind.0 key)) leaves placed
     ]

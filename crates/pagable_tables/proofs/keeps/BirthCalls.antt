@@ -1,5 +1,5 @@
 -- Calls by which a node comes, with a handle, keep the world whole.
-use Rattle.std.proofs.Common.{◌≡◌, ℕ, suc, zero, ◌+◌, ◌<◌, ◌≤◌, ◌==◌, ◌||◌, Bool, true, false, not, if◌then◌else◌, List, [], ◌∷◌, ◌++◌, Ok, Err, Option, Some, None, inl, inr, refl, ap, sym, subst, ◌∙◌, arith}
+use Rattle.std.proofs.Common.{◌≡◌, ℕ, suc, zero, ◌+◌, ◌<◌, ◌==◌, ◌||◌, Bool, true, false, not, if◌then◌else◌, List, [], ◌∷◌, Ok, Err, Option, Some, None, inl, inr, refl, ap, sym, subst, ◌∙◌, arith}
 use Rattle.std.specs.Prelude.{◌⊎◌, ◌≢◌, Result, is_some, nat_lt}
 use Rattle.std.proofs.lemmas.Bool.Decides.{nat_tests}
 use Rattle.pagable_model.specs.declared.data_key.OptionalDataKey.{OptionalDataKey}
@@ -18,12 +18,12 @@ use Rattle.pagable_world.specs.Kinds.{held, sharing, is_shared, is_owner, is_own
 use Rattle.pagable_world.specs.World.{Core, Cell, greatest, row_at, type_at}
 use Rattle.pagable_world.specs.Refusals.{references_fault, reference_fault, row_fault, refused_if, is_type}
 use Rattle.pagable_world.specs.Calls.{row_of, moved, is_named_by, with_handle, with_node, next_node, BirthCall, AwayBirthCall}
-use Rattle.pagable_world.specs.Pager.{IsWhole, IsEntryWhole}
+use Rattle.pagable_world.specs.Pager.{IsWhole}
 use Rattle.pagable_tables.specs.Core.{ArePlaced, MayHold}
 use Rattle.pagable_tables.proofs.Worlds.{owner-same}
 use Rattle.pagable_tables.proofs.keeps.Rows.{found-among, once}
 use Rattle.pagable_tables.proofs.keeps.Told.{roomy, settles, alike-whole}
-use Rattle.pagable_tables.proofs.keeps.Comes.{grown-whole, keyed_in, type_in, not-list}
+use Rattle.pagable_tables.proofs.keeps.Comes.{grown-whole, keyed_in, not-list}
 use Rattle.pagable_tables.proofs.keeps.Moved.{moved-to-value}
 
 -- ---- references that are good
@@ -99,7 +99,7 @@ module _ {w : Core} (whole : IsWhole w) (node_type : ℕ) (key : OptionalDataKey
           absurd (omega arith)
 
   none-shared : sharing (w.last.node + 1) moved-world.rows ≡ 0
-  none-shared = elim (moved-whole.handles.uniform (w.last.node + 1)) [ | inl none ↦ none | inr all ↦ all ∙ none-held ]
+  none-shared = elim (moved-whole.handles.uniform (w.last.node + 1)) [ inl none ↦ none | inr all ↦ all ∙ none-held ]
 
   abbrev cells : ℕ → Option Cell
   cells = updated (w.last.node + 1) (Some (record { node_type = node_type; key = key })) w.cells

@@ -1,5 +1,5 @@
 -- Calls on the cache and on room keep the world whole.
-use Rattle.std.proofs.Common.{◌≡◌, ℕ, ◌<◌, ◌≤◌, ◌==◌, ◌&&◌, ◌%◌, Bool, true, false, not, if◌then◌else◌, Ok, Err, Option, Some, None, inl, inr, refl, ap, sym, subst, ◌∙◌, arith}
+use Rattle.std.proofs.Common.{◌≡◌, ℕ, ◌<◌, ◌==◌, ◌&&◌, ◌%◌, Bool, true, false, not, if◌then◌else◌, Ok, Err, Option, Some, None, inl, inr, refl, ap, sym, subst, ◌∙◌, arith}
 use Rattle.std.specs.Prelude.{Result, is_some, nat_lt}
 use Rattle.std.proofs.lemmas.Bool.Decides.{nat_tests}
 use Rattle.pagable_model.specs.declared.error.Error.{Error}
@@ -19,8 +19,7 @@ use Rattle.pagable_world.specs.Pager.{IsWhole, IsEntryWhole}
 use Rattle.pagable_tables.specs.Core.{ArePlaced, MayHold, Suits}
 use Rattle.pagable_tables.proofs.keeps.Rows.{at-most-sum, counted, found-among}
 use Rattle.pagable_tables.proofs.keeps.Told.{roomy, roomy-whole, settles, told-whole, alike-whole, may-own}
-use Rattle.pagable_tables.proofs.keeps.GoingOn.{GoesOn}
-use Rattle.pagable_tables.proofs.keeps.Comes.{type_in, beside, beside-on, unshared-node}
+use Rattle.pagable_tables.proofs.keeps.Comes.{type_in, beside, handle-on, unshared-node}
 use Rattle.pagable_tables.proofs.keeps.Fallen.{may-fall, falls-whole}
 
 pub clear-whole : {w w' : Core} (r : Result (Unit {0}) Error) → IsWhole w → ClearCall w r w' → ArePlaced w' → IsWhole w'
@@ -80,9 +79,6 @@ known-suits {w} whole kind key n is =
 
 pub known-whole : {w : Core} (kind : Kind) (key n : ℕ) (owner : Owner) → IsWhole w → usable w kind.0 key ≡ Some n → MayHold w owner → w.last.handle < greatest → IsWhole (roomy (with_known w kind n owner))
 known-whole kind key n owner whole is holder left = beside whole (record { 0 = n }) (mode_of kind.0) (known-suits whole kind.0 key n is) owner holder left
-
-pub known-on : {w : Core} (kind : Kind) (key n : ℕ) (owner : Owner) → IsWhole w → usable w kind.0 key ≡ Some n → GoesOn w (with_known w kind n owner)
-known-on kind key n owner whole is = beside-on whole (record { 0 = n }) (mode_of kind.0) (known-suits whole kind.0 key n is) owner
 
 pub recall-whole : {w w' : Core} (me : Owner) (kind : Kind) (key : ℕ) (r : Result (Option HandleNumber) Error) → IsWhole w → MayHold w me → RecallCall w me kind key r w' → ArePlaced w' → IsWhole w'
 recall-whole me kind key (Ok (Some k)) whole holder call placed = let (n, is, next, leaves) = call.answers in settles (known-whole kind key n me whole is holder next.is_left) leaves placed
@@ -147,6 +143,6 @@ offer-whole {w} me kind key h (Ok None) whole holder call placed =
     some-typed None is = absurd (cc)
 offer-whole {w} me kind key h (Ok (Some k)) whole holder call placed = elim call.answers.3 [
   | inl (closed, same, stays) ↦ alike-whole whole stays placed
-  | inr (stands_open, (n, is, next, falls)) ↦ falls-whole (may-fall (only_handle h) whole (known-whole kind key n me whole is holder next.is_left) (known-on kind key n me whole is)) falls.falls placed
+  | inr (stands_open, (n, is, next, falls)) ↦ falls-whole (may-fall (only_handle h) whole (known-whole kind key n me whole is holder next.is_left) (handle-on w (record { 0 = n }) (mode_of kind.0) me)) falls.falls placed
 ]
 offer-whole me kind key h (Err e) whole holder call placed = alike-whole whole call.refused.stays placed

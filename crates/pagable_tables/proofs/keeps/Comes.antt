@@ -1,21 +1,20 @@
 -- A handle comes, under the next number.
-use Rattle.std.proofs.Common.{◌≡◌, ℕ, ◌≤◌, ◌<◌, ◌+◌, ◌==◌, ◌&&◌, Bool, true, false, if◌then◌else◌, List, [], ◌∷◌, ◌++◌, length, Option, Some, None, inl, inr, refl, ap, sym, subst, ◌∙◌, arith, sum_by}
+use Rattle.std.proofs.Common.{◌≡◌, ℕ, ◌≤◌, ◌<◌, ◌+◌, ◌==◌, ◌&&◌, Bool, true, false, [], ◌∷◌, ◌++◌, Option, Some, None, inl, inr, refl, ap, sym, subst, ◌∙◌, arith}
 use Rattle.std.specs.Prelude.{◌⊎◌, ◌≢◌, is_some, nat_lt}
 use Rattle.std.proofs.lemmas.Bool.{cases_eq}
 use Rattle.std.proofs.lemmas.Bool.Decides.{nat_tests}
 use Rattle.std.proofs.lemmas.List.Sums.{sum_by_push}
 use Rattle.pagable_model.specs.declared.data_key.OptionalDataKey.TheVariants as optional
 use Rattle.pagable_model.specs.declared.numbers.HandleNumber.{HandleNumber}
-use Rattle.pagable_model.specs.declared.numbers.LoadNumber.{LoadNumber}
 use Rattle.pagable_model.specs.declared.numbers.NodeNumber.{NodeNumber}
 use Rattle.pagable_world.specs.declared.handles.HandleRow.{HandleRow}
 use Rattle.pagable_world.specs.declared.handles.Owner.{Owner}
 use Rattle.pagable_world.specs.declared.handles.Owner.TheVariants as owners
 use Rattle.pagable_world.specs.declared.rows.Mode.{Mode}
-use Rattle.pagable_world.specs.Plain.{one, Among, times, if_there, is_shared_kind}
-use Rattle.pagable_world.specs.Kinds.{held, sharing, is_at, is_share, is_shared, is_handle, is_owner, is_owned_by, find_row, has_key}
-use Rattle.pagable_world.specs.World.{Core, Cell, greatest, row_at, type_at}
-use Rattle.pagable_world.specs.Calls.{with_handle, row_of, IsNext}
+use Rattle.pagable_world.specs.Plain.{one, Among, if_there, is_shared_kind}
+use Rattle.pagable_world.specs.Kinds.{held, sharing, is_at, is_share, is_shared, is_handle, is_owner, is_owned_by, has_key}
+use Rattle.pagable_world.specs.World.{Core, Cell, greatest}
+use Rattle.pagable_world.specs.Calls.{with_handle, row_of}
 use Rattle.pagable_world.specs.Pager.{OwnersAreThere, IsRootWhole, IsEntryWhole, IsWhole}
 use Rattle.pagable_tables.specs.Falling.{is_valued}
 use Rattle.pagable_tables.specs.Core.{MayHold, Suits}
@@ -243,17 +242,18 @@ module _ {w : Core} (whole : IsWhole w) (node : NodeNumber) (mode : Mode) (suits
       grown-whole whole (row_of (w.last.handle + 1) node mode owner) w.cells w.last.node refl left (omega arith) (whole.handles.within.1) suits-there (λ n other. refl) (whole.handles.nodes_numbered node.0 suits-there) (λ t is. inl is)
       (suits-uniform (is_shared mode) refl) (λ kind e. sym suits.shared ∙ e.shares suits.row suits.there (ap (λ (k : NodeNumber). k.0) suits.at)) holder
 
-  pub beside-on : (owner : Owner) → GoesOn w (with_handle w node mode owner)
-  beside-on owner =
-      record {
-        cells = λ n is. is;
-        rows = λ n.
-            let x = row_of (w.last.handle + 1) node mode owner in
-            let a = sum_by_push (λ h. one (is_at n h)) w.rows x in
-            let b = sum_by_push (λ h. one (is_share n h)) w.rows x in
-            let c = share-le (node.0 == n) (is_shared mode) in
-            omega arith;
-      }
+-- no node has fewer handles by one that comes
+pub handle-on : (w : Core) (node : NodeNumber) (mode : Mode) (owner : Owner) → GoesOn w (with_handle w node mode owner)
+handle-on w node mode owner =
+    record {
+      cells = λ n is. is;
+      rows = λ n.
+          let x = row_of (w.last.handle + 1) node mode owner in
+          let a = sum_by_push (λ h. one (is_at n h)) w.rows x in
+          let b = sum_by_push (λ h. one (is_share n h)) w.rows x in
+          let c = share-le (node.0 == n) (is_shared mode) in
+          omega arith;
+    }
 
 -- a node with a handle that isn't Shared has none that is
 pub unshared-node : {w : Core} → IsWhole w → (row : HandleRow) → Among w.rows row → is_shared row.mode ≡ false → sharing row.node.0 w.rows ≡ 0

@@ -1,5 +1,5 @@
 -- What a call makes directly leaves nodes there, and those that aren't shared unshared.
-use Rattle.std.proofs.Common.{◌≡◌, ℕ, suc, zero, ◌+◌, ◌<◌, ◌≤◌, true, List, refl, ap, sym, ◌∙◌, inl, inr, arith}
+use Rattle.std.proofs.Common.{◌≡◌, ℕ, ◌+◌, ◌<◌, ◌≤◌, true, ◌∙◌, inl, inr, arith}
 use Rattle.std.specs.Prelude.{is_some, nat_lt}
 use Rattle.std.proofs.lemmas.Bool.Decides.{nat_tests}
 use Rattle.pagable_world.specs.Kinds.{held, pins, sharing}
@@ -29,4 +29,4 @@ on-listing {before} {u} whole after on n pinned unshared =
     let a = pins-le-held n before.rows in
     let b : nat_lt 0 (held n before.rows) ≡ true = grind (arith, nat_tests) in
     let c = on.rows n in
-    (on.cells n (whole.handles.live n ∙ b), elim (after.uniform n) [ | inl none ↦ none | inr all ↦ absurd (omega arith) ])
+    (on.cells n (whole.handles.live n ∙ b), elim (after.uniform n) [ inl none ↦ none | inr all ↦ absurd (omega arith) ])

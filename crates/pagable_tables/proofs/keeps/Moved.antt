@@ -1,7 +1,6 @@
 -- Handles move to another owner.
-use Rattle.std.proofs.Common.{◌≡◌, ℕ, ◌+◌, ◌==◌, ◌&&◌, Bool, true, false, if◌then◌else◌, List, [], refl, ap, sym, subst, ◌∙◌, arith}
+use Rattle.std.proofs.Common.{◌≡◌, ℕ, ◌==◌, ◌&&◌, Bool, true, false, if◌then◌else◌, List, [], refl, ap, sym, subst, ◌∙◌}
 use Rattle.std.specs.Prelude.{is_some}
-use Rattle.std.proofs.lemmas.Bool.Decides.{nat_tests}
 use Rattle.pagable_model.specs.declared.numbers.HandleNumber.{HandleNumber}
 use Rattle.pagable_model.specs.declared.numbers.LoadNumber.{LoadNumber}
 use Rattle.pagable_world.specs.declared.handles.HandleRow.{HandleRow}
@@ -12,7 +11,7 @@ use Rattle.pagable_world.specs.Plain.{one, Among, times}
 use Rattle.pagable_world.specs.Kinds.{is_shared, is_loose, is_handle, is_owner, is_owned_by, owner_value}
 use Rattle.pagable_world.specs.World.{Core}
 use Rattle.pagable_world.specs.Calls.{moved}
-use Rattle.pagable_world.specs.Pager.{OwnersAreThere, IsWhole}
+use Rattle.pagable_world.specs.Pager.{IsWhole}
 use Rattle.pagable_tables.specs.Core.{MayHold}
 use Rattle.pagable_tables.proofs.keeps.Rows.{among-map, sum-map}
 use Rattle.pagable_tables.proofs.keeps.Told.{roomy}

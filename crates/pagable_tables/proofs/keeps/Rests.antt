@@ -1,6 +1,6 @@
 -- What is left of rows and list as handles go, and the entries that come.
-use Rattle.std.proofs.Common.{◌≡◌, ℕ, suc, zero, ◌+◌, ◌<◌, ◌≤◌, ◌==◌, ◌&&◌, Bool, true, false, not, List, [], ◌∷◌, ◌++◌, length, sum_by, filter, if◌then◌else◌, Option, Some, None, get_or, inl, inr, refl, ap, sym, subst, ◌∙◌, arith}
-use Rattle.std.specs.Prelude.{◌⊎◌, map}
+use Rattle.std.proofs.Common.{◌≡◌, ℕ, suc, zero, ◌+◌, ◌<◌, ◌≤◌, ◌==◌, ◌&&◌, Bool, true, false, not, List, [], ◌∷◌, ◌++◌, length, filter, if◌then◌else◌, Option, Some, None, inl, inr, refl, ap, sym, subst, ◌∙◌, arith}
+use Rattle.std.specs.Prelude.{map}
 use Rattle.std.specs.List.{AllPairs}
 use Rattle.std.proofs.lemmas.Bool.Decides.{nat_tests}
 use Rattle.std.proofs.lemmas.List.{append_assoc}
@@ -12,10 +12,10 @@ use Rattle.pagable_world.specs.declared.handles.Owner.TheVariants as owners
 use Rattle.pagable_world.specs.declared.rows.Mode.TheVariants as modes
 use Rattle.pagable_world.specs.Plain.{one, Among, times}
 use Rattle.pagable_world.specs.Kinds.{find_row, is_handle, is_owned_by}
-use Rattle.pagable_world.specs.Cascade.{AreNewEntries, left_rows, IsWithin}
+use Rattle.pagable_world.specs.Cascade.{AreNewEntries, IsWithin}
 use Rattle.pagable_world.specs.Pager.{IsHandleBefore}
 use Rattle.pagable_tables.proofs.Alive.{none-found}
-use Rattle.pagable_tables.proofs.keeps.Rows.{among-both, among-one, at-most-sum, counted, found-among, once, ordered-push}
+use Rattle.pagable_tables.proofs.keeps.Rows.{among-both, among-one, at-most-sum, found-among, once, ordered-push}
 
 -- a row that stands there is found
 pub found-so : (q : ℕ) (rows : List HandleRow) (row : HandleRow) → AllPairs IsHandleBefore rows → Among rows row → row.number.0 ≡ q → find_row q rows ≡ Some row
@@ -126,6 +126,6 @@ ordered-entries last rows (x ∷ xs) few new ordered =
     let n = new.0 in
     subst (λ r. AllPairs IsHandleBefore r) (append_assoc rows (x ∷ []) xs)
     (ordered-entries (last + 1) (rows ++ x ∷ []) xs
-    (λ h among. elim (among-both rows (x ∷ []) h among) [ | inl old ↦ let a = few h old in omega arith | inr new-one ↦ let a = among-one x h new-one in let b = ap (λ (y : HandleRow). y.number.0) a in omega arith ])
+    (λ h among. elim (among-both rows (x ∷ []) h among) [ inl old ↦ let a = few h old in omega arith | inr new-one ↦ let a = among-one x h new-one in let b = ap (λ (y : HandleRow). y.number.0) a in omega arith ])
     new.3
     (ordered-push rows x (λ h among. let a = few h among in omega arith) ordered))

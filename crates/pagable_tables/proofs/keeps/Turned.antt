@@ -1,21 +1,18 @@
 -- Rows that change, each under its own number and of its own node.
-use Rattle.std.proofs.Common.{◌≡◌, ℕ, ◌≤◌, ◌+◌, ◌==◌, ◌&&◌, Bool, true, false, if◌then◌else◌, List, [], length, Option, Some, None, refl, ap, sym, subst, ◌∙◌, arith, sum_by}
+use Rattle.std.proofs.Common.{◌≡◌, ℕ, ◌==◌, ◌&&◌, Bool, true, false, if◌then◌else◌, List, [], Some, refl, ap, sym, subst, ◌∙◌, arith}
 use Rattle.std.specs.Prelude.{◌⊎◌, is_some, nat_lt, map}
 use Rattle.std.proofs.lemmas.Bool.Decides.{nat_tests}
 use Rattle.pagable_model.specs.declared.numbers.HandleNumber.{HandleNumber}
-use Rattle.pagable_model.specs.declared.numbers.LoadNumber.{LoadNumber}
 use Rattle.pagable_model.specs.declared.numbers.NodeNumber.{NodeNumber}
 use Rattle.pagable_world.specs.declared.handles.HandleRow.{HandleRow}
-use Rattle.pagable_world.specs.declared.handles.Owner.{Owner}
 use Rattle.pagable_world.specs.declared.handles.Owner.TheVariants as owners
 use Rattle.pagable_world.specs.declared.rows.Mode.{Mode}
 use Rattle.pagable_world.specs.declared.rows.Mode.TheVariants as modes
-use Rattle.pagable_world.specs.Plain.{one, Among, times}
-use Rattle.pagable_world.specs.Kinds.{held, sharing, is_at, is_share, is_shared, is_loose, is_handle, is_owner, is_owned_by, find_row}
+use Rattle.pagable_world.specs.Plain.{one, Among}
+use Rattle.pagable_world.specs.Kinds.{held, sharing, is_at, is_share, is_shared, is_loose, is_handle, is_owned_by}
 use Rattle.pagable_world.specs.World.{Core, row_at}
-use Rattle.pagable_world.specs.Calls.{with_mode, moved}
+use Rattle.pagable_world.specs.Calls.{with_mode}
 use Rattle.pagable_world.specs.Pager.{OwnersAreThere, IsRootWhole, IsEntryWhole, IsWhole}
-use Rattle.pagable_tables.specs.Core.{MayHold}
 use Rattle.pagable_tables.proofs.keeps.Rows.{among-map, among-to, sum-map, found-among, found-map, once, ordered-map}
 use Rattle.pagable_tables.proofs.keeps.Told.{roomy, may-own}
 use Rattle.pagable_tables.proofs.keeps.GoingOn.{GoesOn, changed-on}
