@@ -2,3 +2,5 @@ pub mod Keeping
 pub mod Ending
 pub mod Kept
 pub mod Sweeping
+pub mod Spared
+pub mod Stored

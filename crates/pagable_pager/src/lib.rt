@@ -3,6 +3,7 @@
 #![tactic(auto)]
 
 pub mod pagable_arc;
+pub mod pager;
 
 pub use pagable_arc::pager::{Pager, Want};
 pub use pagable_world::{Beginning, Mode, Owner, Pinning};

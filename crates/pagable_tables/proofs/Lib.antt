@@ -4,7 +4,7 @@ mod Fitting
 mod Leaving
 mod Left
 mod Standing
-mod Worlds
+pub mod Worlds
 mod Coming
 mod Beginning
 mod Ended
@@ -23,7 +23,7 @@ mod Going
 mod Next
 mod Begun
 mod Shedding
-mod keeps
+pub mod keeps
 mod Fewer
 mod Pins
 mod Offers
