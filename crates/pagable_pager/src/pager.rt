@@ -6,6 +6,7 @@ ghost use Rattle.pagable_world.specs.Pager.{IsNew, ValueCall, WellFormed};
 ghost use Rattle.pagable_pager.specs.View.{state_in, telling, spelling, values_of};
 
 pub mod handles;
+pub mod known;
 pub mod loads;
 pub mod places;
 pub mod stores;

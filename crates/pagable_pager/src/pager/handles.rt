@@ -2,14 +2,15 @@
 
 ghost use Rattle.std.specs.Prelude.{◌≡◌};
 ghost use Rattle.pagable_world.specs.declared.handles.Owner.TheVariants as owners;
-ghost use Rattle.pagable_world.specs.Calls.{CloneCall, LoosenCall, CountCall, KeyCall, AwayCall, NodeCall, TypeCall};
+ghost use Rattle.pagable_world.specs.Calls.{CloneCall, PinCall, LoosenCall, CountCall, KeyCall, AwayCall, NodeCall, TypeCall};
 ghost use Rattle.pagable_pager.specs.View.{core_in, telling, OnlyTables};
 
 use crate::pager::Pager;
 use pagable_codec::{Env, NodeSet};
 use pagable_core::PagableStorage;
 use pagable_model::{Error, HandleNumber, NodeNumber, OptionalDataKey};
-use pagable_tables::{lookups, making, turning};
+use pagable_tables::{lookups, making, pinning, turning};
+use pagable_world::Pinning;
 use pagable_world::handles::Owner;
 
 impl<E: Env, S: PagableStorage<E>> Pager<E, S>
@@ -32,6 +33,15 @@ where
         ensures only { OnlyTables self.old self.new }
     {
         turning::into_pagable(&mut self.tables, Owner::Caller, handle)
+    }
+
+    /// A loose handle becomes pinned, and a new Pinned handle is answered; or the key under which the value has to be loaded first, where it isn't in memory,
+    /// and then nothing changes. Refused with NoSuchHandle, NotYours, WrongMode where the handle isn't loose, NumbersSpent and OutOfMemory.
+    pub fn pin(&mut self, handle: HandleNumber) -> Result<Pinning, Error>
+        ensures step { PinCall (core_in (telling S.stored S.is_closed S.failed) self.old) owners.Caller handle result (core_in (telling S.stored S.is_closed S.failed) self.new) }
+        ensures only { OnlyTables self.old self.new }
+    {
+        pinning::pin(&mut self.tables, Owner::Caller, handle)
     }
 
     /// How many handles pin the node. Refused with NoSuchHandle.
