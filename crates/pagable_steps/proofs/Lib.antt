@@ -4,3 +4,7 @@ pub mod SparedHandles
 pub mod SparedLists
 pub mod SparedLoads
 pub mod Coming
+pub mod Naming
+pub mod Born
+pub mod Births
+pub mod BirthCalls
