@@ -55,7 +55,8 @@ module _ {w : Core} (whole : IsWhole w) where
   -- ---- the list
 
   -- the rows with the number of an own handle, or of an entry of the list, are no value's
-  pub own-free : {me : Owner} {fits : Mode → Bool} (h : HandleNumber) (row : HandleRow) → NotValues me → Owns w me h fits row → (x : HandleRow) → Among w.rows x → only_handle h x.number.0 ≡ true → NotValues x.owner
+  pub own-free : {me : Owner} {fits : Mode → Bool} (h : HandleNumber) (row : HandleRow) → NotValues me → Owns w me h fits row
+      → (x : HandleRow) → Among w.rows x → only_handle h x.number.0 ≡ true → NotValues x.owner
   own-free h row free owns x among is = subst NotValues (sym (ap (λ (y : HandleRow). y.owner) ((stands-whole whole.handles h.0 row owns.live).only x among (same-number _ _ is)) ∙ owns.own)) free
 
   listed-free : (i : ℕ) (h : HandleNumber) → slice_get w.list i ≡ Some h → (x : HandleRow) → Among w.rows x → only_handle h x.number.0 ≡ true → NotValues x.owner
@@ -126,7 +127,8 @@ module _ {w : Core} (whole : IsWhole w) where
       third : (kind % 3 == 0) ≡ false → (kind % 3 == 1) ≡ false → (kind % 3 == 2) ≡ true
       third a b = grind (arith, nat_tests)
 
-      by : (a : Bool) → is_shared_kind kind ≡ a → (b : Bool) → is_loose_kind kind ≡ b → is_pinning (if a then modes.Shared else if b then modes.LooseUnpinned else modes.Pinned) ≡ true → is_here w n ≡ true
+      by : (a : Bool) → is_shared_kind kind ≡ a → (b : Bool) → is_loose_kind kind ≡ b
+          → is_pinning (if a then modes.Shared else if b then modes.LooseUnpinned else modes.Pinned) ≡ true → is_here w n ≡ true
       by true e b f pinning = shared e
       by false e true f pinning = absurd (cc)
       by false e false f pinning = pinned (third e f)
@@ -141,7 +143,8 @@ module _ {w : Core} (whole : IsWhole w) where
   recalls free (Err e) c = spares-alike c.refused.stays
 
   -- an offer by which no handle is given up: the cache learns the node, or the offered handle is answered itself
-  pub offers : {w' : Core} {me : Owner} {kind : Kind} {key : ℕ} {h : HandleNumber} (r : Result (Option HandleNumber) Error) → ((k : HandleNumber) → r ≡ Ok (Some k) → k ≡ h) → OfferCall w me kind key h r w' → Spares w w'
+  pub offers : {w' : Core} {me : Owner} {kind : Kind} {key : ℕ} {h : HandleNumber} (r : Result (Option HandleNumber) Error)
+      → ((k : HandleNumber) → r ≡ Ok (Some k) → k ≡ h) → OfferCall w me kind key h r w' → Spares w w'
   offers (Ok None) back c = let a = c.answers.3.2 in spares-same a.rows a.cells
   offers {h = h} (Ok (Some k)) back c = elim c.answers.3 [
     | inl (closed, same, a) ↦ spares-alike a
