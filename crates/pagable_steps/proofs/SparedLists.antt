@@ -9,13 +9,13 @@ use Rattle.pagable_world.specs.declared.handles.Owner.{Owner}
 use Rattle.pagable_world.specs.declared.handles.Owner.TheVariants as owners
 use Rattle.pagable_world.specs.declared.rows.Mode.{Mode}
 use Rattle.pagable_world.specs.declared.rows.Mode.TheVariants as modes
-use Rattle.pagable_world.specs.Plain.{Error, Blob, Kind, HandleNumber, Among, one, if_there, is_shared_kind, is_loose_kind, is_pinned_kind}
+use Rattle.pagable_world.specs.Plain.{Error, Blob, Kind, HandleNumber, WorkerNumber, Among, one, if_there, is_shared_kind, is_loose_kind, is_pinned_kind}
 use Rattle.pagable_world.specs.Kinds.{is_handle, is_at, is_owner, is_owned_by, is_pinning, is_shared, is_share, mode_of, held, pins, is_in_memory}
 use Rattle.pagable_world.specs.World.{Core, Cell, Alike, usable, is_here}
 use Rattle.pagable_world.specs.Cascade.{only_handle}
 use Rattle.pagable_world.specs.Refusals.{Owns}
 use Rattle.pagable_world.specs.Calls.{with_known, ScheduleCall, TakeCall, ReserveCall, RecallCall, OfferCall, ClearCall, Asked, FetchCall, StoreCall, FlushCall}
-use Rattle.pagable_world.specs.Events.{with_worker}
+use Rattle.pagable_world.specs.Events.{with_worker, with_entry_taken}
 use Rattle.pagable_world.specs.Pager.{IsWhole}
 use Rattle.pagable_laws.proofs.Sums.{self-number, same-number, at-most-sum, counted, one-true}
 use Rattle.pagable_laws.proofs.Outlasting.{NotValues, stands-whole, once}
@@ -82,6 +82,10 @@ module _ {w : Core} (whole : IsWhole w) where
   pub takes : {w' : Core} {me : Owner} (i : ℕ) → NotValues me → (h : Option HandleNumber) → TakeCall w me i h w' → Spares w w'
   takes {me = me} i free (Some h) c = spares-then (spares-moved w (only_handle h) me free (listed-free i h c.0)) (spares-same c.1.rows c.1.cells)
   takes i free None c = spares-alike c.1
+
+  -- a worker comes for an entry, which moves to it
+  pub starts-listed : {w' : Core} (i : ℕ) (h : HandleNumber) (v : WorkerNumber) → slice_get w.list i ≡ Some h → Alike (with_worker (with_entry_taken w i h v)) w' → Spares w w'
+  starts-listed i h v at a = spares-then (spares-moved w (only_handle h) (owners.Worker v) (λ n e. cc) (listed-free i h at)) (spares-same a.rows a.cells)
 
   -- ---- nodes that the cache gives
 
