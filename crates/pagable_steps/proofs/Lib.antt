@@ -8,3 +8,7 @@ pub mod Staying
 pub mod Falling
 pub mod Keeping
 pub mod FallingCalls
+pub mod Naming
+pub mod Born
+pub mod Births
+pub mod BirthCalls
