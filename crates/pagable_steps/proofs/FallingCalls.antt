@@ -41,12 +41,11 @@ module _ {w : Core} (whole : IsWhole w) where
   both-free f g free h among is = free h among (and_parts (f h.number.0) (g h.number.0) is).0
 
   -- what good references name
-  pub named-free : (l : LoadNumber) (rs : List ArcRef) → AreGood w (owners.Load l) rs → AreFree w (is_named_by rs)
-  named-free l rs right h among is =
+  pub named-owner : (l : LoadNumber) (rs : List ArcRef) → AreGood w (owners.Load l) rs → (h : HandleRow) → Among w.rows h → is_named_by rs h.number.0 ≡ true → h.owner ≡ owners.Load l
+  named-owner l rs right h among is =
       let a = named-among 0 rs h.number.0 is in
       let r = right a.0 a.1 in
-      let same = (stands-whole whole.handles h.number.0 r.row (ap (λ q. find_row q w.rows) (sym a.2) ∙ r.live)).only h among refl in
-      not-loads l h.owner (ap (λ (x : HandleRow). x.owner) same ∙ r.owned)
+      ap (λ (x : HandleRow). x.owner) ((stands-whole whole.handles h.number.0 r.row (ap (λ q. find_row q w.rows) (sym a.2) ∙ r.live)).only h among refl) ∙ r.owned
 
   -- what the list owns
   all-listed-free : AreFree w (is_listed w)
@@ -98,7 +97,7 @@ module _ {N E : Type 0} {v : Values N} {s s' : PagerState N E} (is : WellFormed 
   -- what was read is dropped, since the cache gives a node
   pub adopted_known : {me : Owner} {l : LoadNumber} {kind : Kind} {key t n : ℕ} {references : List ArcRef} {k : HandleNumber} → Adopts s.core me l kind key t references k s'.core → usable s.core kind.0 key ≡ Some n → WellFormed v s'
   adopted_known {l = l} {kind} {key} {references = references} a known = elim a.makes [
-    | inl (n, usable, f) ↦ fell is (spares-keeps (spares-known is.whole kind key n (not-load l) usable)) f.falls (named-free is.whole l references (good s.core (owners.Load l) [] references a.good)) left
+    | inl (n, usable, f) ↦ fell is (spares-keeps (spares-known is.whole kind key n (not-load l) usable)) f.falls (λ h among e. not-loads is.whole l h.owner (named-owner is.whole l references (good s.core (owners.Load l) [] references a.good) h among e)) left
     | inr (none, few, alike) ↦ absurd (let e : None ≡ Some _ = sym none ∙ known in cc)
   ]
 

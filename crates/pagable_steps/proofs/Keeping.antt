@@ -68,11 +68,11 @@ owned-row {w} whole n q some =
     let both = and_parts (is_handle q c.0) (is_owned_by (owner_value n) c.0) (one-true _ c.2) in
     record { row = c.0; live = subst (λ p. find_row p w.rows ≡ Some c.0) (same-number _ _ both.0) (found-whole whole c.0 c.1); own = same-owner (owner_value n) c.0.owner both.1 }
 
-one-value : (n m : ℕ) (o : Owner) → o ≡ owner_value n → o ≡ owner_value m → m ≡ n
+pub one-value : (n m : ℕ) (o : Owner) → o ≡ owner_value n → o ≡ owner_value m → m ≡ n
 one-value n m o a b = same-number m n (sym (ap (is_owner (owner_value n)) b) ∙ (ap (is_owner (owner_value n)) a ∙ self-number n))
 
 -- values that own nothing of any number own nothing
-none-owned : (n : ℕ) (rows rows' : List HandleRow) → ((q : ℕ) → owns n q rows' ≡ owns n q rows) → owns_any n rows ≡ 0 → owns_any n rows' ≡ 0
+pub none-owned : (n : ℕ) (rows rows' : List HandleRow) → ((q : ℕ) → owns n q rows' ≡ owns n q rows) → owns_any n rows ≡ 0 → owns_any n rows' ≡ 0
 none-owned n rows rows' same none = at (owns_any n rows') refl
   where
     at : (k : ℕ) → owns_any n rows' ≡ k → owns_any n rows' ≡ 0
@@ -97,6 +97,9 @@ type-some w n = at (w.cells n)
     at : (c : Option Cell) → is_some (if_there (λ (cell : Cell). Some cell.node_type) None c) ≡ is_some c
     at None = refl
     at (Some cell) = refl
+
+pub owns-then : {w m w' : Core} → OwnsAlike w m → OwnsAlike m w' → OwnsAlike w w'
+owns-then a b = record { typed = λ n. b.typed n ∙ a.typed n; owned = λ n q. b.owned n q ∙ a.owned n q; rows = λ n q row live own. b.rows n q row (a.rows n q row live own) own }
 
 -- where values own alike they stand again, if nodes that are in memory have one
 pub sits-on : {N : Type 0} {v : Values N} {values : ℕ → Option N} {w m : Core} → Sits v w values → OwnsAlike w m → ((n : ℕ) → is_some (m.cells n) ≡ true → is_here m n ≡ true → is_some (values n) ≡ true)

@@ -4,7 +4,9 @@ pub mod SparedHandles
 pub mod SparedLists
 pub mod SparedLoads
 pub mod Coming
+pub mod Naming
 pub mod Staying
 pub mod Falling
 pub mod Keeping
 pub mod FallingCalls
+pub mod Moving
