@@ -1,23 +1,19 @@
 -- A node comes with a handle, and the handles that its value names move to it: what stays of other nodes.
-use Rattle.std.proofs.Common.{◌≡◌, ℕ, suc, zero, ◌+◌, ◌<◌, ◌≤◌, ◌==◌, ◌&&◌, ◌||◌, Bool, true, false, List, [], ◌∷◌, ◌++◌, length, get_or, sum_by, refl, ap, sym, subst, ◌∙◌, if◌then◌else◌, arith}
-use Rattle.std.specs.Prelude.{Option, Some, None, is_some, nat_lt}
-use Rattle.std.specs.List.{AllPairs}
-use Rattle.std.proofs.lemmas.Bool.{and_parts}
+use Rattle.std.proofs.Common.{◌≡◌, ℕ, ◌+◌, ◌≤◌, ◌==◌, ◌&&◌, Bool, true, false, List, [], ◌∷◌, sum_by, refl, ap, sym, subst, ◌∙◌, if◌then◌else◌, arith}
+use Rattle.std.specs.Prelude.{Option, Some, None, is_some}
 use Rattle.std.proofs.lemmas.Bool.Decides.{nat_tests}
-use Rattle.std.proofs.lemmas.List.Sums.{sum_by-cons, sum_by_push}
-use Rattle.std.proofs.lemmas.Option.{get_or_from_slice_get, slice_get_within}
+use Rattle.std.proofs.lemmas.List.Sums.{sum_by_push}
 use Rattle.pagable_model.specs.declared.data_key.OptionalDataKey.TheVariants as optional
 use Rattle.pagable_world.specs.declared.handles.HandleRow.{HandleRow}
 use Rattle.pagable_world.specs.declared.handles.Owner.{Owner}
 use Rattle.pagable_world.specs.declared.rows.Mode.{Mode}
-use Rattle.pagable_world.specs.Plain.{OptionalDataKey, ArcRef, SameAt, Among, is_in, one, times, if_there, or_else}
-use Rattle.pagable_world.specs.Kinds.{find_row, is_handle, is_owner, is_owned_by, owner_value, is_pin, is_pinning, pins, is_in_memory}
+use Rattle.pagable_world.specs.Plain.{OptionalDataKey, ArcRef, SameAt, Among, one, times, if_there, or_else}
+use Rattle.pagable_world.specs.Kinds.{find_row, is_handle, is_owned_by, owner_value, is_pin, is_pinning, pins, is_in_memory}
 use Rattle.pagable_world.specs.World.{Core, Cell, type_at, key_at, is_here}
-use Rattle.pagable_world.specs.Refusals.{reference_fault, references_fault, IsReference}
+use Rattle.pagable_world.specs.Refusals.{references_fault, IsReference}
 use Rattle.pagable_world.specs.Calls.{row_of, moved, is_named_by, with_node, next_node, with_handle}
-use Rattle.pagable_world.specs.Pager.{IsHandleBefore, IsWhole}
-use Rattle.pagable_laws.proofs.Sums.{self-number, same-number, at-most-sum, sum-zero}
-use Rattle.pagable_laws.proofs.Goes.{found-number}
+use Rattle.pagable_world.specs.Pager.{IsWhole}
+use Rattle.pagable_laws.proofs.Sums.{self-number, same-number}
 use Rattle.pagable_laws.proofs.GoodReferences.{good}
 use Rattle.pagable_laws.proofs.Sparing.{named-among}
 use Rattle.pagable_laws.proofs.Outlasting.{NotValues, not-owned, find-both, found-after, among-found, stands-whole}
@@ -124,7 +120,7 @@ module _ {w w' : Core} {me : Owner} {t : ℕ} {own : OptionalDataKey} {reference
       count-now (is_owned_by (owner_value n)) (λ x. one (is_owned_by (owner_value n) x)) (not-owned n me free)
       (λ h among. ap one (same-test n is (is_owned_by (owner_value n)) (λ x none. none) h among (named h) refl))
 
-  found-now : (q : ℕ) (row : HandleRow) (b : Bool) → find_row q w.rows ≡ Some row → named row ≡ b → find_row q w'.rows ≡ Some (if b then to row else row)
+  pub found-now : (q : ℕ) (row : HandleRow) (b : Bool) → find_row q w.rows ≡ Some row → named row ≡ b → find_row q w'.rows ≡ Some (if b then to row else row)
   found-now q row b live is =
       ap (find_row q) c.rows ∙ (find-both q (moved (is_named_by references) (owner_value next) w.rows) (new ∷ [])
       ∙ (ap (λ o. or_else o (find_row q (new ∷ []))) (found-after named to (λ h. refl) q w.rows row live) ∙ ap (λ b. Some (if b then to row else row)) is))

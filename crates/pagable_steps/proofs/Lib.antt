@@ -5,8 +5,12 @@ pub mod SparedLists
 pub mod SparedLoads
 pub mod Coming
 pub mod Naming
+pub mod Born
+pub mod Births
+pub mod BirthCalls
 pub mod Staying
 pub mod Falling
 pub mod Keeping
 pub mod FallingCalls
 pub mod Moving
+pub mod Installing
