@@ -1,23 +1,18 @@
 -- Values go with a cascade: where they stand in the world that a call has made directly, those that are left stand afterwards.
-use Rattle.std.proofs.Common.{◌≡◌, ℕ, ◌+◌, ◌<◌, ◌≤◌, ◌==◌, ◌&&◌, ◌||◌, Bool, true, false, List, [], ◌∷◌, ◌++◌, refl, ap, sym, subst, ◌∙◌, if◌then◌else◌, arith}
-use Rattle.std.specs.Prelude.{Option, Some, None, is_some, not, nat_lt, nat_eq, filter, sum_by, cond}
+use Rattle.std.proofs.Common.{◌≡◌, ℕ, ◌<◌, ◌≤◌, ◌==◌, ◌&&◌, Bool, true, false, ◌++◌, refl, ap, sym, subst, ◌∙◌, if◌then◌else◌, arith}
+use Rattle.std.specs.Prelude.{Option, Some, None, is_some, not, nat_lt}
 use Rattle.std.proofs.lemmas.Bool.{and_parts}
 use Rattle.std.proofs.lemmas.Bool.Decides.{nat_tests}
-use Rattle.std.proofs.lemmas.List.Sums.{sum_by-cons, sum_by-append}
 use Rattle.pagable_model.specs.declared.numbers.ArcRef.{ArcRef}
-use Rattle.pagable_model.specs.declared.data_key.OptionalDataKey.TheVariants as optional
 use Rattle.pagable_world.specs.declared.handles.HandleRow.{HandleRow}
 use Rattle.pagable_world.specs.declared.handles.Owner.TheVariants as owners
-use Rattle.pagable_world.specs.declared.rows.Mode.TheVariants as modes
 use Rattle.pagable_world.specs.Plain.{NodeNumber, Among, one, times, if_there, or_else}
-use Rattle.pagable_world.specs.Kinds.{find_row, is_handle, is_at, is_pin, is_owner, is_owned_by, owner_value, held, pins, has_key, is_in_memory}
-use Rattle.pagable_world.specs.World.{Core, Cell, Values, type_at, key_at, is_here}
-use Rattle.pagable_world.specs.Cascade.{is_outside, held_outside, pins_outside, owned_outside, loses_value, IsClosed, IsWithin, IsLeast, AreNewEntries, is_keyed, left_rows, Falls}
+use Rattle.pagable_world.specs.Kinds.{find_row, is_handle, is_owner, is_owned_by, owner_value, held, pins}
+use Rattle.pagable_world.specs.World.{Core, Cell, Values, type_at, is_here}
+use Rattle.pagable_world.specs.Cascade.{is_outside, owned_outside, loses_value, is_keyed, left_rows, Falls}
 use Rattle.pagable_world.specs.Refusals.{IsReference}
 use Rattle.pagable_world.specs.Pager.{PagerState, IsWhole, WellFormed}
-use Rattle.pagable_laws.proofs.Sums.{same-number, self-number, one-true, sum-le, sum-zero, at-most-sum, counted}
-use Rattle.pagable_laws.proofs.Existing.{inside, wider}
-use Rattle.pagable_laws.proofs.Trees.{same_some}
+use Rattle.pagable_laws.proofs.Sums.{self-number, sum-le, counted}
 use Rattle.pagable_laws.proofs.Goes.{found-number}
 use Rattle.pagable_laws.proofs.Outlasting.{found-kept, find-both}
 use Rattle.pagable_laws.proofs.Taking.{found-among, row-held}

@@ -1,6 +1,6 @@
 -- Calls by which handles go, and values with them, leave a pager in step.
-use Rattle.std.proofs.Common.{◌≡◌, ℕ, zero, suc, ◌<◌, ◌==◌, ◌&&◌, ◌||◌, Bool, true, false, List, [], ◌∷◌, Option, Some, None, Ok, Err, inl, inr, refl, ap, sym, subst, ◌∙◌, if◌then◌else◌, arith}
-use Rattle.std.specs.Prelude.{Result, not, nat_lt}
+use Rattle.std.proofs.Common.{◌≡◌, ℕ, ◌<◌, ◌==◌, ◌&&◌, ◌||◌, Bool, true, false, List, [], ◌∷◌, Option, Some, None, Ok, Err, inl, inr, refl, ap, sym, ◌∙◌, arith}
+use Rattle.std.specs.Prelude.{Result, not}
 use Rattle.std.proofs.lemmas.Bool.{and_parts}
 use Rattle.std.proofs.lemmas.Bool.Decides.{nat_tests}
 use Rattle.pagable_model.specs.declared.error.Error.TheVariants as errors
@@ -11,8 +11,8 @@ use Rattle.pagable_world.specs.Plain.{Error, ArcRef, Kind, HandleNumber, LoadNum
 use Rattle.pagable_world.specs.Kinds.{find_row, is_owner, is_owned_by}
 use Rattle.pagable_world.specs.World.{Core, Values, Alike, row_at, usable}
 use Rattle.pagable_world.specs.Refusals.{refused_if, named_fault}
-use Rattle.pagable_world.specs.Calls.{moved, is_named_by, is_listed, UnpinCall, ReleaseCall, SetKeyCall, ScheduleCall, OfferCall, CloseCall}
-use Rattle.pagable_world.specs.LoadCalls.{without_load, is_owned_in, numbers_of, Adopts, EndCall, HandOverCall, DropCall, LoadCloses}
+use Rattle.pagable_world.specs.Calls.{is_named_by, is_listed, UnpinCall, ReleaseCall, SetKeyCall, ScheduleCall, OfferCall, CloseCall}
+use Rattle.pagable_world.specs.LoadCalls.{is_owned_in, numbers_of, Adopts, EndCall, HandOverCall, DropCall, LoadCloses}
 use Rattle.pagable_world.specs.Pager.{PagerState, IsWhole, WellFormed}
 use Rattle.pagable_laws.specs.TreeSteps.{AreGood}
 use Rattle.pagable_laws.proofs.Sums.{same-number, one-true, counted}
@@ -24,7 +24,7 @@ use Rattle.pagable_steps.proofs.Spared.{Spares}
 use Rattle.pagable_steps.proofs.SparedParts.{spares-then, spares-same, spares-alike, spares-moved}
 use Rattle.pagable_steps.proofs.SparedLists.{own-free, listed-free, schedules, offers, spares-known}
 use Rattle.pagable_steps.proofs.SparedLoads.{not-load}
-use Rattle.pagable_steps.proofs.Keeping.{AreFree, Leaves, Keeps, found-whole, fell, stayed, spares-keeps, unpin-keeps, keyed-keeps}
+use Rattle.pagable_steps.proofs.Keeping.{AreFree, Leaves, found-whole, fell, stayed, spares-keeps, unpin-keeps, keyed-keeps}
 
 -- ---- what no value owns
 

@@ -1,21 +1,19 @@
 -- A load of a cell ends with a pin: where the cell has no value, what was read comes into it; else it is dropped. What the load still owns goes.
-use Rattle.std.proofs.Common.{◌≡◌, ℕ, ◌+◌, ◌<◌, ◌==◌, ◌&&◌, Bool, true, false, List, [], ◌∷◌, refl, ap, sym, subst, ◌∙◌, inl, inr, if◌then◌else◌, arith}
+use Rattle.std.proofs.Common.{◌≡◌, ℕ, ◌<◌, ◌==◌, ◌&&◌, Bool, true, false, refl, ap, sym, subst, ◌∙◌, inl, inr, if◌then◌else◌, arith}
 use Rattle.std.specs.Prelude.{Option, Some, None, is_some, not, nat_lt}
 use Rattle.std.proofs.lemmas.Bool.Decides.{nat_tests}
 use Rattle.pagable_world.specs.declared.handles.HandleRow.{HandleRow}
 use Rattle.pagable_world.specs.declared.handles.Owner.TheVariants as owners
 use Rattle.pagable_world.specs.declared.handles.Owner.{Owner}
 use Rattle.pagable_world.specs.declared.rows.Mode.TheVariants as modes
-use Rattle.pagable_world.specs.declared.rows.Mode.{Mode}
-use Rattle.pagable_world.specs.Plain.{HandleNumber, LoadNumber, NodeNumber, Among, if_there, updated}
-use Rattle.pagable_world.specs.Kinds.{find_row, is_handle, is_owner, is_owned_by, owner_value, is_loose, pins, is_in_memory, held}
+use Rattle.pagable_world.specs.Plain.{HandleNumber, LoadNumber, NodeNumber, if_there, updated}
+use Rattle.pagable_world.specs.Kinds.{find_row, is_handle, is_owner, is_owned_by, owner_value, is_loose, is_in_memory, held}
 use Rattle.pagable_world.specs.World.{Core, Cell, Values, row_at, type_at, key_at, is_here}
-use Rattle.pagable_world.specs.Cascade.{FallsAnyhow}
-use Rattle.pagable_world.specs.Refusals.{Owns, references_fault}
+use Rattle.pagable_world.specs.Refusals.{Owns}
 use Rattle.pagable_world.specs.Calls.{is_named_by, with_mode}
 use Rattle.pagable_world.specs.LoadCalls.{without_load, is_owned_in, with_pin, MayEnd, Installs}
 use Rattle.pagable_world.specs.Pager.{PagerState, MayOwnLoad, WellFormed}
-use Rattle.pagable_laws.proofs.Sums.{same-number, self-number}
+use Rattle.pagable_laws.proofs.Sums.{self-number}
 use Rattle.pagable_laws.proofs.Goes.{NotLoads, found-number}
 use Rattle.pagable_laws.proofs.Taking.{row-held, row-pins}
 use Rattle.pagable_laws.proofs.Outlasting.{NotValues, Stands, among-found, found-after, stands-whole, stands-changed}

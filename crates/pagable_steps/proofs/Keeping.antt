@@ -1,9 +1,7 @@
 -- What a call does directly before handles go: nodes and values stay as they are, but that a node may get a key and lose a pin.
-use Rattle.std.proofs.Common.{◌≡◌, ℕ, suc, zero, ◌+◌, ◌<◌, ◌≤◌, ◌==◌, ◌&&◌, ◌||◌, Bool, true, false, List, [], ◌∷◌, refl, ap, sym, subst, ◌∙◌, inl, inr, if◌then◌else◌, arith}
+use Rattle.std.proofs.Common.{◌≡◌, ℕ, suc, zero, ◌<◌, ◌≤◌, ◌==◌, ◌&&◌, ◌||◌, Bool, true, false, List, refl, ap, sym, subst, ◌∙◌, if◌then◌else◌, arith}
 use Rattle.std.specs.Prelude.{Option, Some, None, is_some, not, nat_lt, sum_by}
 use Rattle.std.proofs.lemmas.Bool.{and_parts}
-use Rattle.std.proofs.lemmas.Bool.Decides.{nat_tests}
-use Rattle.pagable_model.specs.declared.numbers.ArcRef.{ArcRef}
 use Rattle.pagable_model.specs.declared.data_key.OptionalDataKey.TheVariants as optional
 use Rattle.pagable_world.specs.declared.handles.HandleRow.{HandleRow}
 use Rattle.pagable_world.specs.declared.handles.Owner.{Owner}
@@ -11,18 +9,18 @@ use Rattle.pagable_world.specs.declared.rows.Mode.{Mode}
 use Rattle.pagable_world.specs.declared.rows.Mode.TheVariants as modes
 use Rattle.pagable_world.specs.Plain.{OptionalDataKey, HandleNumber, NodeNumber, Among, one, if_there}
 use Rattle.pagable_world.specs.Kinds.{find_row, is_handle, is_owner, is_owned_by, owner_value, is_pin, is_pinning, pins, is_in_memory, has_key}
-use Rattle.pagable_world.specs.World.{Core, Cell, Alike, Values, type_at, key_at, is_here}
+use Rattle.pagable_world.specs.World.{Core, Cell, Values, type_at, key_at, is_here}
 use Rattle.pagable_world.specs.Cascade.{Falls}
-use Rattle.pagable_world.specs.Refusals.{Owns, IsReference}
+use Rattle.pagable_world.specs.Refusals.{Owns}
 use Rattle.pagable_world.specs.Calls.{with_mode, with_key}
 use Rattle.pagable_world.specs.Pager.{PagerState, HandlesAreWhole, IsWhole, WellFormed}
 use Rattle.pagable_laws.proofs.Trees.{same_some}
-use Rattle.pagable_laws.proofs.Sums.{same-number, self-number, one-true, sum-le, at-most-sum, counted}
+use Rattle.pagable_laws.proofs.Sums.{same-number, self-number, one-true, sum-le, counted}
 use Rattle.pagable_laws.proofs.Goes.{found-number}
 use Rattle.pagable_laws.proofs.GoodReferences.{same-owner}
 use Rattle.pagable_laws.proofs.Outlasting.{NotValues, Stands, among-found, none-found, once, found-after, stands-whole}
 use Rattle.pagable_steps.proofs.Spared.{owns, owns_any, Spares, spared}
-use Rattle.pagable_steps.proofs.SparedParts.{spares-alike, sum-mapped, here-by}
+use Rattle.pagable_steps.proofs.SparedParts.{sum-mapped, here-by}
 use Rattle.pagable_steps.proofs.Staying.{owned-some}
 use Rattle.pagable_steps.proofs.Falling.{Sits, Sweeps, fell-from}
 

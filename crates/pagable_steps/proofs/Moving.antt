@@ -1,5 +1,5 @@
 -- What is read comes into its cell: the handles that it names move to it from the load, and values stand again.
-use Rattle.std.proofs.Common.{◌≡◌, ℕ, ◌+◌, ◌<◌, ◌≤◌, ◌==◌, ◌&&◌, Bool, true, false, List, [], ◌∷◌, refl, ap, sym, subst, ◌∙◌, if◌then◌else◌, arith}
+use Rattle.std.proofs.Common.{◌≡◌, ℕ, ◌<◌, ◌≤◌, ◌==◌, ◌&&◌, Bool, true, false, [], refl, ap, sym, subst, ◌∙◌, if◌then◌else◌, arith}
 use Rattle.std.specs.Prelude.{Option, Some, None, is_some, sum_by}
 use Rattle.std.proofs.lemmas.Bool.{and_parts}
 use Rattle.std.proofs.lemmas.Bool.Decides.{nat_tests}
@@ -17,7 +17,7 @@ use Rattle.pagable_laws.proofs.Sums.{same-number, self-number, one-true, sum-zer
 use Rattle.pagable_laws.proofs.Goes.{found-number}
 use Rattle.pagable_laws.proofs.GoodReferences.{same-owner, good}
 use Rattle.pagable_laws.proofs.Sparing.{named-among}
-use Rattle.pagable_laws.proofs.Outlasting.{not-owned, among-found, among-changed, after-number, found-after}
+use Rattle.pagable_laws.proofs.Outlasting.{among-found, among-changed, after-number, found-after}
 use Rattle.pagable_steps.proofs.Spared.{owns, owns_any}
 use Rattle.pagable_steps.proofs.SparedParts.{sum-mapped, and-false}
 use Rattle.pagable_steps.proofs.SparedLoads.{not-load}
