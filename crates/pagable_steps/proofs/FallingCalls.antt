@@ -62,7 +62,8 @@ module _ {w : Core} (whole : IsWhole w) where
   handed-free l (x ∷ hs) seen none h among is = by (λ rest more. handed-free l hs (x.0 ∷ seen) rest h among more) (x.0 == h.number.0) refl (neither _ _ none) is
     where
       by : (named_fault w (owners.Load l) (x.0 ∷ seen) hs ≡ None → is_in (numbers_of hs) h.number.0 ≡ true → NotValues h.owner) → (b : Bool) → (x.0 == h.number.0) ≡ b
-          → (if_there (λ (row : HandleRow). refused_if (not (is_owner (owners.Load l) row.owner) || is_in seen x.0) errors.NotYours) (Some errors.NoSuchHandle) (row_at w x) ≡ None) × (named_fault w (owners.Load l) (x.0 ∷ seen) hs ≡ None)
+          → (if_there (λ (row : HandleRow). refused_if (not (is_owner (owners.Load l) row.owner) || is_in seen x.0) errors.NotYours) (Some errors.NoSuchHandle) (row_at w x) ≡ None)
+          × (named_fault w (owners.Load l) (x.0 ∷ seen) hs ≡ None)
           → (b || is_in (numbers_of hs) h.number.0) ≡ true → NotValues h.owner
       by more false e (first, rest) is = more rest is
       by more true e (first, rest) is =
@@ -90,14 +91,18 @@ module _ {N E : Type 0} {v : Values N} {s s' : PagerState N E} (is : WellFormed 
   dropped {l = l} c = elim c.does [ inl refused ↦ stays refused.stays | inr (load, owned, f) ↦ load_closed l f ]
 
   -- the end of a load that is refused, or was in vain
-  pub end_refused : {me : Owner} {l : LoadNumber} {x : N} {t : ℕ} {references : List ArcRef} (e : Error) (back : Option N) → EndCall s.core me l x t references (Err (e, back)) s'.core → WellFormed v s'
+  pub end_refused : {me : Owner} {l : LoadNumber} {x : N} {t : ℕ} {references : List ArcRef} (e : Error) (back : Option N) → EndCall s.core me l x t references (Err (e, back)) s'.core
+      → WellFormed v s'
   end_refused e (Some y) c = stays c.refused.1.stays
   end_refused {l = l} e None c = load_closed l c.refused.closes
 
   -- what was read is dropped, since the cache gives a node
-  pub adopted_known : {me : Owner} {l : LoadNumber} {kind : Kind} {key t n : ℕ} {references : List ArcRef} {k : HandleNumber} → Adopts s.core me l kind key t references k s'.core → usable s.core kind.0 key ≡ Some n → WellFormed v s'
+  pub adopted_known : {me : Owner} {l : LoadNumber} {kind : Kind} {key t n : ℕ} {references : List ArcRef} {k : HandleNumber} → Adopts s.core me l kind key t references k s'.core
+      → usable s.core kind.0 key ≡ Some n → WellFormed v s'
   adopted_known {l = l} {kind} {key} {references = references} a known = elim a.makes [
-    | inl (n, usable, f) ↦ fell is (spares-keeps (spares-known is.whole kind key n (not-load l) usable)) f.falls (λ h among e. not-loads is.whole l h.owner (named-owner is.whole l references (good s.core (owners.Load l) [] references a.good) h among e)) left
+    | inl (n, usable, f) ↦
+        let right = good s.core (owners.Load l) [] references a.good in
+        fell is (spares-keeps (spares-known is.whole kind key n (not-load l) usable)) f.falls (λ h among e. not-loads is.whole l h.owner (named-owner is.whole l references right h among e)) left
     | inr (none, few, alike) ↦ absurd (let e : None ≡ Some _ = sym none ∙ known in cc)
   ]
 
@@ -141,5 +146,6 @@ module _ {N E : Type 0} {v : Values N} {s s' : PagerState N E} (is : WellFormed 
     handed_over {l} {hs} (Ok u) c =
         let named = (neither _ _ (neither _ _ c.hands.0).1).1 in
         let moves = spares-moved s.core (is_in (numbers_of hs)) me none (handed-free is.whole l hs [] named) in
-        fell is (spares-keeps (spares-then moves (spares-same refl (λ n. refl)))) c.hands.1.falls (both-free is.whole (is_owned_in s.core (owners.Load l)) (λ q. not (is_in (numbers_of hs) q)) (load-free is.whole l)) left
+        fell is (spares-keeps (spares-then moves (spares-same refl (λ n. refl)))) c.hands.1.falls
+        (both-free is.whole (is_owned_in s.core (owners.Load l)) (λ q. not (is_in (numbers_of hs) q)) (load-free is.whole l)) left
     handed_over (Err e) c = stays c.refused.1

@@ -18,7 +18,7 @@ use Rattle.pagable_laws.proofs.Goes.{NotLoads, found-number}
 use Rattle.pagable_laws.proofs.Taking.{row-held, row-pins}
 use Rattle.pagable_laws.proofs.Outlasting.{NotValues, Stands, among-found, found-after, stands-whole, stands-changed}
 use Rattle.pagable_steps.proofs.Spared.{owns, Spares}
-use Rattle.pagable_steps.proofs.SparedParts.{spares-then, spares-same, spares-handle}
+use Rattle.pagable_steps.proofs.SparedParts.{and-false, spares-then, spares-same, spares-handle}
 use Rattle.pagable_steps.proofs.SparedHandles.{pinned-here, turned}
 use Rattle.pagable_steps.proofs.Falling.{Sits, fell-from}
 use Rattle.pagable_steps.proofs.Keeping.{OwnsAlike, Keeps, Leaves, owns-then, spares-owned, sits-on, fell, spares-keeps, mode-owned, mode-others}
@@ -92,7 +92,8 @@ module _ {N E : Type 0} {v : Values N} {s : PagerState N E} (is : WellFormed v s
     pins-cell =
         let number : is_handle h.0 row ≡ true = ap (λ n. n == h.0) (found-number h.0 w.rows row own.live) ∙ self-number h.0 in
         let live : row_at pinned h ≡ Some (record row { mode = modes.LoosePinned }) =
-            found-after (is_handle h.0) (λ r. record r { mode = modes.LoosePinned }) (λ r. refl) h.0 given_to.rows row stands.live ∙ ap (λ b. Some (if b then record row { mode = modes.LoosePinned } else row)) number in
+            found-after (is_handle h.0) (λ r. record r { mode = modes.LoosePinned }) (λ r. refl) h.0 given_to.rows row stands.live
+            ∙ ap (λ b. Some (if b then record row { mode = modes.LoosePinned } else row)) number in
         subst (λ (m : NodeNumber). is_here pinned m.0 ≡ true) at_node (pinned-here pinned row.node.0 (row-pins pinned h (record row { mode = modes.LoosePinned }) live refl))
 
     more : Spares pinned (with_pin given_to h node me)
@@ -122,10 +123,6 @@ module _ {N E : Type 0} {v : Values N} {s : PagerState N E} (is : WellFormed v s
         let was = moving.owned-was is l node x may.good cell-typed away n q (subst (λ j. 0 < j) (owned.owned n q) some) in
         at was.row was.live was.own (named was.row) refl
       where
-        and-false : (b : Bool) → (b && not true) ≡ false
-        and-false true = refl
-        and-false false = refl
-
         at : (row : HandleRow) → find_row q w.rows ≡ Some row → (if named row then record row { owner = owner_value node.0 } else row).owner ≡ owner_value n → (b : Bool) → named row ≡ b
             → (is_owned_in w (owners.Load l) q && not (is_named_by (v.references x) q)) ≡ false
         at row live own true e =

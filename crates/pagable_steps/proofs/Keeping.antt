@@ -79,7 +79,8 @@ none-owned n rows rows' same none = at (owns_any n rows') refl
         let c = counted (λ h. one (is_owned_by (owner_value n) h)) rows' (omega (arith, e)) in
         let a = owned-some n rows' c.0 c.1 (one-true _ c.2) in
         let b = same c.0.number.0 in
-        let le = sum-le (λ h. one (is_handle c.0.number.0 h && is_owned_by (owner_value n) h)) (λ h. one (is_owned_by (owner_value n) h)) rows (λ h among. less (is_handle c.0.number.0 h) (is_owned_by (owner_value n) h)) in
+        let le = sum-le (λ h. one (is_handle c.0.number.0 h && is_owned_by (owner_value n) h)) (λ h. one (is_owned_by (owner_value n) h)) rows
+            (λ h among. less (is_handle c.0.number.0 h) (is_owned_by (owner_value n) h)) in
         absurd (omega (arith, a, b, le, none))
       where
         less : (a b : Bool) → one (a && b) ≤ one b
@@ -100,8 +101,8 @@ pub owns-then : {w m w' : Core} → OwnsAlike w m → OwnsAlike m w' → OwnsAli
 owns-then a b = record { typed = λ n. b.typed n ∙ a.typed n; owned = λ n q. b.owned n q ∙ a.owned n q; rows = λ n q row live own. b.rows n q row (a.rows n q row live own) own }
 
 -- where values own alike they stand again, if nodes that are in memory have one
-pub sits-on : {N : Type 0} {v : Values N} {values : ℕ → Option N} {w m : Core} → Sits v w values → OwnsAlike w m → ((n : ℕ) → is_some (m.cells n) ≡ true → is_here m n ≡ true → is_some (values n) ≡ true)
-    → Sits v m values
+pub sits-on : {N : Type 0} {v : Values N} {values : ℕ → Option N} {w m : Core} → Sits v w values → OwnsAlike w m
+    → ((n : ℕ) → is_some (m.cells n) ≡ true → is_here m n ≡ true → is_some (values n) ≡ true) → Sits v m values
 sits-on {w = w} {m} sits k there =
     record {
       there = there;
@@ -179,11 +180,14 @@ module _ (w : Core) (h : HandleNumber) (mode : Mode) (row : HandleRow) (stands :
   mode-owned none =
       record {
         typed = λ n. refl;
-        owned = λ n q. sum-mapped after (λ x. one (is_handle q x && is_owned_by (owner_value n) x)) (λ x. one (is_handle q x && is_owned_by (owner_value n) x)) w.rows (λ x among. same n q x (is_handle h.0 x));
+        owned = λ n q. sum-mapped after (its n q) (its n q) w.rows (λ x among. same n q x (is_handle h.0 x));
         rows = λ n q x live own. found-after (is_handle h.0) to (λ y. refl) q w.rows x live ∙ ap (λ b. Some (if b then to x else x)) (other n q x live own (is_handle h.0 x) refl);
       }
     where
-      same : (n q : ℕ) (x : HandleRow) (b : Bool) → one (is_handle q (if b then to x else x) && is_owned_by (owner_value n) (if b then to x else x)) ≡ one (is_handle q x && is_owned_by (owner_value n) x)
+      its : ℕ → ℕ → HandleRow → ℕ
+      its n q x = one (is_handle q x && is_owned_by (owner_value n) x)
+
+      same : (n q : ℕ) (x : HandleRow) (b : Bool) → its n q (if b then to x else x) ≡ its n q x
       same n q x true = refl
       same n q x false = refl
 

@@ -26,8 +26,8 @@ use Rattle.pagable_steps.proofs.Falling.{Sits}
 use Rattle.pagable_steps.proofs.Keeping.{found-whole, one-value, none-owned, valued-there}
 use Rattle.pagable_steps.proofs.FallingCalls.{named-owner}
 
-module _ {N E : Type 0} {v : Values N} {s : PagerState N E} (is : WellFormed v s) (l : LoadNumber) (node : NodeNumber) (x : N) (fine : references_fault s.core (owners.Load l) [] (v.references x) ≡ None)
-    (typed : type_at s.core node.0 ≡ Some (v.node_type x)) (away : is_here s.core node.0 ≡ false) where
+module _ {N E : Type 0} {v : Values N} {s : PagerState N E} (is : WellFormed v s) (l : LoadNumber) (node : NodeNumber) (x : N)
+    (fine : references_fault s.core (owners.Load l) [] (v.references x) ≡ None) (typed : type_at s.core node.0 ≡ Some (v.node_type x)) (away : is_here s.core node.0 ≡ false) where
   abbrev w : Core
   w = s.core
 
@@ -87,10 +87,12 @@ module _ {N E : Type 0} {v : Values N} {s : PagerState N E} (is : WellFormed v s
   -- ---- what values own
 
   other-owned : (n : ℕ) → (node.0 == n) ≡ false → (q : ℕ) → owns n q given_to.rows ≡ owns n q w.rows
-  other-owned n other q =
-      sum-mapped (λ h. after h (named h)) (λ h. one (is_handle q h && is_owned_by (owner_value n) h)) (λ h. one (is_handle q h && is_owned_by (owner_value n) h)) w.rows (λ h among. at h among (named h) refl)
+  other-owned n other q = sum-mapped (λ h. after h (named h)) its its w.rows (λ h among. at h among (named h) refl)
     where
-      at : (h : HandleRow) → Among w.rows h → (b : Bool) → named h ≡ b → one (is_handle q (after h b) && is_owned_by (owner_value n) (after h b)) ≡ one (is_handle q h && is_owned_by (owner_value n) h)
+      its : HandleRow → ℕ
+      its h = one (is_handle q h && is_owned_by (owner_value n) h)
+
+      at : (h : HandleRow) → Among w.rows h → (b : Bool) → named h ≡ b → its (after h b) ≡ its h
       at h among false e = refl
       at h among true e = ap (λ b. one (is_handle q h && b)) (other ∙ sym (ap (is_owner (owner_value n)) (was-load h among e)))
 
@@ -145,7 +147,8 @@ module _ {N E : Type 0} {v : Values N} {s : PagerState N E} (is : WellFormed v s
   typed-at n y false e had = is.typed n y had
 
   inside-at : (n : ℕ) (y : N) (q : ℕ) (b : Bool) → (n == node.0) ≡ b → (if b then Some x else s.values n) ≡ Some y → times (λ (r : ArcRef). r.handle.0 == q) (v.references y) ≡ owns n q given_to.rows
-  inside-at n y q true e had = ap (λ z. times (λ (r : ArcRef). r.handle.0 == q) (v.references z)) (sym (same_some x y had)) ∙ (its-owned q ∙ ap (λ m. owns m q given_to.rows) (sym (same-number n node.0 e)))
+  inside-at n y q true e had = ap (λ z. times (λ (r : ArcRef). r.handle.0 == q) (v.references z)) (sym (same_some x y had))
+      ∙ (its-owned q ∙ ap (λ m. owns m q given_to.rows) (sym (same-number n node.0 e)))
   inside-at n y q false e had = is.inside n y q had ∙ sym (other-owned n (turned-round n e) q)
 
   bare-at : (n : ℕ) (b : Bool) → (n == node.0) ≡ b → (if b then Some x else s.values n) ≡ None → owns_any n given_to.rows ≡ 0
@@ -160,7 +163,8 @@ module _ {N E : Type 0} {v : Values N} {s : PagerState N E} (is : WellFormed v s
       record { row = to old.row; live = found r.handle.0 old.row true old.live is_named; at = old.at; owned = ap owner_value (sym (same-number n node.0 e)); fits = old.fits; typed = old.typed }
   refers-at n y r false e had among =
       let old = is.references n y r had among in
-      record { row = old.row; live = found r.handle.0 old.row false old.live (unnamed old.row old.live old.owned (named old.row) refl); at = old.at; owned = old.owned; fits = old.fits; typed = old.typed }
+      let live = found r.handle.0 old.row false old.live (unnamed old.row old.live old.owned (named old.row) refl) in
+      record { row = old.row; live = live; at = old.at; owned = old.owned; fits = old.fits; typed = old.typed }
     where
       unnamed : (row : HandleRow) → find_row r.handle.0 w.rows ≡ Some row → row.owner ≡ owner_value n → (b : Bool) → named row ≡ b → named row ≡ false
       unnamed row live own false e = e
