@@ -103,9 +103,9 @@ module _ {N E : Type 0} {v : Values N} {w : Core} {values : ℕ → Option N} (s
   inside-still n x q e =
       let s = stayed n x e in
       let a = counts-left f (λ h. is_handle q h && is_owned_by (owner_value n) h)
-          (λ h mode owner. ap (λ b. is_handle q h && b) (entry-unowned n h owner) ∙ and-false (is_handle q h)) in
+      (λ h mode owner. ap (λ b. is_handle q h && b) (entry-unowned n h owner) ∙ and-false (is_handle q h)) in
       let b = sum-same (λ h. one (is_handle q h && is_owned_by (owner_value n) h)) (λ h. one ((is_handle q h && is_owned_by (owner_value n) h) && is_outside f.gone h)) w.rows
-          (λ h among. outside s h among (is_handle q h) (is_owned_by (owner_value n) h) refl) in
+      (λ h among. outside s h among (is_handle q h) (is_owned_by (owner_value n) h) refl) in
       sits.inside n x q s.had ∙ (b ∙ sym a)
     where
       outside : Stayed n x → (h : HandleRow) → Among w.rows h → (a b : Bool) → is_owned_by (owner_value n) h ≡ b → one (a && b) ≡ one ((a && b) && is_outside f.gone h)
@@ -125,7 +125,7 @@ module _ {N E : Type 0} {v : Values N} {w : Core} {values : ℕ → Option N} (s
       at None is b e none =
           let a = sits.bare n is in
           let le = sum-le (λ h. one (is_owned_by (owner_value n) h && is_outside f.gone h)) (λ h. one (is_owned_by (owner_value n) h)) w.rows
-              (λ h among. less (is_owned_by (owner_value n) h) (is_outside f.gone h)) in
+          (λ h among. less (is_owned_by (owner_value n) h) (is_outside f.gone h)) in
           omega (arith, a, le)
       at (Some x) is true e none = absurd (cc)
       at (Some x) is false e none =
@@ -141,7 +141,7 @@ module _ {N E : Type 0} {v : Values N} {w : Core} {values : ℕ → Option N} (s
       let some = subst (λ q. 0 < owns n q w.rows) number (owned-some n w.rows is.row (found-among r.handle.0 w.rows is.row is.live) own) in
       let kept = found-kept f.gone r.handle.0 w.rows is.row (left n x r.handle.0 s some) is.live in
       let live : find_row r.handle.0 s'.core.rows ≡ Some is.row =
-          ap (find_row r.handle.0) f.leaves.rows ∙ (find-both r.handle.0 (left_rows f.gone w.rows) f.entries ∙ ap (λ o. or_else o (find_row r.handle.0 f.entries)) kept) in
+      ap (find_row r.handle.0) f.leaves.rows ∙ (find-both r.handle.0 (left_rows f.gone w.rows) f.entries ∙ ap (λ o. or_else o (find_row r.handle.0 f.entries)) kept) in
       let there : is_some (s'.core.cells r.node.0) ≡ true = held-there live is.at (typed-cell w r.node.0 _ is.typed) in
       record { row = is.row; live = live; at = is.at; owned = is.owned; fits = is.fits; typed = same-type r.node.0 there ∙ is.typed }
     where

@@ -8,7 +8,7 @@ use Rattle.pagable_world.specs.declared.handles.HandleRow.{HandleRow}
 use Rattle.pagable_world.specs.declared.handles.Owner.TheVariants as owners
 use Rattle.pagable_world.specs.declared.handles.Owner.{Owner}
 use Rattle.pagable_world.specs.Plain.{Error, ArcRef, Kind, HandleNumber, LoadNumber, Among, is_in, one, times, if_there}
-use Rattle.pagable_world.specs.Kinds.{find_row, is_owner, is_owned_by}
+use Rattle.pagable_world.specs.Kinds.{find_row, is_owner, is_owned_by, pins}
 use Rattle.pagable_world.specs.World.{Core, Values, Alike, row_at, usable}
 use Rattle.pagable_world.specs.Refusals.{refused_if, named_fault}
 use Rattle.pagable_world.specs.Calls.{is_named_by, is_listed, UnpinCall, ReleaseCall, SetKeyCall, ScheduleCall, OfferCall, CloseCall}
@@ -24,6 +24,7 @@ use Rattle.pagable_steps.proofs.Spared.{Spares}
 use Rattle.pagable_steps.proofs.SparedParts.{spares-then, spares-same, spares-alike, spares-moved}
 use Rattle.pagable_steps.proofs.SparedLists.{own-free, listed-free, schedules, offers, spares-known}
 use Rattle.pagable_steps.proofs.SparedLoads.{not-load}
+use Rattle.pagable_steps.proofs.Falling.{Sweeps}
 use Rattle.pagable_steps.proofs.Keeping.{AreFree, Leaves, found-whole, fell, stayed, spares-keeps, unpin-keeps, keyed-keeps}
 
 -- ---- what no value owns
@@ -77,9 +78,13 @@ module _ {w : Core} (whole : IsWhole w) where
 
 -- ---- the calls
 
-module _ {N E : Type 0} {v : Values N} {s s' : PagerState N E} (is : WellFormed v s) (left : Leaves s.values s') where
-  still : Spares s.core s.core
-  still = spares-same refl (λ n. refl)
+still : {w : Core} → Spares w w
+still = spares-same refl (λ n. refl)
+
+module _ {N E : Type 0} {v : Values N} {s s' : PagerState N E} (is : WellFormed v s)
+    (swept : Sweeps s.values s'.core s'.values) (counts : (n : ℕ) → s'.counts n ≡ pins n s'.core.rows) (whole : IsWhole s'.core) where
+  left : Leaves s.values s'
+  left = record { swept = swept; counted = counts; whole = whole }
 
   stays : Alike s.core s'.core → WellFormed v s'
   stays a = stayed is (spares-alike a) left

@@ -7,12 +7,12 @@ use Rattle.pagable_world.specs.declared.handles.Owner.TheVariants as owners
 use Rattle.pagable_world.specs.declared.handles.Owner.{Owner}
 use Rattle.pagable_world.specs.declared.rows.Mode.TheVariants as modes
 use Rattle.pagable_world.specs.Plain.{HandleNumber, LoadNumber, NodeNumber, if_there, updated}
-use Rattle.pagable_world.specs.Kinds.{find_row, is_handle, is_owner, is_owned_by, owner_value, is_loose, is_in_memory, held}
+use Rattle.pagable_world.specs.Kinds.{find_row, is_handle, is_owner, is_owned_by, owner_value, is_loose, is_in_memory, held, pins}
 use Rattle.pagable_world.specs.World.{Core, Cell, Values, row_at, type_at, key_at, is_here}
 use Rattle.pagable_world.specs.Refusals.{Owns}
 use Rattle.pagable_world.specs.Calls.{is_named_by, with_mode}
 use Rattle.pagable_world.specs.LoadCalls.{without_load, is_owned_in, with_pin, MayEnd, Installs}
-use Rattle.pagable_world.specs.Pager.{PagerState, MayOwnLoad, WellFormed}
+use Rattle.pagable_world.specs.Pager.{PagerState, MayOwnLoad, IsWhole, WellFormed}
 use Rattle.pagable_laws.proofs.Sums.{self-number}
 use Rattle.pagable_laws.proofs.Goes.{NotLoads, found-number}
 use Rattle.pagable_laws.proofs.Taking.{row-held, row-pins}
@@ -20,8 +20,8 @@ use Rattle.pagable_laws.proofs.Outlasting.{NotValues, Stands, among-found, found
 use Rattle.pagable_steps.proofs.Spared.{owns, Spares}
 use Rattle.pagable_steps.proofs.SparedParts.{and-false, spares-then, spares-same, spares-handle}
 use Rattle.pagable_steps.proofs.SparedHandles.{pinned-here, turned}
-use Rattle.pagable_steps.proofs.Falling.{Sits, fell-from}
-use Rattle.pagable_steps.proofs.Keeping.{OwnsAlike, Keeps, Leaves, owns-then, spares-owned, sits-on, fell, spares-keeps, mode-owned, mode-others}
+use Rattle.pagable_steps.proofs.Falling.{Sits, Sweeps, fell-from}
+use Rattle.pagable_steps.proofs.Keeping.{OwnsAlike, Keeps, owns-then, spares-owned, sits-on, fell, spares-keeps, mode-owned, mode-others}
 use Rattle.pagable_steps.proofs.FallingCalls.{load-free}
 use Rattle.pagable_steps.proofs.Moving as moving
 
@@ -92,8 +92,8 @@ module _ {N E : Type 0} {v : Values N} {s : PagerState N E} (is : WellFormed v s
     pins-cell =
         let number : is_handle h.0 row ≡ true = ap (λ n. n == h.0) (found-number h.0 w.rows row own.live) ∙ self-number h.0 in
         let live : row_at pinned h ≡ Some (record row { mode = modes.LoosePinned }) =
-            found-after (is_handle h.0) (λ r. record r { mode = modes.LoosePinned }) (λ r. refl) h.0 given_to.rows row stands.live
-            ∙ ap (λ b. Some (if b then record row { mode = modes.LoosePinned } else row)) number in
+        found-after (is_handle h.0) (λ r. record r { mode = modes.LoosePinned }) (λ r. refl) h.0 given_to.rows row stands.live
+        ∙ ap (λ b. Some (if b then record row { mode = modes.LoosePinned } else row)) number in
         subst (λ (m : NodeNumber). is_here pinned m.0 ≡ true) at_node (pinned-here pinned row.node.0 (row-pins pinned h (record row { mode = modes.LoosePinned }) live refl))
 
     more : Spares pinned (with_pin given_to h node me)
@@ -138,15 +138,16 @@ module _ {N E : Type 0} {v : Values N} {s : PagerState N E} (is : WellFormed v s
 module _ {N E : Type 0} {v : Values N} {s s' : PagerState N E} (is : WellFormed v s) {me : Owner} {l : LoadNumber} {node : NodeNumber} {h k : HandleNumber} {x : N}
     (may : MayEnd s.core me l node h (v.node_type x) (v.references x)) (i : Installs s.core me l node h k (v.references x) s'.core) where
   -- the cell has its value already
-  pub installed_there : is_here s.core node.0 ≡ true → Leaves s.values s' → WellFormed v s'
-  installed_there there left = elim i.falls [
+  pub installed_there : is_here s.core node.0 ≡ true → Sweeps s.values s'.core s'.values → ((n : ℕ) → s'.counts n ≡ pins n s'.core.rows) → IsWhole s'.core → WellFormed v s'
+  installed_there there swept counts whole = elim i.falls [
     | inl (away, f) ↦ absurd (let e : false ≡ true = sym away ∙ there in cc)
-    | inr (here, f) ↦ fell is (there-keeps is may i.row i.owned i.at there) f.falls (load-free is.whole l) left
+    | inr (here, f) ↦ fell is (there-keeps is may i.row i.owned i.at there) f.falls (load-free is.whole l) (record { swept = swept; counted = counts; whole = whole })
   ]
 
   -- the value comes into it
-  pub installed_away : is_here s.core node.0 ≡ false → Leaves (updated node.0 (Some x) s.values) s' → WellFormed v s'
-  installed_away away left = elim i.falls [
-    | inl (none, f) ↦ fell-from (all-sit is may i.row i.owned i.at away) s' f.falls (none-goes is may i.row i.owned i.at away) left.swept left.counted left.whole
+  pub installed_away : is_here s.core node.0 ≡ false → Sweeps (updated node.0 (Some x) s.values) s'.core s'.values → ((n : ℕ) → s'.counts n ≡ pins n s'.core.rows) → IsWhole s'.core
+      → WellFormed v s'
+  installed_away away swept counts whole = elim i.falls [
+    | inl (none, f) ↦ fell-from (all-sit is may i.row i.owned i.at away) s' f.falls (none-goes is may i.row i.owned i.at away) swept counts whole
     | inr (there, f) ↦ absurd (let e : true ≡ false = sym there ∙ away in cc)
   ]

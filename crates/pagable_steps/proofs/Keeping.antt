@@ -80,7 +80,7 @@ none-owned n rows rows' same none = at (owns_any n rows') refl
         let a = owned-some n rows' c.0 c.1 (one-true _ c.2) in
         let b = same c.0.number.0 in
         let le = sum-le (λ h. one (is_handle c.0.number.0 h && is_owned_by (owner_value n) h)) (λ h. one (is_owned_by (owner_value n) h)) rows
-            (λ h among. less (is_handle c.0.number.0 h) (is_owned_by (owner_value n) h)) in
+        (λ h among. less (is_handle c.0.number.0 h) (is_owned_by (owner_value n) h)) in
         absurd (omega (arith, a, b, le, none))
       where
         less : (a b : Bool) → one (a && b) ≤ one b

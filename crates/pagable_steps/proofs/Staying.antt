@@ -147,7 +147,7 @@ module _ {before w w' : Core} {given : ℕ → Bool} {r : _} (f : Falls before w
       let p = counts-left (is_pin n) (entry-unpinned n) in
       let fewer : po ≤ ho = sum-le (λ h. one (is_pin n h && is_outside f.gone h)) (λ h. one (is_at n h && is_outside f.gone h)) w.rows (λ h among. pin-at (is_at n h) _ (is_outside f.gone h)) in
       let cells : w'.cells n ≡ (if nat_lt 0 (ho + he) then Some cell else None) =
-          f.leaves.cells n ∙ (ap (λ k. if nat_lt 0 k then w.cells n else None) (sym (ap (held n) f.leaves.rows) ∙ c) ∙ ap (λ o. if nat_lt 0 (ho + he) then o else None) live) in
+      f.leaves.cells n ∙ (ap (λ k. if nat_lt 0 k then w.cells n else None) (sym (ap (held n) f.leaves.rows) ∙ c) ∙ ap (λ o. if nat_lt 0 (ho + he) then o else None) live) in
       let keyed : is_keyed w n ≡ has_key cell.key = ap (λ o. has_key (if_there (λ (x : Cell). x.key) optional.None o)) live in
       rw (keyed, cells, p) (by-number ho po he fewer (nat_lt 0 (ho + he)) refl (has_key cell.key) refl)
     where
