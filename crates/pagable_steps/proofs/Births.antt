@@ -3,14 +3,13 @@ use Rattle.std.proofs.Common.{◌≡◌, ℕ, ◌+◌, ◌<◌, ◌≤◌, ◌==
 use Rattle.std.specs.Prelude.{nat_lt, is_some}
 use Rattle.std.proofs.lemmas.Bool.Decides.{nat_tests}
 use Rattle.pagable_model.specs.declared.data_key.OptionalDataKey.TheVariants as optional
-use Rattle.pagable_world.specs.declared.handles.HandleRow.{HandleRow}
 use Rattle.pagable_world.specs.declared.handles.Owner.{Owner}
 use Rattle.pagable_world.specs.declared.rows.Mode.{Mode}
 use Rattle.pagable_world.specs.Plain.{OptionalDataKey, ArcRef, Among, one, times, if_there}
 use Rattle.pagable_world.specs.Kinds.{is_owned_by, is_pinning, is_pin, is_at, owner_value, pins, is_in_memory}
 use Rattle.pagable_world.specs.World.{Core, Cell, Values, key_at, is_here, type_at}
 use Rattle.pagable_world.specs.Refusals.{IsReference}
-use Rattle.pagable_world.specs.Calls.{row_of, next_node, is_named_by}
+use Rattle.pagable_world.specs.Calls.{is_named_by}
 use Rattle.pagable_world.specs.Pager.{PagerState, IsWhole, WellFormed}
 use Rattle.pagable_laws.proofs.Sums.{self-number, same-number, sum-le}
 use Rattle.pagable_laws.proofs.Trees.{same_some}
@@ -53,8 +52,8 @@ by-each all counted whole =
 abbrev pub next_of : Core → ℕ
 next_of w = w.last.node + 1
 
-module _ {N E : Type 0} {v : Values N} {s : PagerState N E} (s' : PagerState N E) (is : WellFormed v s) {me : Owner} {t : ℕ} {own : OptionalDataKey} {references : List ArcRef} {mode : Mode} (free : NotValues me)
-    (c : Comes s.core s'.core me t own references mode) where
+module _ {N E : Type 0} {v : Values N} {s : PagerState N E} (s' : PagerState N E) (is : WellFormed v s) {me : Owner} {t : ℕ} {own : OptionalDataKey} {references : List ArcRef} {mode : Mode}
+    (free : NotValues me) (c : Comes s.core s'.core me t own references mode) where
   no-value : s.values (next_of s.core) ≡ None
   no-value = by (s.values (next_of s.core)) refl (is.valued (next_of s.core) ∙ ap (λ o. is_some o && is_here s.core (next_of s.core)) (no-cell is.whole free c))
     where
@@ -66,14 +65,16 @@ module _ {N E : Type 0} {v : Values N} {s : PagerState N E} (s' : PagerState N E
   as-before n other same =
       record {
         valued =
-            ap is_some same ∙ (is.valued n ∙ sym (ap (λ o. is_some o && is_here s'.core n) (other-cell is.whole free c n other) ∙ ap (λ b. is_some (s.core.cells n) && b) (other-here is.whole free c n other)));
+            ap is_some same
+            ∙ (is.valued n ∙ sym (ap (λ o. is_some o && is_here s'.core n) (other-cell is.whole free c n other) ∙ ap (λ b. is_some (s.core.cells n) && b) (other-here is.whole free c n other)));
         typed = λ y has. typed-on is.whole free c n (v.node_type y) (is.typed n y (sym same ∙ has));
         inside = λ y q has. is.inside n y q (sym same ∙ has) ∙ sym (other-owned is.whole free c n other q);
         bare = λ none. other-bare is.whole free c n other ∙ is.bare n (sym same ∙ none);
         refers = λ y r has among. other-refers is.whole free c n r (is.references n y r (sym same ∙ has) among);
       }
 
-  module _ (x : N) (typed : v.node_type x ≡ t) (named : v.references x ≡ references) (pinning : is_pinning mode ≡ true) (values : (n : ℕ) → s'.values n ≡ (if n == next_of s.core then Some x else s.values n)) where
+  module _ (x : N) (typed : v.node_type x ≡ t) (named : v.references x ≡ references) (pinning : is_pinning mode ≡ true)
+      (values : (n : ℕ) → s'.values n ≡ (if n == next_of s.core then Some x else s.values n)) where
     at-new : s'.values (next_of s.core) ≡ Some x
     at-new = values (next_of s.core) ∙ ap (λ b. if b then Some x else s.values (next_of s.core)) (self-number (next_of s.core))
 
@@ -121,11 +122,14 @@ module _ {N E : Type 0} {v : Values N} {s : PagerState N E} (s' : PagerState N E
 
     away-new : is_here s'.core (next_of s.core) ≡ false
     away-new =
-        ap (λ p. is_in_memory p (key_at s'.core (next_of s.core))) (pins-now is.whole free c (next_of s.core) ∙ (ap (λ p. p + one (is_at (next_of s.core) new_row && is_pinning mode)) no-pins ∙ ap (λ b. 0 + one b) (ap (λ b. is_at (next_of s.core) new_row && b) unpinned ∙ and-false _)))
+        ap (λ p. is_in_memory p (key_at s'.core (next_of s.core))) none
         ∙ (ap (λ o. is_in_memory 0 (if_there (λ (cell : Cell). cell.key) optional.None o)) (new-cell is.whole free c) ∙ ap (is_in_memory 0) keyed)
       where
-        new_row : HandleRow
-        new_row = row_of (s.core.last.handle + 1) (next_node s.core) mode me
+        its : Bool
+        its = next_of s.core == next_of s.core
+
+        none : pins (next_of s.core) s'.core.rows ≡ 0
+        none = pins-now is.whole free c (next_of s.core) ∙ (ap (λ p. p + one (its && is_pinning mode)) no-pins ∙ ap (λ b. 0 + one b) (ap (λ b. its && b) unpinned ∙ and-false its))
 
     owns-none : owns_any (next_of s.core) s'.core.rows ≡ 0
     unfolding is_named_by

@@ -34,7 +34,14 @@ module _ {w w' : Core} {me : Owner} {t : ℕ} {own : OptionalDataKey} {reference
   new-refers r among =
       let is = good w me [] references c.good r among in
       let named_row : named is.row ≡ true = ap (is_named_by references) (found-number r.handle.0 w.rows is.row is.live) ∙ among-named references r among in
-      record { row = after is.row true; live = found-now whole free c r.handle.0 is.row true is.live named_row; at = is.at; owned = refl; fits = is.fits; typed = typed-on whole free c r.node.0 _ is.typed }
+      record {
+        row = after is.row true;
+        live = found-now whole free c r.handle.0 is.row true is.live named_row;
+        at = is.at;
+        owned = refl;
+        fits = is.fits;
+        typed = typed-on whole free c r.node.0 _ is.typed;
+      }
 
   module _ (bare : owns_any next w.rows ≡ 0) where
     unowned : (h : HandleRow) → Among w.rows h → is_owned_by (owner_value next) h ≡ false

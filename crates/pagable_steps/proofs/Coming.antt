@@ -102,7 +102,8 @@ module _ {w w' : Core} {me : Owner} {t : ℕ} {own : OptionalDataKey} {reference
   same-test n is test none h among false e = refl
 
   -- what counts as it did, or as told, among the handles that there were
-  pub count-now : (test : HandleRow → Bool) (count : HandleRow → ℕ) → test new ≡ false → ((h : HandleRow) → Among w.rows h → one (test (if named h then to h else h)) ≡ count h) → times test w'.rows ≡ sum_by count w.rows
+  pub count-now : (test : HandleRow → Bool) (count : HandleRow → ℕ) → test new ≡ false
+      → ((h : HandleRow) → Among w.rows h → one (test (if named h then to h else h)) ≡ count h) → times test w'.rows ≡ sum_by count w.rows
   count-now test count none each =
       ap (times test) c.rows ∙ (push-none test (moved (is_named_by references) (owner_value next) w.rows) new none
       ∙ sum-mapped (λ h. if named h then to h else h) (λ h. one (test h)) count w.rows each)
@@ -126,7 +127,15 @@ module _ {w w' : Core} {me : Owner} {t : ℕ} {own : OptionalDataKey} {reference
       ∙ (ap (λ o. or_else o (find_row q (new ∷ []))) (found-after named to (λ h. refl) q w.rows row live) ∙ ap (λ b. Some (if b then to row else row)) is))
 
   pub other-refers : (n : ℕ) (r : ArcRef) → IsReference w (owner_value n) r → IsReference w' (owner_value n) r
-  other-refers n r is = record { row = is.row; live = found-now r.handle.0 is.row false is.live (unnamed (named is.row) refl); at = is.at; owned = is.owned; fits = is.fits; typed = typed-on r.node.0 _ is.typed }
+  other-refers n r is =
+      record {
+        row = is.row;
+        live = found-now r.handle.0 is.row false is.live (unnamed (named is.row) refl);
+        at = is.at;
+        owned = is.owned;
+        fits = is.fits;
+        typed = typed-on r.node.0 _ is.typed;
+      }
     where
       unnamed : (b : Bool) → named is.row ≡ b → named is.row ≡ false
       unnamed false e = e

@@ -47,7 +47,9 @@ one-row q (h ∷ hs) row ordered found = at (λ f. one-row q hs row (λ i j d le
 pub among-named : (rs : List ArcRef) (r : ArcRef) → Among rs r → is_named_by rs r.handle.0 ≡ true
 unfolding is_named_by
 among-named [] r among = absurd (let e = among.1 in cc)
-among-named (x ∷ xs) r (zero, is) = let same : x ≡ r = cc in ap (λ (y : ArcRef). (y.handle.0 == r.handle.0) || is_named_by xs r.handle.0) same ∙ ap (λ b. b || is_named_by xs r.handle.0) (self-number r.handle.0)
+among-named (x ∷ xs) r (zero, is) =
+    let same : x ≡ r = cc in
+    ap (λ (y : ArcRef). (y.handle.0 == r.handle.0) || is_named_by xs r.handle.0) same ∙ ap (λ b. b || is_named_by xs r.handle.0) (self-number r.handle.0)
 among-named (x ∷ xs) r (suc i, is) = rw (among-named xs r (i, is)) (or-true (x.handle.0 == r.handle.0))
   where
     or-true : (b : Bool) → (b || true) ≡ true
@@ -64,7 +66,9 @@ module _ (w : Core) (owner : Owner) where
       at true true true rest none = absurd (cc)
       at true false true rest none = absurd (cc)
 
-      by-row : (found : Option HandleRow) → if_there (λ (row : HandleRow). row_fault w r (refused_if (not (is_owner owner row.owner) || is_in seen r.handle.0) errors.NotYours) row) (Some errors.NoSuchHandle) found ≡ None → is_in seen r.handle.0 ≡ false
+      by-row : (found : Option HandleRow)
+          → if_there (λ (row : HandleRow). row_fault w r (refused_if (not (is_owner owner row.owner) || is_in seen r.handle.0) errors.NotYours) row) (Some errors.NoSuchHandle) found ≡ None
+          → is_in seen r.handle.0 ≡ false
       by-row None none = absurd (cc)
       by-row (Some row) none = at (row.node.0 == r.node.0) (is_owner owner row.owner) (is_in seen r.handle.0) _ none
 
@@ -86,9 +90,11 @@ module _ (w : Core) (owner : Owner) where
   named-once seen (r ∷ rs) q none = at (named-once (r.handle.0 ∷ seen) rs q (or-none _ _ none).1) (r.handle.0 == q) refl (sum_by-cons (λ (x : ArcRef). one (x.handle.0 == q)) r rs)
     where
       at : times (λ (x : ArcRef). x.handle.0 == q) rs ≡ one (is_named_by rs q) → (b : Bool) → (r.handle.0 == q) ≡ b
-          → times (λ (x : ArcRef). x.handle.0 == q) (r ∷ rs) ≡ one (r.handle.0 == q) + times (λ (x : ArcRef). x.handle.0 == q) rs → times (λ (x : ArcRef). x.handle.0 == q) (r ∷ rs) ≡ one (b || is_named_by rs q)
+          → times (λ (x : ArcRef). x.handle.0 == q) (r ∷ rs) ≡ one (r.handle.0 == q) + times (λ (x : ArcRef). x.handle.0 == q) rs
+          → times (λ (x : ArcRef). x.handle.0 == q) (r ∷ rs) ≡ one (b || is_named_by rs q)
       at more true e sum =
           let f : one (r.handle.0 == q) ≡ 1 = ap one e in
-          let g : one (is_named_by rs q) ≡ 0 = ap one (seen-unnamed (r.handle.0 ∷ seen) rs q (or-none (reference_fault w owner seen r) (references_fault w owner (r.handle.0 ∷ seen) rs) none).1 (ap (λ b. b || is_in seen q) e)) in
+          let rest = (or-none (reference_fault w owner seen r) (references_fault w owner (r.handle.0 ∷ seen) rs) none).1 in
+          let g : one (is_named_by rs q) ≡ 0 = ap one (seen-unnamed (r.handle.0 ∷ seen) rs q rest (ap (λ b. b || is_in seen q) e)) in
           omega (arith, more, f, g, sum)
       at more false e sum = let f : one (r.handle.0 == q) ≡ 0 = ap one e in omega (arith, more, f, sum)

@@ -9,13 +9,13 @@ use Rattle.pagable_world.specs.declared.handles.Owner.{Owner}
 use Rattle.pagable_world.specs.declared.handles.Owner.TheVariants as owners
 use Rattle.pagable_world.specs.declared.rows.Mode.{Mode}
 use Rattle.pagable_world.specs.declared.rows.Mode.TheVariants as modes
-use Rattle.pagable_world.specs.Plain.{Error, Blob, Kind, HandleNumber, Among, one, if_there, is_shared_kind, is_loose_kind, is_pinned_kind}
+use Rattle.pagable_world.specs.Plain.{Error, Blob, Kind, HandleNumber, WorkerNumber, Among, one, if_there, is_shared_kind, is_loose_kind, is_pinned_kind}
 use Rattle.pagable_world.specs.Kinds.{is_handle, is_at, is_owner, is_owned_by, is_pinning, is_shared, is_share, mode_of, held, pins, is_in_memory}
 use Rattle.pagable_world.specs.World.{Core, Cell, Alike, usable, is_here}
 use Rattle.pagable_world.specs.Cascade.{only_handle}
 use Rattle.pagable_world.specs.Refusals.{Owns}
 use Rattle.pagable_world.specs.Calls.{with_known, ScheduleCall, TakeCall, ReserveCall, RecallCall, OfferCall, ClearCall, Asked, FetchCall, StoreCall, FlushCall}
-use Rattle.pagable_world.specs.Events.{with_worker}
+use Rattle.pagable_world.specs.Events.{with_worker, with_entry_taken}
 use Rattle.pagable_world.specs.Pager.{IsWhole}
 use Rattle.pagable_laws.proofs.Sums.{self-number, same-number, at-most-sum, counted, one-true}
 use Rattle.pagable_laws.proofs.Outlasting.{NotValues, stands-whole, once}
@@ -55,7 +55,8 @@ module _ {w : Core} (whole : IsWhole w) where
   -- ---- the list
 
   -- the rows with the number of an own handle, or of an entry of the list, are no value's
-  pub own-free : {me : Owner} {fits : Mode → Bool} (h : HandleNumber) (row : HandleRow) → NotValues me → Owns w me h fits row → (x : HandleRow) → Among w.rows x → only_handle h x.number.0 ≡ true → NotValues x.owner
+  pub own-free : {me : Owner} {fits : Mode → Bool} (h : HandleNumber) (row : HandleRow) → NotValues me → Owns w me h fits row
+      → (x : HandleRow) → Among w.rows x → only_handle h x.number.0 ≡ true → NotValues x.owner
   own-free h row free owns x among is = subst NotValues (sym (ap (λ (y : HandleRow). y.owner) ((stands-whole whole.handles h.0 row owns.live).only x among (same-number _ _ is)) ∙ owns.own)) free
 
   pub listed-free : (i : ℕ) (h : HandleNumber) → slice_get w.list i ≡ Some h → (x : HandleRow) → Among w.rows x → only_handle h x.number.0 ≡ true → NotValues x.owner
@@ -81,6 +82,10 @@ module _ {w : Core} (whole : IsWhole w) where
   pub takes : {w' : Core} {me : Owner} (i : ℕ) → NotValues me → (h : Option HandleNumber) → TakeCall w me i h w' → Spares w w'
   takes {me = me} i free (Some h) c = spares-then (spares-moved w (only_handle h) me free (listed-free i h c.0)) (spares-same c.1.rows c.1.cells)
   takes i free None c = spares-alike c.1
+
+  -- a worker comes for an entry, which moves to it
+  pub starts-listed : {w' : Core} (i : ℕ) (h : HandleNumber) (v : WorkerNumber) → slice_get w.list i ≡ Some h → Alike (with_worker (with_entry_taken w i h v)) w' → Spares w w'
+  starts-listed i h v at a = spares-then (spares-moved w (only_handle h) (owners.Worker v) (λ n e. cc) (listed-free i h at)) (spares-same a.rows a.cells)
 
   -- ---- nodes that the cache gives
 
@@ -126,7 +131,8 @@ module _ {w : Core} (whole : IsWhole w) where
       third : (kind % 3 == 0) ≡ false → (kind % 3 == 1) ≡ false → (kind % 3 == 2) ≡ true
       third a b = grind (arith, nat_tests)
 
-      by : (a : Bool) → is_shared_kind kind ≡ a → (b : Bool) → is_loose_kind kind ≡ b → is_pinning (if a then modes.Shared else if b then modes.LooseUnpinned else modes.Pinned) ≡ true → is_here w n ≡ true
+      by : (a : Bool) → is_shared_kind kind ≡ a → (b : Bool) → is_loose_kind kind ≡ b
+          → is_pinning (if a then modes.Shared else if b then modes.LooseUnpinned else modes.Pinned) ≡ true → is_here w n ≡ true
       by true e b f pinning = shared e
       by false e true f pinning = absurd (cc)
       by false e false f pinning = pinned (third e f)
@@ -141,7 +147,8 @@ module _ {w : Core} (whole : IsWhole w) where
   recalls free (Err e) c = spares-alike c.refused.stays
 
   -- an offer by which no handle is given up: the cache learns the node, or the offered handle is answered itself
-  pub offers : {w' : Core} {me : Owner} {kind : Kind} {key : ℕ} {h : HandleNumber} (r : Result (Option HandleNumber) Error) → ((k : HandleNumber) → r ≡ Ok (Some k) → k ≡ h) → OfferCall w me kind key h r w' → Spares w w'
+  pub offers : {w' : Core} {me : Owner} {kind : Kind} {key : ℕ} {h : HandleNumber} (r : Result (Option HandleNumber) Error)
+      → ((k : HandleNumber) → r ≡ Ok (Some k) → k ≡ h) → OfferCall w me kind key h r w' → Spares w w'
   offers (Ok None) back c = let a = c.answers.3.2 in spares-same a.rows a.cells
   offers {h = h} (Ok (Some k)) back c = elim c.answers.3 [
     | inl (closed, same, a) ↦ spares-alike a

@@ -103,12 +103,14 @@ module _ (w : Core) (test : HandleRow → Bool) (f : HandleRow → HandleRow) wh
       record {
         cells = λ n. refl;
         here = here;
-        owned = λ n q. sum-mapped _ _ _ w.rows (λ h among. ap (λ b. one b) (by-owner n h among (λ x. is_handle q x && is_owned_by (owner_value n) x) (λ x is. ap (λ b. is_handle q x && b) is ∙ and-false _) (test h) refl));
+        owned = λ n q. sum-mapped _ _ _ w.rows
+            (λ h among. ap (λ b. one b) (by-owner n h among (λ x. is_handle q x && is_owned_by (owner_value n) x) (λ x is. ap (λ b. is_handle q x && b) is ∙ and-false _) (test h) refl));
         bare = λ n. sum-mapped _ _ _ w.rows (λ h among. ap (λ b. one b) (by-owner n h among (λ x. is_owned_by (owner_value n) x) (λ x is. is) (test h) refl));
         rows = λ n q row live own. found-after test f free.numbers q w.rows row live ∙ unchanged n q row live own (test row) refl;
       }
     where
-      by-owner : (n : ℕ) (h : HandleRow) → Among w.rows h → (c : HandleRow → Bool) → ((x : HandleRow) → is_owned_by (owner_value n) x ≡ false → c x ≡ false) → (b : Bool) → test h ≡ b → c (if b then f h else h) ≡ c h
+      by-owner : (n : ℕ) (h : HandleRow) → Among w.rows h → (c : HandleRow → Bool) → ((x : HandleRow) → is_owned_by (owner_value n) x ≡ false → c x ≡ false)
+          → (b : Bool) → test h ≡ b → c (if b then f h else h) ≡ c h
       by-owner n h among c none true is = none (f h) (not-owned n (f h).owner (free.after h among is)) ∙ sym (none h (not-owned n h.owner (free.before h among is)))
       by-owner n h among c none false is = refl
 
@@ -117,7 +119,8 @@ module _ (w : Core) (test : HandleRow → Bool) (f : HandleRow → HandleRow) wh
       unchanged n q row live own false is = refl
 
 -- handles of a set that aren't values' move to another who is none
-pub spares-moved : (w : Core) (set : ℕ → Bool) (owner : Owner) → NotValues owner → ((h : HandleRow) → Among w.rows h → set h.number.0 ≡ true → NotValues h.owner) → Spares w (record w { rows = moved set owner w.rows })
+pub spares-moved : (w : Core) (set : ℕ → Bool) (owner : Owner) → NotValues owner
+    → ((h : HandleRow) → Among w.rows h → set h.number.0 ≡ true → NotValues h.owner) → Spares w (record w { rows = moved set owner w.rows })
 spares-moved w set owner free before =
     spares-changed w (λ h. set h.number.0) (λ h. record h { owner = owner }) (record { numbers = λ h. refl; before = before; after = λ h among is. free })
     (λ n. ap (λ p. is_in_memory p (key_at w n)) (sum-mapped _ _ _ w.rows (λ h among. same-pin n h (set h.number.0))))
@@ -136,7 +139,8 @@ here-by zero q key le is = at (nat_lt 0 q)
 here-by (suc p) q key le is = let some : nat_lt 0 q ≡ true = grind (arith, nat_tests) in rw some refl
 
 -- the one row of a handle takes a mode that pins, where its node's value is in memory
-pub spares-mode : (w : Core) (h : HandleNumber) (mode : Mode) (row : HandleRow) → NotValues row.owner → ((x : HandleRow) → Among w.rows x → x.number.0 ≡ h.0 → x ≡ row) → is_pinning mode ≡ true → is_here w row.node.0 ≡ true → Spares w (with_mode w h mode)
+pub spares-mode : (w : Core) (h : HandleNumber) (mode : Mode) (row : HandleRow) → NotValues row.owner → ((x : HandleRow) → Among w.rows x → x.number.0 ≡ h.0 → x ≡ row)
+    → is_pinning mode ≡ true → is_here w row.node.0 ≡ true → Spares w (with_mode w h mode)
 spares-mode w h mode row free only pinning may =
     spares-changed w (is_handle h.0) to (record { numbers = λ x. refl; before = λ x among is. is-free x among is; after = λ x among is. is-free x among is }) (λ n. at n (row.node.0 == n) refl)
   where
