@@ -1,6 +1,6 @@
 -- Calls by which handles go, and values with them, leave a pager in step.
-use Rattle.std.proofs.Common.{◌≡◌, ℕ, zero, suc, ◌<◌, ◌==◌, ◌&&◌, ◌||◌, Bool, true, false, List, [], ◌∷◌, Option, Some, None, Ok, Err, inl, inr, refl, ap, sym, subst, ◌∙◌, if◌then◌else◌, arith}
-use Rattle.std.specs.Prelude.{Result, not, nat_lt}
+use Rattle.std.proofs.Common.{◌≡◌, ℕ, ◌<◌, ◌==◌, ◌&&◌, ◌||◌, Bool, true, false, List, [], ◌∷◌, Option, Some, None, Ok, Err, inl, inr, refl, ap, sym, ◌∙◌, arith}
+use Rattle.std.specs.Prelude.{Result, not}
 use Rattle.std.proofs.lemmas.Bool.{and_parts}
 use Rattle.std.proofs.lemmas.Bool.Decides.{nat_tests}
 use Rattle.pagable_model.specs.declared.error.Error.TheVariants as errors
@@ -8,11 +8,11 @@ use Rattle.pagable_world.specs.declared.handles.HandleRow.{HandleRow}
 use Rattle.pagable_world.specs.declared.handles.Owner.TheVariants as owners
 use Rattle.pagable_world.specs.declared.handles.Owner.{Owner}
 use Rattle.pagable_world.specs.Plain.{Error, ArcRef, Kind, HandleNumber, LoadNumber, Among, is_in, one, times, if_there}
-use Rattle.pagable_world.specs.Kinds.{find_row, is_owner, is_owned_by}
+use Rattle.pagable_world.specs.Kinds.{find_row, is_owner, is_owned_by, pins}
 use Rattle.pagable_world.specs.World.{Core, Values, Alike, row_at, usable}
 use Rattle.pagable_world.specs.Refusals.{refused_if, named_fault}
-use Rattle.pagable_world.specs.Calls.{moved, is_named_by, is_listed, UnpinCall, ReleaseCall, SetKeyCall, ScheduleCall, OfferCall, CloseCall}
-use Rattle.pagable_world.specs.LoadCalls.{without_load, is_owned_in, numbers_of, Adopts, EndCall, HandOverCall, DropCall, LoadCloses}
+use Rattle.pagable_world.specs.Calls.{is_named_by, is_listed, UnpinCall, ReleaseCall, SetKeyCall, ScheduleCall, OfferCall, CloseCall}
+use Rattle.pagable_world.specs.LoadCalls.{is_owned_in, numbers_of, Adopts, EndCall, HandOverCall, DropCall, LoadCloses}
 use Rattle.pagable_world.specs.Pager.{PagerState, IsWhole, WellFormed}
 use Rattle.pagable_laws.specs.TreeSteps.{AreGood}
 use Rattle.pagable_laws.proofs.Sums.{same-number, one-true, counted}
@@ -24,7 +24,8 @@ use Rattle.pagable_steps.proofs.Spared.{Spares}
 use Rattle.pagable_steps.proofs.SparedParts.{spares-then, spares-same, spares-alike, spares-moved}
 use Rattle.pagable_steps.proofs.SparedLists.{own-free, listed-free, schedules, offers, spares-known}
 use Rattle.pagable_steps.proofs.SparedLoads.{not-load}
-use Rattle.pagable_steps.proofs.Keeping.{AreFree, Leaves, Keeps, found-whole, fell, stayed, spares-keeps, unpin-keeps, keyed-keeps}
+use Rattle.pagable_steps.proofs.Falling.{Sweeps}
+use Rattle.pagable_steps.proofs.Keeping.{AreFree, Leaves, found-whole, fell, stayed, spares-keeps, unpin-keeps, keyed-keeps}
 
 -- ---- what no value owns
 
@@ -41,12 +42,11 @@ module _ {w : Core} (whole : IsWhole w) where
   both-free f g free h among is = free h among (and_parts (f h.number.0) (g h.number.0) is).0
 
   -- what good references name
-  pub named-free : (l : LoadNumber) (rs : List ArcRef) → AreGood w (owners.Load l) rs → AreFree w (is_named_by rs)
-  named-free l rs right h among is =
+  pub named-owner : (l : LoadNumber) (rs : List ArcRef) → AreGood w (owners.Load l) rs → (h : HandleRow) → Among w.rows h → is_named_by rs h.number.0 ≡ true → h.owner ≡ owners.Load l
+  named-owner l rs right h among is =
       let a = named-among 0 rs h.number.0 is in
       let r = right a.0 a.1 in
-      let same = (stands-whole whole.handles h.number.0 r.row (ap (λ q. find_row q w.rows) (sym a.2) ∙ r.live)).only h among refl in
-      not-loads l h.owner (ap (λ (x : HandleRow). x.owner) same ∙ r.owned)
+      ap (λ (x : HandleRow). x.owner) ((stands-whole whole.handles h.number.0 r.row (ap (λ q. find_row q w.rows) (sym a.2) ∙ r.live)).only h among refl) ∙ r.owned
 
   -- what the list owns
   all-listed-free : AreFree w (is_listed w)
@@ -63,7 +63,8 @@ module _ {w : Core} (whole : IsWhole w) where
   handed-free l (x ∷ hs) seen none h among is = by (λ rest more. handed-free l hs (x.0 ∷ seen) rest h among more) (x.0 == h.number.0) refl (neither _ _ none) is
     where
       by : (named_fault w (owners.Load l) (x.0 ∷ seen) hs ≡ None → is_in (numbers_of hs) h.number.0 ≡ true → NotValues h.owner) → (b : Bool) → (x.0 == h.number.0) ≡ b
-          → (if_there (λ (row : HandleRow). refused_if (not (is_owner (owners.Load l) row.owner) || is_in seen x.0) errors.NotYours) (Some errors.NoSuchHandle) (row_at w x) ≡ None) × (named_fault w (owners.Load l) (x.0 ∷ seen) hs ≡ None)
+          → (if_there (λ (row : HandleRow). refused_if (not (is_owner (owners.Load l) row.owner) || is_in seen x.0) errors.NotYours) (Some errors.NoSuchHandle) (row_at w x) ≡ None)
+          × (named_fault w (owners.Load l) (x.0 ∷ seen) hs ≡ None)
           → (b || is_in (numbers_of hs) h.number.0) ≡ true → NotValues h.owner
       by more false e (first, rest) is = more rest is
       by more true e (first, rest) is =
@@ -77,9 +78,13 @@ module _ {w : Core} (whole : IsWhole w) where
 
 -- ---- the calls
 
-module _ {N E : Type 0} {v : Values N} {s s' : PagerState N E} (is : WellFormed v s) (left : Leaves s.values s') where
-  still : Spares s.core s.core
-  still = spares-same refl (λ n. refl)
+still : {w : Core} → Spares w w
+still = spares-same refl (λ n. refl)
+
+module _ {N E : Type 0} {v : Values N} {s s' : PagerState N E} (is : WellFormed v s)
+    (swept : Sweeps s.values s'.core s'.values) (counts : (n : ℕ) → s'.counts n ≡ pins n s'.core.rows) (whole : IsWhole s'.core) where
+  left : Leaves s.values s'
+  left = record { swept = swept; counted = counts; whole = whole }
 
   stays : Alike s.core s'.core → WellFormed v s'
   stays a = stayed is (spares-alike a) left
@@ -91,14 +96,18 @@ module _ {N E : Type 0} {v : Values N} {s s' : PagerState N E} (is : WellFormed 
   dropped {l = l} c = elim c.does [ inl refused ↦ stays refused.stays | inr (load, owned, f) ↦ load_closed l f ]
 
   -- the end of a load that is refused, or was in vain
-  pub end_refused : {me : Owner} {l : LoadNumber} {x : N} {t : ℕ} {references : List ArcRef} (e : Error) (back : Option N) → EndCall s.core me l x t references (Err (e, back)) s'.core → WellFormed v s'
+  pub end_refused : {me : Owner} {l : LoadNumber} {x : N} {t : ℕ} {references : List ArcRef} (e : Error) (back : Option N) → EndCall s.core me l x t references (Err (e, back)) s'.core
+      → WellFormed v s'
   end_refused e (Some y) c = stays c.refused.1.stays
   end_refused {l = l} e None c = load_closed l c.refused.closes
 
   -- what was read is dropped, since the cache gives a node
-  pub adopted_known : {me : Owner} {l : LoadNumber} {kind : Kind} {key t n : ℕ} {references : List ArcRef} {k : HandleNumber} → Adopts s.core me l kind key t references k s'.core → usable s.core kind.0 key ≡ Some n → WellFormed v s'
+  pub adopted_known : {me : Owner} {l : LoadNumber} {kind : Kind} {key t n : ℕ} {references : List ArcRef} {k : HandleNumber} → Adopts s.core me l kind key t references k s'.core
+      → usable s.core kind.0 key ≡ Some n → WellFormed v s'
   adopted_known {l = l} {kind} {key} {references = references} a known = elim a.makes [
-    | inl (n, usable, f) ↦ fell is (spares-keeps (spares-known is.whole kind key n (not-load l) usable)) f.falls (named-free is.whole l references (good s.core (owners.Load l) [] references a.good)) left
+    | inl (n, usable, f) ↦
+        let right = good s.core (owners.Load l) [] references a.good in
+        fell is (spares-keeps (spares-known is.whole kind key n (not-load l) usable)) f.falls (λ h among e. not-loads is.whole l h.owner (named-owner is.whole l references right h among e)) left
     | inr (none, few, alike) ↦ absurd (let e : None ≡ Some _ = sym none ∙ known in cc)
   ]
 
@@ -142,5 +151,6 @@ module _ {N E : Type 0} {v : Values N} {s s' : PagerState N E} (is : WellFormed 
     handed_over {l} {hs} (Ok u) c =
         let named = (neither _ _ (neither _ _ c.hands.0).1).1 in
         let moves = spares-moved s.core (is_in (numbers_of hs)) me none (handed-free is.whole l hs [] named) in
-        fell is (spares-keeps (spares-then moves (spares-same refl (λ n. refl)))) c.hands.1.falls (both-free is.whole (is_owned_in s.core (owners.Load l)) (λ q. not (is_in (numbers_of hs) q)) (load-free is.whole l)) left
+        fell is (spares-keeps (spares-then moves (spares-same refl (λ n. refl)))) c.hands.1.falls
+        (both-free is.whole (is_owned_in s.core (owners.Load l)) (λ q. not (is_in (numbers_of hs) q)) (load-free is.whole l)) left
     handed_over (Err e) c = stays c.refused.1

@@ -1,9 +1,7 @@
 -- What a call does directly before handles go: nodes and values stay as they are, but that a node may get a key and lose a pin.
-use Rattle.std.proofs.Common.{◌≡◌, ℕ, suc, zero, ◌+◌, ◌<◌, ◌≤◌, ◌==◌, ◌&&◌, ◌||◌, Bool, true, false, List, [], ◌∷◌, refl, ap, sym, subst, ◌∙◌, inl, inr, if◌then◌else◌, arith}
+use Rattle.std.proofs.Common.{◌≡◌, ℕ, suc, zero, ◌<◌, ◌≤◌, ◌==◌, ◌&&◌, ◌||◌, Bool, true, false, List, refl, ap, sym, subst, ◌∙◌, if◌then◌else◌, arith}
 use Rattle.std.specs.Prelude.{Option, Some, None, is_some, not, nat_lt, sum_by}
 use Rattle.std.proofs.lemmas.Bool.{and_parts}
-use Rattle.std.proofs.lemmas.Bool.Decides.{nat_tests}
-use Rattle.pagable_model.specs.declared.numbers.ArcRef.{ArcRef}
 use Rattle.pagable_model.specs.declared.data_key.OptionalDataKey.TheVariants as optional
 use Rattle.pagable_world.specs.declared.handles.HandleRow.{HandleRow}
 use Rattle.pagable_world.specs.declared.handles.Owner.{Owner}
@@ -11,18 +9,18 @@ use Rattle.pagable_world.specs.declared.rows.Mode.{Mode}
 use Rattle.pagable_world.specs.declared.rows.Mode.TheVariants as modes
 use Rattle.pagable_world.specs.Plain.{OptionalDataKey, HandleNumber, NodeNumber, Among, one, if_there}
 use Rattle.pagable_world.specs.Kinds.{find_row, is_handle, is_owner, is_owned_by, owner_value, is_pin, is_pinning, pins, is_in_memory, has_key}
-use Rattle.pagable_world.specs.World.{Core, Cell, Alike, Values, type_at, key_at, is_here}
+use Rattle.pagable_world.specs.World.{Core, Cell, Values, type_at, key_at, is_here}
 use Rattle.pagable_world.specs.Cascade.{Falls}
-use Rattle.pagable_world.specs.Refusals.{Owns, IsReference}
+use Rattle.pagable_world.specs.Refusals.{Owns}
 use Rattle.pagable_world.specs.Calls.{with_mode, with_key}
 use Rattle.pagable_world.specs.Pager.{PagerState, HandlesAreWhole, IsWhole, WellFormed}
 use Rattle.pagable_laws.proofs.Trees.{same_some}
-use Rattle.pagable_laws.proofs.Sums.{same-number, self-number, one-true, sum-le, at-most-sum, counted}
+use Rattle.pagable_laws.proofs.Sums.{same-number, self-number, one-true, sum-le, counted}
 use Rattle.pagable_laws.proofs.Goes.{found-number}
 use Rattle.pagable_laws.proofs.GoodReferences.{same-owner}
 use Rattle.pagable_laws.proofs.Outlasting.{NotValues, Stands, among-found, none-found, once, found-after, stands-whole}
 use Rattle.pagable_steps.proofs.Spared.{owns, owns_any, Spares, spared}
-use Rattle.pagable_steps.proofs.SparedParts.{spares-alike, sum-mapped, here-by}
+use Rattle.pagable_steps.proofs.SparedParts.{sum-mapped, here-by}
 use Rattle.pagable_steps.proofs.Staying.{owned-some}
 use Rattle.pagable_steps.proofs.Falling.{Sits, Sweeps, fell-from}
 
@@ -68,11 +66,11 @@ owned-row {w} whole n q some =
     let both = and_parts (is_handle q c.0) (is_owned_by (owner_value n) c.0) (one-true _ c.2) in
     record { row = c.0; live = subst (λ p. find_row p w.rows ≡ Some c.0) (same-number _ _ both.0) (found-whole whole c.0 c.1); own = same-owner (owner_value n) c.0.owner both.1 }
 
-one-value : (n m : ℕ) (o : Owner) → o ≡ owner_value n → o ≡ owner_value m → m ≡ n
+pub one-value : (n m : ℕ) (o : Owner) → o ≡ owner_value n → o ≡ owner_value m → m ≡ n
 one-value n m o a b = same-number m n (sym (ap (is_owner (owner_value n)) b) ∙ (ap (is_owner (owner_value n)) a ∙ self-number n))
 
 -- values that own nothing of any number own nothing
-none-owned : (n : ℕ) (rows rows' : List HandleRow) → ((q : ℕ) → owns n q rows' ≡ owns n q rows) → owns_any n rows ≡ 0 → owns_any n rows' ≡ 0
+pub none-owned : (n : ℕ) (rows rows' : List HandleRow) → ((q : ℕ) → owns n q rows' ≡ owns n q rows) → owns_any n rows ≡ 0 → owns_any n rows' ≡ 0
 none-owned n rows rows' same none = at (owns_any n rows') refl
   where
     at : (k : ℕ) → owns_any n rows' ≡ k → owns_any n rows' ≡ 0
@@ -81,7 +79,8 @@ none-owned n rows rows' same none = at (owns_any n rows') refl
         let c = counted (λ h. one (is_owned_by (owner_value n) h)) rows' (omega (arith, e)) in
         let a = owned-some n rows' c.0 c.1 (one-true _ c.2) in
         let b = same c.0.number.0 in
-        let le = sum-le (λ h. one (is_handle c.0.number.0 h && is_owned_by (owner_value n) h)) (λ h. one (is_owned_by (owner_value n) h)) rows (λ h among. less (is_handle c.0.number.0 h) (is_owned_by (owner_value n) h)) in
+        let le = sum-le (λ h. one (is_handle c.0.number.0 h && is_owned_by (owner_value n) h)) (λ h. one (is_owned_by (owner_value n) h)) rows
+        (λ h among. less (is_handle c.0.number.0 h) (is_owned_by (owner_value n) h)) in
         absurd (omega (arith, a, b, le, none))
       where
         less : (a b : Bool) → one (a && b) ≤ one b
@@ -98,9 +97,12 @@ type-some w n = at (w.cells n)
     at None = refl
     at (Some cell) = refl
 
+pub owns-then : {w m w' : Core} → OwnsAlike w m → OwnsAlike m w' → OwnsAlike w w'
+owns-then a b = record { typed = λ n. b.typed n ∙ a.typed n; owned = λ n q. b.owned n q ∙ a.owned n q; rows = λ n q row live own. b.rows n q row (a.rows n q row live own) own }
+
 -- where values own alike they stand again, if nodes that are in memory have one
-pub sits-on : {N : Type 0} {v : Values N} {values : ℕ → Option N} {w m : Core} → Sits v w values → OwnsAlike w m → ((n : ℕ) → is_some (m.cells n) ≡ true → is_here m n ≡ true → is_some (values n) ≡ true)
-    → Sits v m values
+pub sits-on : {N : Type 0} {v : Values N} {values : ℕ → Option N} {w m : Core} → Sits v w values → OwnsAlike w m
+    → ((n : ℕ) → is_some (m.cells n) ≡ true → is_here m n ≡ true → is_some (values n) ≡ true) → Sits v m values
 sits-on {w = w} {m} sits k there =
     record {
       there = there;
@@ -178,11 +180,14 @@ module _ (w : Core) (h : HandleNumber) (mode : Mode) (row : HandleRow) (stands :
   mode-owned none =
       record {
         typed = λ n. refl;
-        owned = λ n q. sum-mapped after (λ x. one (is_handle q x && is_owned_by (owner_value n) x)) (λ x. one (is_handle q x && is_owned_by (owner_value n) x)) w.rows (λ x among. same n q x (is_handle h.0 x));
+        owned = λ n q. sum-mapped after (its n q) (its n q) w.rows (λ x among. same n q x (is_handle h.0 x));
         rows = λ n q x live own. found-after (is_handle h.0) to (λ y. refl) q w.rows x live ∙ ap (λ b. Some (if b then to x else x)) (other n q x live own (is_handle h.0 x) refl);
       }
     where
-      same : (n q : ℕ) (x : HandleRow) (b : Bool) → one (is_handle q (if b then to x else x) && is_owned_by (owner_value n) (if b then to x else x)) ≡ one (is_handle q x && is_owned_by (owner_value n) x)
+      its : ℕ → ℕ → HandleRow → ℕ
+      its n q x = one (is_handle q x && is_owned_by (owner_value n) x)
+
+      same : (n q : ℕ) (x : HandleRow) (b : Bool) → its n q (if b then to x else x) ≡ its n q x
       same n q x true = refl
       same n q x false = refl
 

@@ -12,3 +12,5 @@ pub mod Naming
 pub mod Born
 pub mod Births
 pub mod BirthCalls
+pub mod Moving
+pub mod Installing

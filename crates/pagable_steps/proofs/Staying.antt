@@ -1,28 +1,21 @@
 -- A cascade takes no handle of a value that stays, and a value stays exactly where its node is in memory afterwards.
-use Rattle.std.proofs.Common.{◌≡◌, ℕ, ◌+◌, ◌<◌, ◌≤◌, ◌==◌, ◌&&◌, ◌||◌, Bool, true, false, List, [], ◌∷◌, ◌++◌, refl, ap, sym, subst, ◌∙◌, if◌then◌else◌, arith}
-use Rattle.std.specs.Prelude.{Option, Some, None, is_some, not, nat_lt, nat_eq, filter, sum_by, cond}
+use Rattle.std.proofs.Common.{◌≡◌, ℕ, ◌+◌, ◌<◌, ◌≤◌, ◌==◌, ◌&&◌, Bool, true, false, List, [], ◌∷◌, refl, ap, sym, subst, ◌∙◌, if◌then◌else◌, arith}
+use Rattle.std.specs.Prelude.{Some, None, is_some, not, nat_lt, nat_eq, cond, sum_by}
 use Rattle.std.proofs.lemmas.Bool.{and_parts}
 use Rattle.std.proofs.lemmas.Bool.Decides.{nat_tests}
 use Rattle.std.proofs.lemmas.List.Sums.{sum_by-cons, sum_by-append}
-use Rattle.pagable_model.specs.declared.numbers.ArcRef.{ArcRef}
 use Rattle.pagable_model.specs.declared.data_key.OptionalDataKey.TheVariants as optional
 use Rattle.pagable_world.specs.declared.handles.HandleRow.{HandleRow}
 use Rattle.pagable_world.specs.declared.handles.Owner.TheVariants as owners
 use Rattle.pagable_world.specs.declared.rows.Mode.TheVariants as modes
-use Rattle.pagable_world.specs.Plain.{NodeNumber, Among, one, times, if_there, or_else}
-use Rattle.pagable_world.specs.Kinds.{find_row, is_handle, is_at, is_pin, is_owner, is_owned_by, owner_value, held, pins, has_key, is_in_memory}
-use Rattle.pagable_world.specs.World.{Core, Cell, Values, type_at, key_at, is_here}
+use Rattle.pagable_world.specs.Plain.{Among, one, times, if_there}
+use Rattle.pagable_world.specs.Kinds.{is_handle, is_at, is_pin, is_owned_by, owner_value, held, has_key, is_in_memory}
+use Rattle.pagable_world.specs.World.{Core, Cell, is_here}
 use Rattle.pagable_world.specs.Cascade.{is_outside, held_outside, pins_outside, owned_outside, loses_value, IsClosed, IsWithin, IsLeast, AreNewEntries, is_keyed, left_rows, Falls}
-use Rattle.pagable_world.specs.Refusals.{IsReference}
-use Rattle.pagable_world.specs.Pager.{PagerState, IsWhole, WellFormed}
 use Rattle.pagable_laws.proofs.Sums.{same-number, self-number, one-true, sum-le, sum-zero, at-most-sum, counted}
 use Rattle.pagable_laws.proofs.Existing.{inside, wider}
-use Rattle.pagable_laws.proofs.Trees.{same_some}
-use Rattle.pagable_laws.proofs.Goes.{found-number}
-use Rattle.pagable_laws.proofs.Outlasting.{found-kept, find-both}
-use Rattle.pagable_laws.proofs.Taking.{found-among, row-held}
-use Rattle.pagable_laws.proofs.GoodReferences.{fell-away}
-use Rattle.pagable_steps.proofs.Spared.{owns, owns_any}
+use Rattle.pagable_steps.proofs.Spared.{owns}
+use Rattle.pagable_steps.proofs.SparedParts.{and-false}
 
 above : (n : ℕ) → nat_lt 0 n ≡ true → 0 < n
 above n e = grind (arith, nat_tests)
@@ -63,7 +56,8 @@ module _ (rows : List HandleRow) (keyed : ℕ → Bool) (entries : List HandleRo
   less-closed m goes =
       let lost = wider rows keyed entries less gone m less-within goes in
       let none = least.closed m lost in
-      sum-zero (λ h. one (is_owned_by (owner_value m) h && not (less h.number.0))) rows (λ h among. part h among lost none (is_owned_by (owner_value m) h) refl (nat_lt 0 (owns n h.number.0 rows)) refl)
+      sum-zero (λ h. one (is_owned_by (owner_value m) h && not (less h.number.0))) rows
+      (λ h among. part h among lost none (is_owned_by (owner_value m) h) refl (nat_lt 0 (owns n h.number.0 rows)) refl)
     where
       part : (h : HandleRow) → Among rows h → loses_value rows keyed entries gone m ≡ true → owned_outside rows gone m ≡ 0 → (b : Bool) → is_owned_by (owner_value m) h ≡ b
           → (d : Bool) → nat_lt 0 (owns n h.number.0 rows) ≡ d → one (is_owned_by (owner_value m) h && not (less h.number.0)) ≡ 0
@@ -93,21 +87,20 @@ module _ (rows : List HandleRow) (keyed : ℕ → Bool) (entries : List HandleRo
           let b : nat_lt 0 (owns n h.number.0 rows) ≡ true = let c = subst (λ p. 0 < owns n p rows) (sym number) some in grind (arith, nat_tests) in
           let c : less h.number.0 ≡ false = rw b (and-false (gone h.number.0)) in
           absurd (cc)
-        where
-          and-false : (b : Bool) → (b && not true) ≡ false
-          and-false true = refl
-          and-false false = refl
 
 -- ---- what is counted afterwards
+
+-- the same of each element, so in sum
+pub sum-same : {X : Type 0} (f g : X → ℕ) (xs : List X) → ((x : X) → Among xs x → f x ≡ g x) → sum_by f xs ≡ sum_by g xs
+sum-same f g xs each =
+    let le = sum-le f g xs (λ x among. let e = each x among in omega (arith, e)) in
+    let ge = sum-le g f xs (λ x among. let e = each x among in omega (arith, e)) in
+    omega (arith, le, ge)
 
 times-left : (t : HandleRow → Bool) (gone : ℕ → Bool) (rows : List HandleRow) → times t (left_rows gone rows) ≡ times (λ h. t h && is_outside gone h) rows
 times-left t gone [] = refl
 times-left t gone (x ∷ xs) = at (gone x.number.0) (times-left t gone xs) ∙ sym (sum_by-cons (λ h. one (t h && is_outside gone h)) x xs)
   where
-    and-false : (b : Bool) → one (b && false) ≡ 0
-    and-false true = refl
-    and-false false = refl
-
     and-true : (b : Bool) → one (b && true) ≡ one b
     and-true true = refl
     and-true false = refl
@@ -119,11 +112,12 @@ times-left t gone (x ∷ xs) = at (gone x.number.0) (times-left t gone xs) ∙ s
     none a b e = omega (arith, e)
 
     at : (b : Bool) → times t (left_rows gone xs) ≡ rest → times t (cond (not b) (x ∷ left_rows gone xs) (left_rows gone xs)) ≡ one (t x && not b) + rest
-    at true same = same ∙ none _ _ (and-false (t x))
+    at true same = same ∙ none _ _ (ap one (and-false (t x)))
     at false same = sum_by-cons (λ h. one (t h)) x (left_rows gone xs) ∙ (ap (λ n. one (t x) + n) same ∙ ap (λ n. n + rest) (sym (and-true (t x))))
 
 -- new entries pin nothing, and only the list owns them
-entries-none : (t : HandleRow → Bool) → ((h : HandleRow) → h.mode ≡ modes.LooseUnpinned → h.owner ≡ owners.List → t h ≡ false) → (last : ℕ) (entries : List HandleRow) → AreNewEntries last entries → times t entries ≡ 0
+entries-none : (t : HandleRow → Bool) → ((h : HandleRow) → h.mode ≡ modes.LooseUnpinned → h.owner ≡ owners.List → t h ≡ false) → (last : ℕ) (entries : List HandleRow)
+    → AreNewEntries last entries → times t entries ≡ 0
 entries-none t none last [] new = refl
 entries-none t none last (x ∷ xs) (number, mode, owner, new) =
     let a = sum_by-cons (λ h. one (t h)) x xs in
@@ -142,10 +136,6 @@ module _ {before w w' : Core} {given : ℕ → Bool} {r : _} (f : Falls before w
 
   entry-unpinned : (n : ℕ) (h : HandleRow) → h.mode ≡ modes.LooseUnpinned → h.owner ≡ owners.List → is_pin n h ≡ false
   entry-unpinned n h mode owner = rw mode (and-false (h.node.0 == n))
-    where
-      and-false : (b : Bool) → (b && false) ≡ false
-      and-false true = refl
-      and-false false = refl
 
   -- a node has lost its value exactly where it isn't in memory any more
   pub loses : (n : ℕ) (cell : Cell) → w.cells n ≡ Some cell → loses_value w.rows (is_keyed w) f.entries f.gone n ≡ not (is_some (w'.cells n) && is_here w' n)
@@ -157,7 +147,7 @@ module _ {before w w' : Core} {given : ℕ → Bool} {r : _} (f : Falls before w
       let p = counts-left (is_pin n) (entry-unpinned n) in
       let fewer : po ≤ ho = sum-le (λ h. one (is_pin n h && is_outside f.gone h)) (λ h. one (is_at n h && is_outside f.gone h)) w.rows (λ h among. pin-at (is_at n h) _ (is_outside f.gone h)) in
       let cells : w'.cells n ≡ (if nat_lt 0 (ho + he) then Some cell else None) =
-          f.leaves.cells n ∙ (ap (λ k. if nat_lt 0 k then w.cells n else None) (sym (ap (held n) f.leaves.rows) ∙ c) ∙ ap (λ o. if nat_lt 0 (ho + he) then o else None) live) in
+      f.leaves.cells n ∙ (ap (λ k. if nat_lt 0 k then w.cells n else None) (sym (ap (held n) f.leaves.rows) ∙ c) ∙ ap (λ o. if nat_lt 0 (ho + he) then o else None) live) in
       let keyed : is_keyed w n ≡ has_key cell.key = ap (λ o. has_key (if_there (λ (x : Cell). x.key) optional.None o)) live in
       rw (keyed, cells, p) (by-number ho po he fewer (nat_lt 0 (ho + he)) refl (has_key cell.key) refl)
     where
@@ -168,7 +158,8 @@ module _ {before w w' : Core} {given : ℕ → Bool} {r : _} (f : Falls before w
       pin-at true true c = omega arith
 
       by-number : (ho po he : ℕ) → po ≤ ho → (b : Bool) → nat_lt 0 (ho + he) ≡ b → (k : Bool) → has_key cell.key ≡ k
-          → (if k then nat_eq po 0 else nat_eq he 0 && nat_eq ho 0) ≡ not (is_some (if b then Some cell else None) && is_in_memory po (if_there (λ (x : Cell). x.key) optional.None (if b then Some cell else None)))
+          → (if k then nat_eq po 0 else nat_eq he 0 && nat_eq ho 0)
+          ≡ not (is_some (if b then Some cell else None) && is_in_memory po (if_there (λ (x : Cell). x.key) optional.None (if b then Some cell else None)))
       by-number ho po he fewer true e true k = rw k (grind (arith, nat_tests))
       by-number ho po he fewer true e false k = rw k (grind (arith, nat_tests))
       by-number ho po he fewer false e true k = grind (arith, nat_tests)
