@@ -43,12 +43,21 @@ ask-whole me l wants.Root (Ok (from_store blob)) whole call placed = let (load, 
 ask-whole me l wants.Root (Ok (from_cache k)) whole call placed = absurd call.gives.2
 ask-whole me l (wants.Nested kind key) (Ok (from_cache k)) whole call placed = let (load, owns, asks) = call.gives in gets-whole l kind key k whole (load-holds load owns) asks placed
 ask-whole me l (wants.Nested kind key) (Ok (from_store blob)) whole call placed = let (load, owns, asks) = call.gives in fetch-whole key (Ok blob) whole asks.1 placed
-ask-whole me l wants.Root (Err e) whole call placed = elim call.refused [ inl refused ↦ alike-whole whole refused.stays placed | inr (load, owns, asks) ↦ fetch-whole load.key (Err e) whole asks placed ]
-ask-whole me l (wants.Nested kind key) (Err e) whole call placed = elim call.refused [ inl refused ↦ alike-whole whole refused.stays placed | inr (load, owns, asks) ↦ fetch-whole key (Err e) whole asks.1 placed ]
+ask-whole me l wants.Root (Err e) whole call placed = elim call.refused [
+  | inl refused ↦ alike-whole whole refused.stays placed
+  | inr (load, owns, asks) ↦ fetch-whole load.key
+      (Err e) whole asks placed
+]
+ask-whole me l (wants.Nested kind key) (Err e) whole call placed = elim call.refused [
+  | inl refused ↦ alike-whole whole refused.stays placed
+  | inr (load, owns, asks) ↦ fetch-whole key
+      (Err e) whole asks.1 placed
+]
 
 -- ---- a node that was read
 
-module _ {w : Core} (whole : IsWhole w) (l : LoadNumber) (kind : Kind) (key : ℕ) (own : OptionalDataKey) (refs : List ArcRef) (holder : MayHold w (owners.Load l)) (good : references_fault w (owners.Load l) [] refs ≡ None)
+module _ {w : Core} (whole : IsWhole w) (l : LoadNumber) (kind : Kind) (key : ℕ) (own : OptionalDataKey) (refs : List ArcRef) (holder : MayHold w (owners.Load l))
+    (good : references_fault w (owners.Load l) [] refs ≡ None)
     (node_left : w.last.node < greatest) (left : w.last.handle < greatest) (unkeyed : is_shared (mode_of kind.0) ≡ true → has_key own ≡ false) where
   abbrev now : Core
   now = born whole (type_of kind.0) own refs (mode_of kind.0) (owners.Load l) (owners.Load l) refl good holder node_left left unkeyed
@@ -60,9 +69,11 @@ module _ {w : Core} (whole : IsWhole w) (l : LoadNumber) (kind : Kind) (key : �
   new-entry =
       record {
         given = omega arith;
-        typed = λ t is. let e : Some t ≡ Some (type_of kind.0) = sym is ∙ ap type_in (cell-new whole (type_of kind.0) own refs (mode_of kind.0) (owners.Load l) (owners.Load l) refl good holder node_left left unkeyed) in cc;
+        typed = λ t is. let e : Some t ≡ Some (type_of kind.0) = sym is
+            ∙ ap type_in (cell-new whole (type_of kind.0) own refs (mode_of kind.0) (owners.Load l) (owners.Load l) refl good holder node_left left unkeyed) in cc;
         shares = λ h among at.
-            shared-alike now-whole h (row_of (w.last.handle + 1) (next_node w) (mode_of kind.0) (owners.Load l)) among (among-last (moved-world whole (type_of kind.0) own refs (mode_of kind.0) (owners.Load l) (owners.Load l) refl good holder node_left left unkeyed).rows _) at
+            shared-alike now-whole h (row_of (w.last.handle + 1) (next_node w) (mode_of kind.0) (owners.Load l)) among
+            (among-last (moved-world whole (type_of kind.0) own refs (mode_of kind.0) (owners.Load l) (owners.Load l) refl good holder node_left left unkeyed).rows _) at
             ∙ mode-shared kind.0;
       }
 
@@ -74,12 +85,14 @@ module _ {w : Core} (whole : IsWhole w) (l : LoadNumber) (kind : Kind) (key : �
       at false e = cached-whole {w = roomy now} kind key (next_node w) now-whole e new-entry
 
 loose-plain : (kind : ℕ) → is_loose_kind kind ≡ true → is_shared (mode_of kind) ≡ true → ⊥
-loose-plain kind loose shared = let a : (kind % 3 == 1) ≡ true = loose in let b : (kind % 3 == 0) ≡ true = sym (mode-shared kind) ∙ shared in let c : kind % 3 ≡ 1 = grind (arith, nat_tests) in let d : kind % 3 ≡ 0 = grind (arith, nat_tests) in absurd (omega arith)
+loose-plain kind loose shared = let a : (kind % 3 == 1) ≡ true = loose in let b : (kind % 3 == 0) ≡ true = sym (mode-shared kind) ∙ shared in let c : kind % 3 ≡ 1 = grind (arith, nat_tests) in
+    let d : kind % 3 ≡ 0 = grind (arith, nat_tests) in absurd (omega arith)
 
 pub lazy-whole : {w w' : Core} (me : Owner) (l : LoadNumber) (kind : Kind) (key : ℕ) (r : Result HandleNumber Error) → IsWhole w → LazyCall w me l kind key r w' → ArePlaced w' → IsWhole w'
 lazy-whole {w} me l kind key (Ok k) whole call placed = let (load, owns, loose, makes) = call.makes in elim makes [
   | inl gets ↦ gets-whole l kind key k whole (load-holds load owns) gets placed
-  | inr (none, node_left, next, leaves) ↦ settles (adopted-whole whole l kind key (optional.Some key) [] (load-holds load owns) (no-references w (owners.Load l)) node_left next.is_left (λ shared. absurd (loose-plain kind.0 loose shared))) leaves placed
+  | inr (none, node_left, next, leaves) ↦ settles (adopted-whole whole l kind key (optional.Some key) [] (load-holds load owns) (no-references w (owners.Load l)) node_left next.is_left
+      (λ shared. absurd (loose-plain kind.0 loose shared))) leaves placed
 ]
 lazy-whole me l kind key (Err e) whole call placed = alike-whole whole call.refused.stays placed
 
@@ -89,12 +102,14 @@ shared-keyless kind key shared =
     let c : (kind % 3 == 2) ≡ false = grind (arith, nat_tests) in
     ap (λ t. has_key (if t then optional.Some key else optional.None)) c
 
-pub adopt-whole : {N : Type 0} {w w' : Core} (me : Owner) (l : LoadNumber) (kind : Kind) (key : ℕ) (x : N) (node_type : ℕ) (refs : List ArcRef) (r : Result HandleNumber (Error × N)) → IsWhole w → AdoptCall w me l kind key x node_type refs r w' → ArePlaced w' → IsWhole w'
+pub adopt-whole : {N : Type 0} {w w' : Core} (me : Owner) (l : LoadNumber) (kind : Kind) (key : ℕ) (x : N) (node_type : ℕ) (refs : List ArcRef) (r : Result HandleNumber (Error × N)) → IsWhole w
+    → AdoptCall w me l kind key x node_type refs r w' → ArePlaced w' → IsWhole w'
 adopt-whole {N} {w} me l kind key x node_type refs (Ok k) whole call placed =
     let a = call.adopts in
     elim a.makes [
       | inl (n, is, falls) ↦
-          falls-whole (may-fall (is_named_by refs) whole (known-whole kind key n (owners.Load l) whole is (load-holds a.load a.owned) a.next.is_left) (handle-on w (record { 0 = n }) (mode_of kind.0) (owners.Load l))) falls.falls placed
+          falls-whole (may-fall (is_named_by refs) whole (known-whole kind key n (owners.Load l) whole is (load-holds a.load a.owned) a.next.is_left)
+          (handle-on w (record { 0 = n }) (mode_of kind.0) (owners.Load l))) falls.falls placed
       | inr (none, node_left, leaves) ↦
           settles (adopted-whole whole l kind key (first_key kind.0 key) refs (load-holds a.load a.owned) a.good node_left a.next.is_left (shared-keyless kind.0 key)) leaves placed
     ]

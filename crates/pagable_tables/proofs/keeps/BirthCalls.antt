@@ -42,14 +42,16 @@ good-one w owner seen r good = of (row_at w r.handle) refl good
     parts true false c rest e = absurd (cc)
     parts false b c rest e = absurd (cc)
 
-    of : (found : Option HandleRow) → row_at w r.handle ≡ found → if_there (λ (row : HandleRow). row_fault w r (refused_if (not (is_owner owner row.owner) || is_in seen r.handle.0) errors.NotYours) row) (Some errors.NoSuchHandle) found ≡ None
+    of : (found : Option HandleRow) → row_at w r.handle ≡ found
+        → if_there (λ (row : HandleRow). row_fault w r (refused_if (not (is_owner owner row.owner) || is_in seen r.handle.0) errors.NotYours) row) (Some errors.NoSuchHandle) found ≡ None
         → IsMine w owner r.handle.0
     of None e good = absurd (cc)
     of (Some row) e good =
         record {
           row = row;
           live = e;
-          own = owner-same owner row.owner (parts (row.node.0 == r.node.0) (is_owner owner row.owner) (is_in seen r.handle.0) (if not (fits_mode r.kind.0 row.mode) then Some errors.WrongMode else refused_if (not (is_type (type_of r.kind.0) (type_at w r.node.0))) errors.WrongKind) good);
+          own = owner-same owner row.owner (parts (row.node.0 == r.node.0) (is_owner owner row.owner) (is_in seen r.handle.0)
+              (if not (fits_mode r.kind.0 row.mode) then Some errors.WrongMode else refused_if (not (is_type (type_of r.kind.0) (type_at w r.node.0))) errors.WrongKind) good);
         }
 
 or-none : {X : Type 0} (a b : Option X) → or_else a b ≡ None → (a ≡ None) × (b ≡ None)
@@ -68,7 +70,8 @@ named-mine w owner seen (r ∷ rs) good q named =
     at false e named mine rest = rest named
 
 -- what is named isn't the list's
-pub named-unlisted : {w : Core} → IsWhole w → (owner : Owner) (refs : List ArcRef) → is_owner owners.List owner ≡ false → references_fault w owner [] refs ≡ None → (x : HandleRow) → Among w.rows x → is_named_by refs x.number.0 ≡ true → is_owned_by owners.List x ≡ false
+pub named-unlisted : {w : Core} → IsWhole w → (owner : Owner) (refs : List ArcRef) → is_owner owners.List owner ≡ false → references_fault w owner [] refs ≡ None → (x : HandleRow)
+    → Among w.rows x → is_named_by refs x.number.0 ≡ true → is_owned_by owners.List x ≡ false
 named-unlisted {w} whole owner refs other good x among named =
     let m = named-mine w owner [] refs good x.number.0 named in
     let a = found-among x.number.0 w.rows m.row m.live in
@@ -77,7 +80,8 @@ named-unlisted {w} whole owner refs other good x among named =
 
 -- ---- the node
 
-module _ {w : Core} (whole : IsWhole w) (node_type : ℕ) (key : OptionalDataKey) (refs : List ArcRef) (mode : Mode) (from me : Owner) (other : is_owner owners.List from ≡ false) (good : references_fault w from [] refs ≡ None)
+module _ {w : Core} (whole : IsWhole w) (node_type : ℕ) (key : OptionalDataKey) (refs : List ArcRef) (mode : Mode) (from me : Owner) (other : is_owner owners.List from ≡ false)
+    (good : references_fault w from [] refs ≡ None)
     (holder : MayHold w me) (node_left : w.last.node < greatest) (left : w.last.handle < greatest) (unkeyed : is_shared mode ≡ true → has_key key ≡ false) where
   abbrev pub moved-world : Core
   moved-world = record w { rows = moved (is_named_by refs) (owner_value (w.last.node + 1)) w.rows }
@@ -111,16 +115,19 @@ module _ {w : Core} (whole : IsWhole w) (node_type : ℕ) (key : OptionalDataKey
   cell-old n old = let e : (n == w.last.node + 1) ≡ false = grind (arith, nat_tests) in rw e refl
 
   uniform-by : (b : Bool) → is_shared mode ≡ b
-      → (is_shared mode ≡ false) × (sharing (w.last.node + 1) moved-world.rows ≡ 0) ⊎ (is_shared mode ≡ true) × (sharing (w.last.node + 1) moved-world.rows ≡ held (w.last.node + 1) moved-world.rows) × (keyed_in (cells (w.last.node + 1)) ≡ false)
+      → (is_shared mode ≡ false) × (sharing (w.last.node + 1) moved-world.rows ≡ 0) ⊎ (is_shared mode ≡ true)
+      × (sharing (w.last.node + 1) moved-world.rows ≡ held (w.last.node + 1) moved-world.rows) × (keyed_in (cells (w.last.node + 1)) ≡ false)
   uniform-by false is = inl (is, none-shared)
   uniform-by true is = inr (is, none-shared ∙ sym none-held, ap keyed_in cell-new ∙ unkeyed is)
 
   pub born-whole : IsWhole (roomy born)
   born-whole =
-      grown-whole moved-whole (row_of (w.last.handle + 1) (next_node w) mode me) cells (w.last.node + 1) refl left (omega arith) (omega arith) (ap is_some cell-new) cell-old (omega arith, omega arith) (λ t is. inr (omega arith)) (uniform-by (is_shared mode) refl)
+      grown-whole moved-whole (row_of (w.last.handle + 1) (next_node w) mode me) cells (w.last.node + 1) refl left (omega arith) (omega arith) (ap is_some cell-new) cell-old
+      (omega arith, omega arith) (λ t is. inr (omega arith)) (uniform-by (is_shared mode) refl)
       (λ kind e. absurd (let a = e.given in omega arith)) holder
 
-pub birth-whole : {N : Type 0} {w w' : Core} (me : Owner) (x : N) (node_type : ℕ) (refs : List ArcRef) (mode : Mode) (r : Result HandleNumber (Error × N)) → IsWhole w → MayHold w me → BirthCall w me x node_type refs mode r w' → ArePlaced w' → IsWhole w'
+pub birth-whole : {N : Type 0} {w w' : Core} (me : Owner) (x : N) (node_type : ℕ) (refs : List ArcRef) (mode : Mode) (r : Result HandleNumber (Error × N)) → IsWhole w → MayHold w me
+    → BirthCall w me x node_type refs mode r w' → ArePlaced w' → IsWhole w'
 birth-whole {N} {w} me x node_type refs mode (Ok k) whole holder call placed =
     let (good, node_left, next, leaves) = call.made in
     settles (born-whole whole node_type optional.None refs mode me me (not-list w me holder) good holder node_left next.is_left (λ is. refl)) leaves placed

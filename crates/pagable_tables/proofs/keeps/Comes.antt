@@ -48,7 +48,8 @@ abbrev pub type_in : Option Cell → Option ℕ
 type_in cell = if_there (λ (cell : Cell). Some cell.node_type) None cell
 
 -- Of a node that is there, or of a new one.
-module _ {w : Core} (whole : IsWhole w) (x : HandleRow) (cells : ℕ → Option Cell) (last : ℕ) (number : x.number.0 ≡ w.last.handle + 1) (left : w.last.handle < greatest) (more : w.last.node ≤ last) (few : last ≤ greatest)
+module _ {w : Core} (whole : IsWhole w) (x : HandleRow) (cells : ℕ → Option Cell) (last : ℕ) (number : x.number.0 ≡ w.last.handle + 1) (left : w.last.handle < greatest)
+    (more : w.last.node ≤ last) (few : last ≤ greatest)
     (there : is_some (cells x.node.0) ≡ true) (others : (n : ℕ) → n ≢ x.node.0 → cells n ≡ w.cells n) (numbered : (0 < x.node.0) × (x.node.0 ≤ last))
     (typed : (t : ℕ) → type_in (cells x.node.0) ≡ Some t → (type_in (w.cells x.node.0) ≡ Some t) ⊎ (w.last.node < x.node.0))
     (uniform : (is_shared x.mode ≡ false) × (sharing x.node.0 w.rows ≡ 0) ⊎ (is_shared x.mode ≡ true) × (sharing x.node.0 w.rows ≡ held x.node.0 w.rows) × (keyed_in (cells x.node.0) ≡ false))
@@ -124,7 +125,8 @@ module _ {w : Core} (whole : IsWhole w) (x : HandleRow) (cells : ℕ → Option 
   grown-owners =
       let o = whole.owners_there in
       record {
-        listed = λ q. let a = sum_by_push (λ h. one (is_handle q h && is_owned_by owners.List h)) w.rows x in let b = o.listed q in let c = not-list w x.owner holder in let d : one (is_handle q x && is_owned_by owners.List x) ≡ 0 = ap (λ b. one (is_handle q x && b)) c ∙ and-false (is_handle q x) in omega arith;
+        listed = λ q. let a = sum_by_push (λ h. one (is_handle q h && is_owned_by owners.List h)) w.rows x in let b = o.listed q in let c = not-list w x.owner holder in
+            let d : one (is_handle q x && is_owned_by owners.List x) ≡ 0 = ap (λ b. one (is_handle q x && b)) c ∙ and-false (is_handle q x) in omega arith;
         waiting = λ h among is. elim (among-both w.rows (x ∷ []) h among) [
           | inl old ↦ o.waiting h old is
           | inr new ↦ absurd (not-the-list w x.owner holder (ap (λ (y : HandleRow). y.owner) (sym (among-one x h new)) ∙ is))
@@ -223,7 +225,8 @@ module _ {w : Core} (whole : IsWhole w) (node : NodeNumber) (mode : Mode) (suits
   share-of : (b : Bool) → is_shared suits.row.mode ≡ b → one (is_share node.0 suits.row) ≡ one b
   share-of b is = ap (λ a. one (a && is_shared suits.row.mode)) at-node ∙ ap one is
 
-  suits-uniform : (b : Bool) → is_shared mode ≡ b → (is_shared mode ≡ false) × (sharing node.0 w.rows ≡ 0) ⊎ (is_shared mode ≡ true) × (sharing node.0 w.rows ≡ held node.0 w.rows) × (keyed_in (w.cells node.0) ≡ false)
+  suits-uniform : (b : Bool) → is_shared mode ≡ b → (is_shared mode ≡ false) × (sharing node.0 w.rows ≡ 0) ⊎ (is_shared mode ≡ true) × (sharing node.0 w.rows ≡ held node.0 w.rows)
+      × (keyed_in (w.cells node.0) ≡ false)
   suits-uniform false is = elim (whole.handles.uniform node.0) [
     | inl none ↦ inl (is, none)
     | inr all ↦
@@ -239,7 +242,8 @@ module _ {w : Core} (whole : IsWhole w) (node : NodeNumber) (mode : Mode) (suits
 
   pub beside : (owner : Owner) → MayHold w owner → w.last.handle < greatest → IsWhole (roomy (with_handle w node mode owner))
   beside owner holder left =
-      grown-whole whole (row_of (w.last.handle + 1) node mode owner) w.cells w.last.node refl left (omega arith) (whole.handles.within.1) suits-there (λ n other. refl) (whole.handles.nodes_numbered node.0 suits-there) (λ t is. inl is)
+      grown-whole whole (row_of (w.last.handle + 1) node mode owner) w.cells w.last.node refl left (omega arith) (whole.handles.within.1) suits-there (λ n other. refl)
+      (whole.handles.nodes_numbered node.0 suits-there) (λ t is. inl is)
       (suits-uniform (is_shared mode) refl) (λ kind e. sym suits.shared ∙ e.shares suits.row suits.there (ap (λ (k : NodeNumber). k.0) suits.at)) holder
 
 -- no node has fewer handles by one that comes

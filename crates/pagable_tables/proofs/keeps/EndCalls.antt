@@ -42,7 +42,8 @@ still-there {X} l f q x is = at (q == l) is
     at false is = is
 
 -- what is whole before a load closes may fall after, where all that the load owns is given
-pub closes : {before u : Core} (l : LoadNumber) (given : ℕ → Bool) → IsWhole before → IsWhole (roomy u) → GoesOn before u → ((h : HandleRow) → Among u.rows h → h.owner ≡ owners.Load l → given h.number.0 ≡ true) → MayFall before (without_load u l) given
+pub closes : {before u : Core} (l : LoadNumber) (given : ℕ → Bool) → IsWhole before → IsWhole (roomy u) → GoesOn before u
+    → ((h : HandleRow) → Among u.rows h → h.owner ≡ owners.Load l → given h.number.0 ≡ true) → MayFall before (without_load u l) given
 closes {before} {u} l given was whole on gives =
     let h = whole.handles in
     let o = whole.owners_there in
@@ -95,7 +96,8 @@ not-load : (w : Core) (o : Owner) (l : LoadNumber) → MayOwnLoad w o → o ≡ 
 not-load w o l may is = subst (MayOwnLoad w) is may
 
 -- A handle of m is pinned, a Pinned one is made and the load closes, where m is what w has become.
-module _ {w m : Core} (was : IsWhole w) (whole : IsWhole (roomy m)) (on : GoesOn w m) (me : Owner) (may : MayOwnLoad m me) (l : LoadNumber) (h : HandleNumber) (row : HandleRow) (owns : Owns m me h is_loose row) (left : m.last.handle < greatest) (given : ℕ → Bool)
+module _ {w m : Core} (was : IsWhole w) (whole : IsWhole (roomy m)) (on : GoesOn w m) (me : Owner) (may : MayOwnLoad m me) (l : LoadNumber) (h : HandleNumber) (row : HandleRow)
+    (owns : Owns m me h is_loose row) (left : m.last.handle < greatest) (given : ℕ → Bool)
     (gives : (x : HandleRow) → Among m.rows x → x.owner ≡ owners.Load l → given x.number.0 ≡ true) where
   owns-roomy : Owns (roomy m) me h is_loose row
   owns-roomy = record { live = owns.live; own = owns.own; as_asked = owns.as_asked }
@@ -119,7 +121,8 @@ module _ {w m : Core} (was : IsWhole w) (whole : IsWhole (roomy m)) (on : GoesOn
 both-true : (a b : Bool) → a ≡ true → b ≡ false → (a && not b) ≡ true
 both-true a b e f = rw (e, f) refl
 
-pub end-whole : {N : Type 0} {w w' : Core} (me : Owner) (l : LoadNumber) (x : N) (node_type : ℕ) (refs : List ArcRef) (r : Result HandleNumber (Error × Option N)) → IsWhole w → EndCall w me l x node_type refs r w' → ArePlaced w' → IsWhole w'
+pub end-whole : {N : Type 0} {w w' : Core} (me : Owner) (l : LoadNumber) (x : N) (node_type : ℕ) (refs : List ArcRef) (r : Result HandleNumber (Error × Option N)) → IsWhole w
+    → EndCall w me l x node_type refs r w' → ArePlaced w' → IsWhole w'
 end-whole {N} {w} {w'} me l x node_type refs (Ok k) whole call placed =
     let (node, h, ends, i) = call.installs in
     let may : MayOwnLoad w me = subst (MayOwnLoad w) ends.owned.own (whole.loads.owned l.0 ends.load ends.owned.stands_open) in
@@ -129,15 +132,18 @@ end-whole {N} {w} {w'} me l x node_type refs (Ok k) whole call placed =
           let m : Core = record w { rows = moved s (owner_value node.0) w.rows } in
           let given = λ (q : ℕ). is_owned_in w (owners.Load l) q && not (is_named_by refs q) in
           let moves = moved-to-value whole s (named-unlisted whole (owners.Load l) refs refl ends.good) node.0 in
-          let fall : MayFall w (without_load (with_pin m h i.row.node me) l) given = ends-may-fall {w = w} {m = m} whole moves (moved-on whole s (owner_value node.0)) me (may-own w m (λ v at. at) me may) l h i.row (kept-own node h i.row i.owned may ends.good) i.next.is_left given (left-given node) in
+          let fall : MayFall w (without_load (with_pin m h i.row.node me) l) given = ends-may-fall {w = w} {m = m} whole moves (moved-on whole s (owner_value node.0)) me
+          (may-own w m (λ v at. at) me may) l h i.row (kept-own node h i.row i.owned may ends.good) i.next.is_left given (left-given node) in
           falls-whole (subst (λ n. MayFall w (without_load (with_pin m h n me) l) given) i.at fall) falls.falls placed
       | inr (here, falls) ↦
-          let fall : MayFall w (without_load (with_pin w h i.row.node me) l) (is_owned_in w (owners.Load l)) = ends-may-fall {w = w} {m = w} whole (roomy-whole whole) (stays-on w) me may l h i.row i.owned i.next.is_left (is_owned_in w (owners.Load l)) (owned-in whole l) in
+          let fall : MayFall w (without_load (with_pin w h i.row.node me) l) (is_owned_in w (owners.Load l)) = ends-may-fall {w = w} {m = w} whole (roomy-whole whole)
+          (stays-on w) me may l h i.row i.owned i.next.is_left (is_owned_in w (owners.Load l)) (owned-in whole l) in
           falls-whole (subst (λ n. MayFall w (without_load (with_pin w h n me) l) (is_owned_in w (owners.Load l))) i.at fall) falls.falls placed
     ]
   where
     -- the handle that began the load isn't one of the value's references
-    kept-own : (node : NodeNumber) (h : HandleNumber) (row : HandleRow) → Owns w me h is_loose row → MayOwnLoad w me → references_fault w (owners.Load l) [] refs ≡ None → Owns (record w { rows = moved (is_named_by refs) (owner_value node.0) w.rows }) me h is_loose row
+    kept-own : (node : NodeNumber) (h : HandleNumber) (row : HandleRow) → Owns w me h is_loose row → MayOwnLoad w me → references_fault w (owners.Load l) [] refs ≡ None
+        → Owns (record w { rows = moved (is_named_by refs) (owner_value node.0) w.rows }) me h is_loose row
     kept-own node h row owns may good = at (is_named_by refs row.number.0) refl
       where
         found : Among w.rows row × (row.number.0 ≡ h.0)
@@ -153,18 +159,22 @@ end-whole {N} {w} {w'} me l x node_type refs (Ok k) whole call placed =
             let among = subst (Among (moved (is_named_by refs) (owner_value node.0) w.rows)) (ap (λ b. if b then record row { owner = owner_value node.0 } else row) e)
             (among-to (λ (y : HandleRow). if is_named_by refs y.number.0 then record y { owner = owner_value node.0 } else y) w.rows row found.0) in
             record {
-              live = found-so h.0 (moved (is_named_by refs) (owner_value node.0) w.rows) row (ordered-map (λ (y : HandleRow). if is_named_by refs y.number.0 then record y { owner = owner_value node.0 } else y) w.rows (moved-number whole (is_named_by refs) (owner_value node.0)) whole.handles.ordered) among found.1;
+              live = found-so h.0 (moved (is_named_by refs) (owner_value node.0) w.rows) row
+                  (ordered-map (λ (y : HandleRow). if is_named_by refs y.number.0 then record y { owner = owner_value node.0 } else y) w.rows
+                  (moved-number whole (is_named_by refs) (owner_value node.0)) whole.handles.ordered) among found.1;
               own = owns.own;
               as_asked = owns.as_asked;
             }
 
     -- what the load still owns is given
-    left-given : (node : NodeNumber) (y : HandleRow) → Among (moved (is_named_by refs) (owner_value node.0) w.rows) y → y.owner ≡ owners.Load l → (is_owned_in w (owners.Load l) y.number.0 && not (is_named_by refs y.number.0)) ≡ true
+    left-given : (node : NodeNumber) (y : HandleRow) → Among (moved (is_named_by refs) (owner_value node.0) w.rows) y → y.owner ≡ owners.Load l
+        → (is_owned_in w (owners.Load l) y.number.0 && not (is_named_by refs y.number.0)) ≡ true
     left-given node y among own =
         let old = among-map (λ (z : HandleRow). if is_named_by refs z.number.0 then record z { owner = owner_value node.0 } else z) w.rows y among in
         of old.0 old.1 (is_named_by refs old.0.number.0) refl old.2
       where
-        of : (z : HandleRow) → Among w.rows z → (b : Bool) → is_named_by refs z.number.0 ≡ b → y ≡ (if b then record z { owner = owner_value node.0 } else z) → (is_owned_in w (owners.Load l) y.number.0 && not (is_named_by refs y.number.0)) ≡ true
+        of : (z : HandleRow) → Among w.rows z → (b : Bool) → is_named_by refs z.number.0 ≡ b → y ≡ (if b then record z { owner = owner_value node.0 } else z)
+            → (is_owned_in w (owners.Load l) y.number.0 && not (is_named_by refs y.number.0)) ≡ true
         of z there true e is = let f : owner_value node.0 ≡ owners.Load l = ap (λ (v : HandleRow). v.owner) (sym is) ∙ own in absurd (cc)
         of z there false e is =
             let n = ap (λ (v : HandleRow). v.number.0) is in
@@ -187,14 +197,16 @@ handed-mine : (w : Core) (owner : Owner) (seen : List ℕ) (hs : List HandleNumb
 unfolding named_fault is_in
 handed-mine w owner seen [] good q named = absurd (cc)
 handed-mine w owner seen (h ∷ hs) good q named =
-    let parts = both-none (if_there (λ (row : HandleRow). refused_if (not (is_owner owner row.owner) || is_in seen h.0) errors.NotYours) (Some errors.NoSuchHandle) (row_at w h)) (named_fault w owner (h.0 ∷ seen) hs) good in
+    let parts = both-none (if_there (λ (row : HandleRow). refused_if (not (is_owner owner row.owner) || is_in seen h.0) errors.NotYours) (Some errors.NoSuchHandle) (row_at w h))
+    (named_fault w owner (h.0 ∷ seen) hs) good in
     at (h.0 == q) refl named (of (row_at w h) refl parts.0) (λ n. handed-mine w owner (h.0 ∷ seen) hs parts.1 q n)
   where
     own : (b c : Bool) → refused_if (not b || c) errors.NotYours ≡ None → b ≡ true
     own true c e = refl
     own false c e = absurd (cc)
 
-    of : (found : Option HandleRow) → row_at w h ≡ found → if_there (λ (row : HandleRow). refused_if (not (is_owner owner row.owner) || is_in seen h.0) errors.NotYours) (Some errors.NoSuchHandle) found ≡ None → IsMine w owner h.0
+    of : (found : Option HandleRow) → row_at w h ≡ found → if_there (λ (row : HandleRow). refused_if (not (is_owner owner row.owner) || is_in seen h.0) errors.NotYours)
+        (Some errors.NoSuchHandle) found ≡ None → IsMine w owner h.0
     of None e good = absurd (cc)
     of (Some row) e good = record { row = row; live = e; own = owner-same owner row.owner (own (is_owner owner row.owner) (is_in seen h.0) good) }
 
@@ -210,7 +222,8 @@ asker-owns {w} whole me l none = of (w.loads l.0) refl none
     own true e = refl
     own false e = absurd (cc)
 
-    of : (found : Option OpenLoad) → w.loads l.0 ≡ found → if_there (λ (load : OpenLoad). refused_if (not (is_owner me load.owner)) errors.NotYours) (Some errors.NoSuchHandle) found ≡ None → MayOwnLoad w me
+    of : (found : Option OpenLoad) → w.loads l.0 ≡ found → if_there (λ (load : OpenLoad). refused_if (not (is_owner me load.owner)) errors.NotYours) (Some errors.NoSuchHandle) found ≡ None
+        → MayOwnLoad w me
     of None e good = absurd (cc)
     of (Some load) e good = subst (MayOwnLoad w) (owner-same me load.owner (own (is_owner me load.owner) good)) (whole.loads.owned l.0 load e)
 
@@ -223,7 +236,8 @@ hand-over-whole {w} {w'} me l hs (Ok u) whole call placed =
     let s = is_in (numbers_of hs) in
     let m : Core = record w { rows = moved s me w.rows } in
     let given = λ (q : ℕ). is_owned_in w (owners.Load l) q && not (is_in (numbers_of hs) q) in
-    falls-whole (closes {u = m} l given whole (moved-to-holder whole s (unlisted second.1) me (not-list w me (may-hold w me may)) (may-hold w me may)) (moved-on whole s me) (left-given may)) falls.falls placed
+    falls-whole (closes {u = m} l given whole (moved-to-holder whole s (unlisted second.1) me (not-list w me (may-hold w me may)) (may-hold w me may)) (moved-on whole s me)
+    (left-given may)) falls.falls placed
   where
     unlisted : named_fault w (owners.Load l) [] hs ≡ None → (x : HandleRow) → Among w.rows x → is_in (numbers_of hs) x.number.0 ≡ true → is_owned_by owners.List x ≡ false
     unlisted good x among named =
@@ -231,12 +245,14 @@ hand-over-whole {w} {w'} me l hs (Ok u) whole call placed =
         let a = found-among x.number.0 w.rows m.row m.live in
         ap (is_owned_by owners.List) (once w.rows whole.handles.ordered x m.row among a.0 (sym a.1)) ∙ ap (is_owner owners.List) m.own
 
-    left-given : MayOwnLoad w me → (y : HandleRow) → Among (moved (is_in (numbers_of hs)) me w.rows) y → y.owner ≡ owners.Load l → (is_owned_in w (owners.Load l) y.number.0 && not (is_in (numbers_of hs) y.number.0)) ≡ true
+    left-given : MayOwnLoad w me → (y : HandleRow) → Among (moved (is_in (numbers_of hs)) me w.rows) y → y.owner ≡ owners.Load l
+        → (is_owned_in w (owners.Load l) y.number.0 && not (is_in (numbers_of hs) y.number.0)) ≡ true
     left-given may y among own =
         let old = among-map (λ (z : HandleRow). if is_in (numbers_of hs) z.number.0 then record z { owner = me } else z) w.rows y among in
         of old.0 old.1 (is_in (numbers_of hs) old.0.number.0) refl old.2
       where
-        of : (z : HandleRow) → Among w.rows z → (b : Bool) → is_in (numbers_of hs) z.number.0 ≡ b → y ≡ (if b then record z { owner = me } else z) → (is_owned_in w (owners.Load l) y.number.0 && not (is_in (numbers_of hs) y.number.0)) ≡ true
+        of : (z : HandleRow) → Among w.rows z → (b : Bool) → is_in (numbers_of hs) z.number.0 ≡ b → y ≡ (if b then record z { owner = me } else z)
+            → (is_owned_in w (owners.Load l) y.number.0 && not (is_in (numbers_of hs) y.number.0)) ≡ true
         of z there true e is = absurd (not-load w me l may (ap (λ (v : HandleRow). v.owner) (sym is) ∙ own))
         of z there false e is =
             let n = ap (λ (v : HandleRow). v.number.0) is in
@@ -258,7 +274,16 @@ close-whole {w} {w'} r whole call placed = falls-whole fall call.falls.falls pla
         let o = whole.owners_there in
         let after = shut w w'.failures in
         record {
-          handles = record { ordered = h.ordered; numbered = h.numbered; nodes_numbered = h.nodes_numbered; within = h.within; live = h.live; uniform = h.uniform; unkeyed = h.unkeyed; places = (omega arith, omega arith) };
+          handles = record {
+            ordered = h.ordered;
+            numbered = h.numbered;
+            nodes_numbered = h.nodes_numbered;
+            within = h.within;
+            live = h.live;
+            uniform = h.uniform;
+            unkeyed = h.unkeyed;
+            places = (omega arith, omega arith);
+          };
           listed = λ q. at q (times (λ (h : HandleNumber). h.0 == q) w.list) refl;
           waiting = o.waiting;
           loads_there = λ x l among own. inl (o.loads x l among own);

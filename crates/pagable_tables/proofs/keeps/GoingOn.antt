@@ -24,7 +24,8 @@ pub changed-on : (w u : Core) → ((n : ℕ) → is_some (u.cells n) ≡ is_some
 changed-on w u cells many shared = record { cells = λ n is. cells n ∙ is; rows = λ n. let a = many n in let b = shared n in omega arith }
 
 -- a pinned node that isn't shared is there still, and unshared
-pub on-listing : {before u : Core} → IsWhole before → HandlesAreWhole (roomy u) → GoesOn before u → (n : ℕ) → 0 < pins n before.rows → sharing n before.rows ≡ 0 → (is_some (u.cells n) ≡ true) × (sharing n u.rows ≡ 0)
+pub on-listing : {before u : Core} → IsWhole before → HandlesAreWhole (roomy u) → GoesOn before u → (n : ℕ) → 0 < pins n before.rows → sharing n before.rows ≡ 0
+    → (is_some (u.cells n) ≡ true) × (sharing n u.rows ≡ 0)
 on-listing {before} {u} whole after on n pinned unshared =
     let a = pins-le-held n before.rows in
     let b : nat_lt 0 (held n before.rows) ≡ true = grind (arith, nat_tests) in

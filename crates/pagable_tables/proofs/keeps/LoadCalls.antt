@@ -48,14 +48,24 @@ some-value : {X : Type 0} (o : Option X) → is_some o ≡ true → (x : X) × (
 some-value (Some x) is = (x, refl)
 some-value None is = absurd (cc)
 
-pub loaded-whole : {w : Core} (key : ℕ) (root : Root) (me : Owner) → IsWhole w → MayOwnLoad w me → w.last.load < greatest → ((node : NodeNumber) (t : ℕ) (h : HandleNumber) → root ≡ of_cell node t h → IsRootWhole w node t h) → IsWhole (with_load w key root me)
+pub loaded-whole : {w : Core} (key : ℕ) (root : Root) (me : Owner) → IsWhole w → MayOwnLoad w me → w.last.load < greatest
+    → ((node : NodeNumber) (t : ℕ) (h : HandleNumber) → root ≡ of_cell node t h → IsRootWhole w node t h) → IsWhole (with_load w key root me)
 loaded-whole {w} key root me whole may left good =
     let h = whole.handles in
     let o = whole.owners_there in
     let new : OpenLoad = record { owner = me; key = key; root = root } in
     let after = with_load w key root me in
     record {
-      handles = record { ordered = h.ordered; numbered = h.numbered; nodes_numbered = h.nodes_numbered; within = let (a, b, c) = h.within in (a, b, omega arith); live = h.live; uniform = h.uniform; unkeyed = h.unkeyed; places = h.places };
+      handles = record {
+        ordered = h.ordered;
+        numbered = h.numbered;
+        nodes_numbered = h.nodes_numbered;
+        within = let (a, b, c) = h.within in (a, b, omega arith);
+        live = h.live;
+        uniform = h.uniform;
+        unkeyed = h.unkeyed;
+        places = h.places;
+      };
       owners_there = record { listed = o.listed; waiting = o.waiting; loads = λ x l among is. some-updated (w.last.load + 1) new w.loads l.0 (o.loads x l among is); workers = o.workers };
       loads = record {
         numbered = λ l some. let found = some-value (updated (w.last.load + 1) (Some new) w.loads l) some in elim (at-updated (w.last.load + 1) new w.loads l found.0 found.1) [
@@ -101,22 +111,28 @@ begin-whole {w} {w'} me h (Ok (beginnings.Load l key)) whole may call placed =
     let (t, typed, leaves) = rest in
     settles (begun row owns next left t typed key) leaves placed
   where
-    begun : (row : HandleRow) → Owns w me h is_loose row → IsNextLoad l w → w.last.handle < greatest → (t : ℕ) → type_at w row.node.0 ≡ Some t → (key : ℕ) → IsWhole (roomy (with_load (with_handle w row.node modes.LooseUnpinned (owners.Load l)) key (of_cell row.node t h) me))
+    begun : (row : HandleRow) → Owns w me h is_loose row → IsNextLoad l w → w.last.handle < greatest → (t : ℕ) → type_at w row.node.0 ≡ Some t → (key : ℕ)
+        → IsWhole (roomy (with_load (with_handle w row.node modes.LooseUnpinned (owners.Load l)) key (of_cell row.node t h) me))
     begun row owns next left t typed key =
         let found = found-among h.0 w.rows row owns.live in
         let root : IsRootWhole (roomy w) row.node t h = record {
           typed = λ type is. let e : Some type ≡ Some t = sym is ∙ typed in cc;
-          begun = λ x is. let e : Some row ≡ Some x = sym owns.live ∙ is in let same : row ≡ x = cc in (ap (λ (y : HandleRow). y.node) (sym same), ap (λ (y : HandleRow). is_loose y.mode) (sym same) ∙ owns.as_asked);
+          begun = λ x is. let e : Some row ≡ Some x = sym owns.live ∙ is in let same : row ≡ x = cc in
+              (ap (λ (y : HandleRow). y.node) (sym same), ap (λ (y : HandleRow). is_loose y.mode) (sym same) ∙ owns.as_asked);
           given = let a = (whole.handles.numbered row found.0).1 in let b = found.1 in (omega arith, (whole.handles.nodes_numbered row.node.0 (some-typed (w.cells row.node.0) typed)).1);
         } in
-        beside (loaded-whole {w = roomy w} key (of_cell row.node t h) me (roomy-whole whole) (may-own w (roomy w) (λ v at. at) me may) next.is_left (λ node t2 k is. named row t root node t2 k is)) row.node modes.LooseUnpinned
-        (record { row = row; there = found.0; at = refl; shared = loose-unshared row.mode owns.as_asked }) (owners.Load l) (ap (λ n. is_some (updated (w.last.load + 1) (Some (record { owner = me; key = key; root = of_cell row.node t h })) w.loads n)) next.above ∙ ap is_some (is-updated (w.last.load + 1) (Some (record { owner = me; key = key; root = of_cell row.node t h })) w.loads)) left
+        beside (loaded-whole {w = roomy w} key (of_cell row.node t h) me (roomy-whole whole) (may-own w (roomy w) (λ v at. at) me may) next.is_left
+        (λ node t2 k is. named row t root node t2 k is)) row.node modes.LooseUnpinned
+        (record { row = row; there = found.0; at = refl; shared = loose-unshared row.mode owns.as_asked }) (owners.Load l)
+        (ap (λ n. is_some (updated (w.last.load + 1) (Some (record { owner = me; key = key; root = of_cell row.node t h })) w.loads n)) next.above
+        ∙ ap is_some (is-updated (w.last.load + 1) (Some (record { owner = me; key = key; root = of_cell row.node t h })) w.loads)) left
       where
         some-typed : {t : ℕ} (cell : Option Cell) → type_in cell ≡ Some t → is_some cell ≡ true
         some-typed (Some cell) is = refl
         some-typed None is = absurd (cc)
 
-        named : (row : HandleRow) (t : ℕ) → IsRootWhole (roomy w) row.node t h → (node : NodeNumber) (t2 : ℕ) (k : HandleNumber) → of_cell row.node t h ≡ of_cell node t2 k → IsRootWhole (roomy w) node t2 k
+        named : (row : HandleRow) (t : ℕ) → IsRootWhole (roomy w) row.node t h → (node : NodeNumber) (t2 : ℕ) (k : HandleNumber) → of_cell row.node t h ≡ of_cell node t2 k
+            → IsRootWhole (roomy w) node t2 k
         named row t root node t2 k is =
             let a : row.node ≡ node = cc in
             let b : t ≡ t2 = cc in

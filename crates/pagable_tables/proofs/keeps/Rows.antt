@@ -34,7 +34,8 @@ among-map f [] x a = absurd (cc)
 among-map f (y ∷ ys) x (zero, is) = let e : f y ≡ x = cc in (y, (zero, refl), sym e)
 among-map f (y ∷ ys) x (suc i, is) = let r = among-map f ys x (i, is) in (r.0, (suc r.1.0, r.1.1), r.2)
 
-among-cond : {X : Type 0} (test : X → Bool) (b : Bool) (y : X) (ys zs : List X) (x : X) → test y ≡ b → Among (if b then y ∷ ys else ys) x → (Among ys x → Among zs x × (test x ≡ true)) → Among (y ∷ zs) x × (test x ≡ true)
+among-cond : {X : Type 0} (test : X → Bool) (b : Bool) (y : X) (ys zs : List X) (x : X) → test y ≡ b → Among (if b then y ∷ ys else ys) x → (Among ys x → Among zs x × (test x ≡ true))
+    → Among (y ∷ zs) x × (test x ≡ true)
 among-cond test true y ys zs x so (zero, is) rest = let e : y ≡ x = cc in ((zero, is), ap test (sym e) ∙ so)
 among-cond test true y ys zs x so (suc i, is) rest = let a = rest (i, is) in ((suc a.0.0, a.0.1), a.1)
 among-cond test false y ys zs x so a rest = let b = rest a in ((suc b.0.0, b.0.1), b.1)
@@ -106,7 +107,11 @@ found-among q [] row found = absurd (cc)
 found-among q (h ∷ hs) row found = at (found-among q hs row) (is_handle q h) refl found
   where
     at : (find_row q hs ≡ Some row → Among hs row × (row.number.0 ≡ q)) → (b : Bool) → is_handle q h ≡ b → (if b then Some h else find_row q hs) ≡ Some row → Among (h ∷ hs) row × (row.number.0 ≡ q)
-    at rest true is found = let e : h ≡ row = cc in ((zero, ap (λ (x : HandleRow). Some x) e), let f : (row.number.0 == q) ≡ true = subst (λ (x : HandleRow). is_handle q x ≡ true) e is in grind (arith, nat_tests))
+    at rest true is found = let e : h ≡ row = cc in (
+      (zero, ap (λ (x : HandleRow). Some x) e),
+      let f : (row.number.0 == q) ≡ true = subst (λ (x : HandleRow). is_handle q x ≡ true) e is in
+          grind (arith, nat_tests),
+    )
     at rest false is found = let r = rest found in ((suc r.0.0, r.0.1), r.1)
 
 -- one row has a number
@@ -140,12 +145,14 @@ pub ordered-push : (rows : List HandleRow) (row : HandleRow) → ((h : HandleRow
 ordered-push rows row above ordered = all_pairs_push IsHandleBefore rows row ordered (λ k d lt. above (get_or rows k d) (k, slice_get-get_or rows k d lt))
 
 -- what is found of changed rows, and of rows with one more
-pub found-map : (to : HandleRow → HandleRow) → ((h : HandleRow) → (to h).number.0 ≡ h.number.0) → (q : ℕ) (rows : List HandleRow) (row : HandleRow) → find_row q (map to rows) ≡ Some row → (y : HandleRow) × (find_row q rows ≡ Some y) × (row ≡ to y)
+pub found-map : (to : HandleRow → HandleRow) → ((h : HandleRow) → (to h).number.0 ≡ h.number.0) → (q : ℕ) (rows : List HandleRow) (row : HandleRow) → find_row q (map to rows) ≡ Some row
+    → (y : HandleRow) × (find_row q rows ≡ Some y) × (row ≡ to y)
 unfolding find_row
 found-map to same q [] row found = absurd (cc)
 found-map to same q (h ∷ hs) row found = at (is_handle q h) (is_handle q (to h)) refl (ap (λ n. n == q) (same h)) (found-map to same q hs row) found
   where
-    at : (b d : Bool) → is_handle q h ≡ b → d ≡ is_handle q h → (find_row q (map to hs) ≡ Some row → (y : HandleRow) × (find_row q hs ≡ Some y) × (row ≡ to y)) → (if d then Some (to h) else find_row q (map to hs)) ≡ Some row
+    at : (b d : Bool) → is_handle q h ≡ b → d ≡ is_handle q h → (find_row q (map to hs) ≡ Some row → (y : HandleRow) × (find_row q hs ≡ Some y) × (row ≡ to y))
+        → (if d then Some (to h) else find_row q (map to hs)) ≡ Some row
         → (y : HandleRow) × ((if is_handle q h then Some h else find_row q hs) ≡ Some y) × (row ≡ to y)
     at true true e f rest found = let i : to h ≡ row = cc in (h, rw e refl, sym i)
     at false false e f rest found = let r = rest found in (r.0, rw e r.1, r.2)
@@ -161,12 +168,14 @@ found-push q [] x row found = at (is_handle q x) found
     at false found = absurd (cc)
 found-push q (h ∷ hs) x row found = at (is_handle q h) (found-push q hs x row) found
   where
-    at : (b : Bool) → (find_row q (hs ++ x ∷ []) ≡ Some row → (find_row q hs ≡ Some row) ⊎ (row ≡ x)) → (if b then Some h else find_row q (hs ++ x ∷ [])) ≡ Some row → ((if b then Some h else find_row q hs) ≡ Some row) ⊎ (row ≡ x)
+    at : (b : Bool) → (find_row q (hs ++ x ∷ []) ≡ Some row → (find_row q hs ≡ Some row) ⊎ (row ≡ x)) → (if b then Some h else find_row q (hs ++ x ∷ [])) ≡ Some row
+        → ((if b then Some h else find_row q hs) ≡ Some row) ⊎ (row ≡ x)
     at true rest found = inl found
     at false rest found = rest found
 
 -- what is counted of one number is counted of its row
-pub only-row : (f : HandleRow → ℕ) (rows : List HandleRow) (row : HandleRow) → AllPairs IsHandleBefore rows → Among rows row → ((x : HandleRow) → (x.number.0 == row.number.0) ≡ false → f x ≡ 0) → sum_by f rows ≡ f row
+pub only-row : (f : HandleRow → ℕ) (rows : List HandleRow) (row : HandleRow) → AllPairs IsHandleBefore rows → Among rows row → ((x : HandleRow) → (x.number.0 == row.number.0) ≡ false → f x ≡ 0)
+    → sum_by f rows ≡ f row
 only-row f [] row ordered among none = let a = among.1 in absurd (cc)
 only-row f (x ∷ xs) row ordered (zero, is) none =
     let e : x ≡ row = cc in

@@ -31,7 +31,8 @@ type_in cell = if_there (λ (cell : Cell). Some cell.node_type) None cell
 abbrev keyed_in : Option Cell → Bool
 keyed_in cell = has_key (if_there (λ (cell : Cell). cell.key) optional.None cell)
 
-module _ {m w' : Core} (whole : IsWhole m) (rows : w'.rows ≡ m.rows) (cells : SameAt m.cells w'.cells) (list : w'.list ≡ m.list) (cache : (kind key n : ℕ) → w'.cache kind key ≡ Some n → m.cache kind key ≡ Some n)
+module _ {m w' : Core} (whole : IsWhole m) (rows : w'.rows ≡ m.rows) (cells : SameAt m.cells w'.cells) (list : w'.list ≡ m.list)
+    (cache : (kind key n : ℕ) → w'.cache kind key ≡ Some n → m.cache kind key ≡ Some n)
     (closed : w'.closed ≡ m.closed) (loads : SameAt m.loads w'.loads) (workers : SameAt m.workers w'.workers) (last : w'.last ≡ m.last) (placed : ArePlaced w') where
   told-handles : HandlesAreWhole w'
   told-handles =
