@@ -23,3 +23,4 @@ mod Going
 mod Next
 mod Begun
 mod Fewer
+mod Regiven

@@ -6,6 +6,7 @@ pub mod arriving;
 pub mod begins;
 pub mod cache;
 pub mod cascade;
+pub mod ending;
 pub mod handles;
 pub mod holdings;
 pub mod kinds;

@@ -1,0 +1,35 @@
+//! Loads that end: what they still own is given up.
+
+ghost use Rattle.std.specs.Prelude.{◌≡◌, ℕ, ◌<◌, ◌≤◌, ◌==◌, ◌&&◌, ◌||◌, [], length, Bool, true, None};
+ghost use Rattle.pagable_world.specs.declared.handles.Owner.TheVariants as owners;
+ghost use Rattle.pagable_world.specs.World.{Core};
+ghost use Rattle.pagable_world.specs.Cascade.{Falls, nobody};
+ghost use Rattle.pagable_world.specs.LoadCalls.{is_owned_in};
+ghost use Rattle.pagable_tables.specs.Live.{live};
+ghost use Rattle.pagable_tables.specs.Falling.{IsFalling, owns_nothing};
+ghost use Rattle.pagable_tables.specs.Onward.{with_tables, SoFar};
+
+use crate::cascade::cascade;
+use crate::holdings::Holdings;
+use crate::releases::told;
+use crate::turning::is_owner;
+use crate::{handles, holdings};
+use pagable_model::{Error, HandleNumber, LoadNumber};
+use pagable_world::handles::Owner;
+
+/// The handle of this number is given up, if the load owns it, with all that goes with it.
+fn give_next(t: &mut Holdings, load: LoadNumber, handle: HandleNumber, lists: bool)
+    requires { IsFalling t.old [] owns_nothing }
+    ensures steady { IsFalling t.new [] owns_nothing }
+    ensures fewer { length (live t.new.handles.places.items) ≤ length (live t.old.handles.places.items) }
+    ensures so_far { (before w : Core) (given : ℕ → Bool) → SoFar before w given lists t.old → length (live t.old.handles.places.items) ≤ length w.rows → SoFar before w (λ q. given q || (q == handle.0 && is_owned_in w (owners.Load load) q)) lists t.new }
+{
+    let Some(at) = handles::look(&t.handles, handle) else {
+        return;
+    };
+    if !is_owner(Owner::Load(load), at.row.owner) {
+        return;
+    }
+    holdings::give_up(t, at, lists);
+    cascade(t, lists);
+}
