@@ -1,5 +1,6 @@
 -- What was given is told by another set. Handles of a load that are left are those that it had and that haven't gone.
-use Rattle.std.proofs.Common.{◌≡◌, ℕ, ◌≤◌, ◌==◌, ◌&&◌, ◌||◌, Bool, true, false, not, if◌then◌else◌, List, [], ◌∷◌, ◌++◌, refl, ap, sym, ◌∙◌, arith, ◌+◌, Some}
+use Rattle.std.specs.Prelude.{nat_lt}
+use Rattle.std.proofs.Common.{◌≡◌, ℕ, ◌<◌, ◌≤◌, ◌==◌, ◌&&◌, ◌||◌, Bool, true, false, not, if◌then◌else◌, List, [], ◌∷◌, ◌++◌, refl, ap, sym, ◌∙◌, arith, ◌+◌, Some}
 use Rattle.std.proofs.lemmas.Bool.Decides.{nat_tests}
 use Rattle.pagable_model.specs.declared.numbers.LoadNumber.{LoadNumber}
 use Rattle.pagable_world.specs.declared.handles.HandleRow.{HandleRow}
@@ -7,7 +8,7 @@ use Rattle.pagable_world.specs.declared.handles.Owner.TheVariants as owners
 use Rattle.pagable_world.specs.Plain.{one, if_there}
 use Rattle.pagable_world.specs.Kinds.{is_handle, is_owner, is_owned_by, find_row}
 use Rattle.pagable_world.specs.World.{Core}
-use Rattle.pagable_world.specs.Cascade.{left_rows, AreNewEntries}
+use Rattle.pagable_world.specs.Cascade.{nobody, left_rows, AreNewEntries}
 use Rattle.pagable_world.specs.LoadCalls.{is_owned_in}
 use Rattle.pagable_tables.specs.declared.holdings.Holdings.{Holdings}
 use Rattle.pagable_tables.specs.Live.{live}
@@ -154,3 +155,22 @@ given-one before w given lists t new l n f some g = regiven before w (and_one gi
         split : (b : Bool) → (r == n) ≡ b → and_owned w l given n r ≡ true
         split true h = let m : n ≡ r = grind (arith, nat_tests) in let o : is_owned_in w (owners.Load l) r ≡ true = ap (is_owned_in w (owners.Load l)) (sym m) ∙ owned in grind (arith, nat_tests)
         split false h = grind (arith, nat_tests)
+
+-- what the load owns among the numbers that were passed
+abbrev pub ranged : Core → LoadNumber → ℕ → ℕ → ℕ → Bool
+ranged w l since past q = (nat_lt since q && nat_lt q (past + 1)) && is_owned_in w (owners.Load l) q
+
+pub none-passed : (before w : Core) (lists : Bool) (t : Holdings) (l : LoadNumber) (since : ℕ) → SoFar before w nobody lists t → SoFar before w (ranged w l since since) lists t
+none-passed before w lists t l since f = regiven before w nobody (ranged w l since since) lists t f (λ r e. absurd (grind (arith, nat_tests))) (λ r e. absurd (cc))
+
+pub one-passed : (before w : Core) (lists : Bool) (t : Holdings) (l : LoadNumber) (since past : ℕ) → since ≤ past → SoFar before w (and_owned w l (ranged w l since past) (past + 1)) lists t → SoFar before w (ranged w l since (past + 1)) lists t
+one-passed before w lists t l since past le f =
+    regiven before w (and_owned w l (ranged w l since past) (past + 1)) (ranged w l since (past + 1)) lists t f
+    (λ r e. grind (arith, nat_tests))
+    (λ r e. grind (arith, nat_tests))
+
+pub all-passed : (before w : Core) (lists : Bool) (t : Holdings) (l : LoadNumber) (since past last : ℕ) → last ≤ past → ((q : ℕ) → is_owned_in w (owners.Load l) q ≡ true → (since < q) × (q ≤ last)) → SoFar before w (ranged w l since past) lists t → SoFar before w (is_owned_in w (owners.Load l)) lists t
+all-passed before w lists t l since past last le between f =
+    regiven before w (ranged w l since past) (is_owned_in w (owners.Load l)) lists t f
+    (λ r e. let b = between r e in let b0 = b.0 in let b1 = b.1 in grind (arith, nat_tests))
+    (λ r e. grind (arith, nat_tests))

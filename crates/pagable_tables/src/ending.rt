@@ -33,3 +33,30 @@ fn give_next(t: &mut Holdings, load: LoadNumber, handle: HandleNumber, lists: bo
     holdings::give_up(t, at, lists);
     cascade(t, lists);
 }
+
+/// All handles that the load owns are given up in their order, with all that goes with them. Their numbers are above this one.
+fn give_each(t: &mut Holdings, load: LoadNumber, since: u64, lists: bool)
+    requires { IsFalling t.old [] owns_nothing }
+    ensures steady { IsFalling t.new [] owns_nothing }
+    ensures so_far { (before w : Core) → SoFar before w nobody lists t.old → length (live t.old.handles.places.items) ≤ length w.rows → ((q : ℕ) → is_owned_in w (owners.Load load) q ≡ true → (since < q) × (q ≤ t.old.last_handle)) → SoFar before w (is_owned_in w (owners.Load load)) lists t.new }
+{
+    for past in since..t.last_handle {
+        give_next(t, load, HandleNumber(past + 1), lists);
+    }
+}
+
+/// All that the load owns is given up, with all that goes with it. NumbersSpent or OutOfMemory where a cell that had to be listed isn't.
+pub fn give_up_load(
+    t: &mut Holdings,
+    load: LoadNumber,
+    since: u64,
+    lists: bool,
+) -> Result<(), Error>
+    requires { IsFalling t.old [] owns_nothing }
+    ensures steady { IsFalling t.new [] owns_nothing }
+    ensures falls { (before w : Core) → SoFar before w nobody lists (record t.old { unlisted = None }) → length (live t.old.handles.places.items) ≤ length w.rows → ((q : ℕ) → is_owned_in w (owners.Load load) q ≡ true → (since < q) × (q ≤ t.old.last_handle)) → Falls before w (is_owned_in w (owners.Load load)) result (with_tables w t.new) }
+{
+    t.unlisted = None;
+    give_each(t, load, since, lists);
+    told(t.unlisted.take())
+}
