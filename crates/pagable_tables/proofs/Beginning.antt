@@ -19,10 +19,3 @@ load-comes at at' l row here others q = elim (cases_eq q l) [
 pub none-yet : (o : Option LoadRow) (last : ℕ) → (is_some (option_map load_in o) ≡ true → last + 1 ≤ last) → o ≡ None
 none-yet None last h = refl
 none-yet (Some row) last h = let a = h refl in absurd (omega arith)
-
--- all numbers of loads were given
-pub loads-given : (at at' : ℕ → Option LoadRow) (last : ℕ) → ((q : ℕ) → q ≢ last + 1 → at' q ≡ at q) → ((q : ℕ) → is_some (at q) ≡ true → q ≤ last) → (q : ℕ) → is_some (at' q) ≡ true → q ≤ last + 1
-loads-given at at' last others given q some = elim (cases_eq q (last + 1)) [
-  | inl e ↦ omega arith
-  | inr e ↦ let a = given q (sym (ap is_some (others q e)) ∙ some) in omega arith
-]

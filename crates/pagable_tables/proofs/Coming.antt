@@ -96,12 +96,6 @@ module _ (at at' : ℕ → Option Counts) (refs refs' : ℕ → List ArcRef) (ro
     | inr e ↦ ap cell_in (others n e)
   ]
 
-  pub come-there : (n : ℕ) → is_some (at' n) ≡ is_some (at n)
-  come-there n = elim (cases_eq n x.node.0) [
-    | inl e ↦ ap (λ m. is_some (at' m)) e ∙ ap is_some here ∙ sym (ap is_some is) ∙ sym (ap (λ m. is_some (at m)) e)
-    | inr e ↦ ap is_some (others n e)
-  ]
-
 -- a node that has a handle is there
 pub some-held : (o : Option Counts) → 0 < holds_in o → IsSome o
 some-held None h = absurd (omega arith)
@@ -190,10 +184,4 @@ module _ (at at' : ℕ → Option Counts) (refs refs' : ℕ → List ArcRef) (ro
   turn-cells n = elim (cases_eq n x.node.0) [
     | inl e ↦ ap (λ m. cell_in (at' m)) e ∙ ap cell_in here ∙ sym (ap cell_in is) ∙ sym (ap (λ m. cell_in (at m)) e)
     | inr e ↦ ap cell_in (others n e)
-  ]
-
-  pub turn-there : (n : ℕ) → is_some (at' n) ≡ is_some (at n)
-  turn-there n = elim (cases_eq n x.node.0) [
-    | inl e ↦ ap (λ m. is_some (at' m)) e ∙ ap is_some here ∙ sym (ap is_some is) ∙ sym (ap (λ m. is_some (at m)) e)
-    | inr e ↦ ap is_some (others n e)
   ]

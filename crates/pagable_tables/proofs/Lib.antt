@@ -24,3 +24,4 @@ mod Next
 mod Begun
 mod Fewer
 mod Regiven
+mod keeps

@@ -1,12 +1,15 @@
 -- The plain world that the tables tell, and when they are whole.
-use Rattle.std.specs.Prelude.{ℕ, ◌≡◌, Bool, false, [], Option, None, Result, IfOk, IfErr, vec_capacity}
+use Rattle.std.specs.Prelude.{ℕ, ◌≡◌, ◌≤◌, Bool, true, false, [], length, Option, None, is_some, Result, IfOk, IfErr, vec_capacity}
 use Rattle.std.specs.Option.{option_map}
 use Rattle.pagable_model.specs.declared.error.Error.{Error}
 use Rattle.pagable_model.specs.declared.numbers.HandleNumber.{HandleNumber}
 use Rattle.pagable_model.specs.declared.numbers.NodeNumber.{NodeNumber}
-use Rattle.pagable_world.specs.Plain.{Blob, is_in}
+use Rattle.pagable_world.specs.Plain.{Blob, Among, is_in}
+use Rattle.pagable_world.specs.declared.handles.HandleRow.{HandleRow}
 use Rattle.pagable_world.specs.declared.handles.Owner.{Owner}
+use Rattle.pagable_world.specs.declared.handles.Owner.TheVariants as owners
 use Rattle.pagable_world.specs.declared.rows.Mode.{Mode}
+use Rattle.pagable_world.specs.Kinds.{is_shared}
 use Rattle.pagable_world.specs.World.{Core, OpenLoad, Root, of_cell, of_key, Alike}
 use Rattle.pagable_world.specs.Pager as pager
 use Rattle.pagable_world.specs.Calls.{with_handle, IsNext}
@@ -43,10 +46,34 @@ core_of t stored closed failures =
       places = record { handles = vec_capacity t.holdings.handles.places; entries = vec_capacity t.holdings.list };
     }
 
+-- the same, while nothing is stored
+abbrev pub plain_of : Tables → Core
+plain_of t = core_of t (λ key. None) false 0
+
 -- Rows are in their places: handles and nodes fit, and nothing falls. And the plain world that they tell is whole, whatever is stored.
 pub record IsWhole (t : Tables) : Type 0 where
   pub steady : IsFalling t.holdings [] owns_nothing
-  pub core : pager.IsWhole (core_of t (λ key. None) false 0)
+  pub core : pager.IsWhole (plain_of t)
+
+-- rows and entries of the list are in their places
+pub record ArePlaced (w : Core) : Type 0 where
+  pub rows : length w.rows ≤ w.places.handles
+  pub list : length w.list ≤ w.places.entries
+
+-- who may get a handle: the caller, a worker that is at work, or an open load
+abbrev pub MayHold : Core → Owner → Type 0
+MayHold w owners.Caller = Unit {0}
+MayHold w (owners.Worker v) = w.workers v.0 ≡ true
+MayHold w (owners.Load l) = is_some (w.loads l.0) ≡ true
+MayHold w (owners.Value n) = ⊥
+MayHold w owners.List = ⊥
+
+-- A handle of this mode may come beside those that the node has: all of them are Shared, or none is.
+pub record Suits (w : Core) (node : NodeNumber) (mode : Mode) : Type 0 where
+  pub row : HandleRow
+  pub there : Among w.rows row
+  pub at : row.node ≡ node
+  pub shared : is_shared row.mode ≡ is_shared mode
 
 -- A handle of a live node is made under the next number. While numbers and places are left it succeeds.
 pub record Makes (w : Core) (node : NodeNumber) (mode : Mode) (owner : Owner) (r : Result HandleNumber Error) (w' : Core) : Type 0 where

@@ -3,7 +3,8 @@
 ghost use Rattle.std.specs.Prelude.{◌≡◌, ℕ, Bool, Option};
 ghost use Rattle.pagable_world.specs.Plain.{Blob};
 ghost use Rattle.pagable_world.specs.LoadCalls.{BeginKeyCall};
-ghost use Rattle.pagable_tables.specs.Core.{core_of, IsWhole};
+ghost use Rattle.pagable_world.specs.Pager.{MayOwnLoad};
+ghost use Rattle.pagable_tables.specs.Core.{core_of, plain_of, IsWhole};
 
 use crate::loads;
 use crate::rows::{LoadRoot, LoadRow};
@@ -14,7 +15,8 @@ use pagable_world::handles::Owner;
 
 /// A load of a key.
 pub fn load_key(t: &mut Tables, me: Owner, key: DataKey) -> Result<Beginning, Error>
-    requires { IsWhole t.old }
+    requires whole { IsWhole t.old }
+    requires owner { MayOwnLoad (plain_of t.old) me }
     ensures begun { (stored : ℕ → Option Blob) (closed : Bool) (failures : ℕ) → BeginKeyCall (core_of t.old stored closed failures) me key result (core_of t.new stored closed failures) }
     ensures whole { IsWhole t.new }
 {

@@ -1,11 +1,9 @@
 //! Handles that come to live nodes.
 
-ghost use Rattle.std.specs.Prelude.{◌≡◌, ℕ, ◌<◌, ◌^◌, ◌+◌, Bool, Option, false, [], length, IsSome};
+ghost use Rattle.std.specs.Prelude.{◌≡◌, ℕ, ◌<◌, ◌^◌, ◌+◌, Bool, Option, length};
 ghost use Rattle.pagable_world.specs.Plain.{Blob, one};
 ghost use Rattle.pagable_world.specs.Calls.{CloneCall};
-ghost use Rattle.pagable_tables.specs.ByNumber.{counts_at};
-ghost use Rattle.pagable_tables.specs.Falling.{is_valued};
-ghost use Rattle.pagable_tables.specs.Core.{core_of, IsWhole, Makes};
+ghost use Rattle.pagable_tables.specs.Core.{core_of, plain_of, IsWhole, MayHold, Suits, Makes};
 
 use crate::holdings::pins;
 use crate::rows::{Counts, Place};
@@ -49,8 +47,8 @@ pub fn make(
     owner: Owner,
 ) -> Result<HandleNumber, Error>
     requires whole { IsWhole t.old }
-    requires live { IsSome (counts_at t.old.holdings.nodes node.0) }
-    requires owner { is_valued owner ≡ false }
+    requires suits { Suits (plain_of t.old) node mode }
+    requires holder { MayHold (plain_of t.old) owner }
     ensures made { (stored : ℕ → Option Blob) (closed : Bool) (failures : ℕ) → Makes (core_of t.old stored closed failures) node mode owner result (core_of t.new stored closed failures) }
     ensures whole { IsWhole t.new }
 {
@@ -80,7 +78,7 @@ pub fn make(
 /// A second handle of the same mode, of any live handle.
 pub fn clone(t: &mut Tables, me: Owner, handle: HandleNumber) -> Result<HandleNumber, Error>
     requires whole { IsWhole t.old }
-    requires owner { is_valued me ≡ false }
+    requires holder { MayHold (plain_of t.old) me }
     ensures cloned { (stored : ℕ → Option Blob) (closed : Bool) (failures : ℕ) → CloneCall (core_of t.old stored closed failures) me handle result (core_of t.new stored closed failures) }
     ensures whole { IsWhole t.new }
 {

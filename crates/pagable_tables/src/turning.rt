@@ -1,10 +1,11 @@
 //! Handles that are pinned from now on, with or without another handle beside.
 
-ghost use Rattle.std.specs.Prelude.{◌≡◌, ℕ, ◌<◌, ◌^◌, ◌+◌, Bool, Option, not, slice_get, Some, IfOk, IfErr, true};
+ghost use Rattle.std.specs.Prelude.{◌≡◌, ℕ, ◌<◌, ◌^◌, ◌+◌, Bool, Option, not, slice_get, Some, IfOk, IfErr, true, false};
 ghost use Rattle.pagable_world.specs.declared.rows.Mode.{Mode};
 ghost use Rattle.pagable_world.specs.declared.rows.Mode.TheVariants as modes;
 ghost use Rattle.pagable_world.specs.Plain.{Blob, one};
-ghost use Rattle.pagable_world.specs.Kinds.{is_owner, is_pinned, find_row};
+ghost use Rattle.pagable_world.specs.declared.handles.Owner.TheVariants as owners;
+ghost use Rattle.pagable_world.specs.Kinds.{is_owner, is_owned_by, is_pinned, is_shared, find_row};
 ghost use Rattle.pagable_world.specs.World.{Alike};
 ghost use Rattle.pagable_world.specs.Refusals.{handle_fault};
 ghost use Rattle.pagable_world.specs.Calls.{LoosenCall, with_mode};
@@ -79,6 +80,8 @@ fn counts_pinned(counts: Counts, was_pinning: bool) -> Counts
 fn turn(t: &mut Tables, at: HandleAt)
     requires whole { IsWhole t.old }
     requires place { slice_get t.old.holdings.handles.places.items at.place ≡ Some (alive at.row) }
+    requires unshared { is_shared at.row.mode ≡ false }
+    requires unlisted { is_owned_by owners.List at.row ≡ false }
     ensures turned { (stored : ℕ → Option Blob) (closed : Bool) (failures : ℕ) → Alike (with_mode (core_of t.old stored closed failures) at.row.number modes.LoosePinned) (core_of t.new stored closed failures) }
     ensures whole { IsWhole t.new }
 {

@@ -1,11 +1,17 @@
-use Rattle.std.proofs.Common.{◌+◌, refl, arith, rules}
+use Rattle.std.proofs.Common.{◌+◌, refl, ap, arith, rules, None, false, Ok}
+use Rattle.pagable_world.specs.declared.answers.Beginning.TheVariants as beginnings
+use Rattle.std.specs.Option.{option_map}
 use Rattle.pagable_tables.specs.ByNumber.{load_at}
-use Rattle.pagable_tables.proofs.Beginning.{load-comes, none-yet, loads-given}
+use Rattle.pagable_tables.specs.Core.{load_in}
+use Rattle.pagable_tables.proofs.Beginning.{load-comes, none-yet}
 use Rattle.pagable_tables.proofs.Worlds.{same-cache}
+use Rattle.pagable_tables.proofs.keeps.LoadCalls.{begin-key-whole}
+use Rattle.pagable_tables.proofs.keeps.Told.{told-whole}
+use Rattle.pagable_tables.proofs.keeps.Placed.{whole-so}
 use Rattle.pagable_tables.proofs.begins.load_key.Goals as goal
 
 pub open-requires : goal.open-requires
-open-requires c = none-yet (load_at c.args.t.now.loads (c.args.t.now.last_load + 1)) c.args.t.now.last_load (c.requires.loads (c.args.t.now.last_load + 1))
+open-requires c = none-yet (load_at c.args.t.now.loads (c.args.t.now.last_load + 1)) c.args.t.now.last_load (λ some. (c.requires.whole.core.loads.numbered (c.args.t.now.last_load + 1) some).1)
 
 pub returns-clause-begun : goal.returns-clause-begun
 returns-clause-begun c stored closed failures =
@@ -33,6 +39,7 @@ returns-clause-begun c stored closed failures =
 
 pub returns-clause-whole : goal.returns-clause-whole
 returns-clause-whole c =
-    let t = c.args.t.now in
-    let w = c.requires in
-    record { steady = w.steady; nodes = w.nodes; loads = loads-given (load_at t.loads) (load_at c.open.new.loads) t.last_load c.in-Ok.ensures.others w.loads }
+    whole-so c.requires.whole.steady (begin-key-whole c.args.me c.args.key (Ok (beginnings.Load (record { 0 = c.args.t.now.last_load + 1 }) c.args.key)) c.requires.whole.core c.requires.owner (returns-clause-begun c (λ key. None) false 0))
+
+pub returns-in_default-clause-whole : goal.returns-in_default-clause-whole
+returns-in_default-clause-whole c = whole-so c.requires.whole.steady (told-whole c.requires.whole.core refl (λ n. refl) refl (λ kind key n is. is) refl (λ l. ap (option_map load_in) (c.in_default.ensures.err l)) (λ v. refl) refl)

@@ -1,7 +1,9 @@
-use Rattle.std.proofs.Common.{refl, ap, arith}
+use Rattle.std.proofs.Common.{refl, ap, arith, None, false, Ok}
 use Rattle.std.specs.Option.{option_map}
 use Rattle.pagable_model.specs.declared.numbers.NodeNumber.{NodeNumber}
 use Rattle.pagable_tables.proofs.Worlds.{same-cache}
+use Rattle.pagable_tables.proofs.keeps.CacheCalls.{clear-whole}
+use Rattle.pagable_tables.proofs.keeps.Placed.{whole-so}
 use Rattle.pagable_tables.proofs.places.cache_clear.Goals as goal
 
 pub returns-clause-cleared : goal.returns-clause-cleared
@@ -22,3 +24,6 @@ returns-clause-cleared c stored closed failures =
         places = record { handles = omega arith; entries = omega arith };
       };
     }
+
+pub returns-clause-whole : goal.returns-clause-whole
+returns-clause-whole c = whole-so c.requires.steady (clear-whole (Ok tt) c.requires.core (returns-clause-cleared c (λ key. None) false 0))

@@ -1,8 +1,10 @@
-use Rattle.std.proofs.Common.{◌+◌, refl}
+use Rattle.std.proofs.Common.{◌+◌, refl, None, false}
 use Rattle.pagable_tables.specs.Live.{live}
 use Rattle.pagable_tables.specs.ByNumber.{counts_at, refs_at}
 use Rattle.pagable_tables.proofs.Coming.{rows-told}
 use Rattle.pagable_tables.proofs.Worlds.{same-cache}
+use Rattle.pagable_tables.proofs.keeps.Told.{alike-whole}
+use Rattle.pagable_tables.proofs.keeps.Placed.{whole-so}
 use Rattle.pagable_tables.proofs.places.grow.Goals as goal
 
 pub returns-clause-grown : goal.returns-clause-grown
@@ -25,12 +27,10 @@ pub returns-clause-whole : goal.returns-clause-whole
 returns-clause-whole c =
     let t = c.args.t.now.holdings in
     let w = c.requires in
-    record {
-      steady = record {
-        sound = c.reserve.ensures.sound;
-        next = c.reserve.ensures.next (t.last_handle + 1) w.steady.next;
-        fits = rows-told (counts_at t.nodes) (refs_at t.nodes) (live t.handles.places.items) (live c.reserve.new.handles.places.items) t.top c.reserve.ensures.rows w.steady.fits;
-      };
-      nodes = w.nodes;
-      loads = w.loads;
-    }
+    whole-so
+    (record {
+      sound = c.reserve.ensures.sound;
+      next = c.reserve.ensures.next (t.last_handle + 1) w.steady.next;
+      fits = rows-told (counts_at t.nodes) (refs_at t.nodes) (live t.handles.places.items) (live c.reserve.new.handles.places.items) t.top c.reserve.ensures.rows w.steady.fits;
+    })
+    (alike-whole w.core (returns-clause-grown c (λ key. None) false 0))

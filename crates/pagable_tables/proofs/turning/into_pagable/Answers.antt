@@ -1,10 +1,11 @@
-use Rattle.std.proofs.Common.{subst, rules}
-use Rattle.pagable_world.specs.Kinds.{is_pinned}
+use Rattle.std.proofs.Common.{ap, subst, rules}
+use Rattle.pagable_world.specs.Kinds.{is_pinned, is_shared}
 use Rattle.pagable_world.specs.World.{Alike}
 use Rattle.pagable_world.specs.Calls.{with_mode}
 use Rattle.pagable_world.specs.declared.rows.Mode.TheVariants as modes
 use Rattle.pagable_tables.specs.Core.{core_of}
 use Rattle.pagable_tables.proofs.Worlds.{still, owner-same}
+use Rattle.pagable_tables.proofs.keeps.HandleCalls.{is-pinned, pinned-unlisted}
 use Rattle.pagable_tables.proofs.turning.into_pagable.Goals as goal
 
 pub returns-in-Err-clause-loosened : goal.returns-in-Err-clause-loosened
@@ -22,3 +23,9 @@ returns-clause-loosened c stored closed failures =
       );
       refused = tt;
     }
+
+pub turn-requires-clause-unshared : goal.turn-requires-clause-unshared
+turn-requires-clause-unshared c = ap is_shared (is-pinned c.in-Ok.at.row.mode (search rules))
+
+pub turn-requires-clause-unlisted : goal.turn-requires-clause-unlisted
+turn-requires-clause-unlisted c = pinned-unlisted c.args.handle c.in-Ok.at.row c.requires.core c.in-Ok.ensures.found (search rules)

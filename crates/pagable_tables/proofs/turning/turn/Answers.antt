@@ -1,14 +1,17 @@
-use Rattle.std.proofs.Common.{◌+◌, ◌≡◌, arith, refl, ap, sym, ◌∙◌, Some, None}
+use Rattle.std.proofs.Common.{◌+◌, ◌≡◌, arith, refl, ap, sym, ◌∙◌, Some, None, false}
 use Rattle.std.specs.Prelude.{not}
 use Rattle.pagable_world.specs.Plain.{one}
 use Rattle.pagable_world.specs.Kinds.{is_pinning}
 use Rattle.pagable_tables.specs.Live.{live}
 use Rattle.pagable_tables.specs.ByNumber.{counts_at, refs_at}
 use Rattle.pagable_tables.specs.Falling.{pins_in, holds_in}
-use Rattle.pagable_tables.proofs.Alive.{length-live-le, changed-known, row-le-live}
+use Rattle.pagable_tables.proofs.Alive.{length-live-le, changed-known, row-le-live, row-live}
 use Rattle.pagable_tables.proofs.Fitting.{pins-le-held, handle_of, held-here}
-use Rattle.pagable_tables.proofs.Coming.{turn-fits, turn-cells, turn-there, turned, held-few}
+use Rattle.pagable_tables.proofs.Coming.{turn-fits, turn-cells, turned, held-few}
 use Rattle.pagable_tables.proofs.Worlds.{alike}
+use Rattle.pagable_tables.proofs.keeps.Told.{settles}
+use Rattle.pagable_tables.proofs.keeps.Placed.{whole-so}
+use Rattle.pagable_tables.proofs.keeps.HandleCalls.{pins-whole}
 use Rattle.pagable_tables.proofs.turning.turn.Goals as goal
 
 pub unreachable-requires : goal.unreachable-requires
@@ -65,12 +68,10 @@ returns-clause-whole c =
     let rows' = live c.set.new.handles.places.items in
     let w = c.requires.whole in
     let here = e.here ∙ ap Some made in
-    record {
-      steady = record {
-        sound = c.set.ensures.sound;
-        next = c.set.ensures.next (t.last_handle + 1) w.steady.next;
-        fits = turn-fits at at' refs refs' rows rows' t.top x y w.steady.fits is c.set.ensures.sums here e.others e.refs;
-      };
-      nodes = λ n some. w.nodes n (sym (turn-there at at' refs refs' rows rows' t.top x y w.steady.fits is c.set.ensures.sums here e.others e.refs n) ∙ some);
-      loads = w.loads;
-    }
+    whole-so
+    (record {
+      sound = c.set.ensures.sound;
+      next = c.set.ensures.next (t.last_handle + 1) w.steady.next;
+      fits = turn-fits at at' refs refs' rows rows' t.top x y w.steady.fits is c.set.ensures.sums here e.others e.refs;
+    })
+    (settles (pins-whole x.number x w.core (row-live t.handles.places.items c.args.at.place x w.steady.sound.ordered c.requires.place) c.requires.unshared c.requires.unlisted) (returns-clause-turned c (λ key. None) false 0))

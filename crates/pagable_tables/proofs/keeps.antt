@@ -1,0 +1,11 @@
+-- Each call of the plain world keeps it whole.
+pub mod Rows
+pub mod Told
+pub mod Placed
+pub mod Turned
+pub mod Comes
+pub mod Rests
+pub mod Fallen
+pub mod HandleCalls
+pub mod LoadCalls
+pub mod CacheCalls

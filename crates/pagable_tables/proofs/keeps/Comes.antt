@@ -1,0 +1,243 @@
+-- A handle comes, under the next number.
+use Rattle.std.proofs.Common.{◌≡◌, ℕ, ◌≤◌, ◌<◌, ◌+◌, ◌==◌, ◌&&◌, Bool, true, false, if◌then◌else◌, List, [], ◌∷◌, ◌++◌, length, Option, Some, None, inl, inr, refl, ap, sym, subst, ◌∙◌, arith, sum_by}
+use Rattle.std.specs.Prelude.{◌⊎◌, ◌≢◌, is_some, nat_lt}
+use Rattle.std.proofs.lemmas.Bool.{cases_eq}
+use Rattle.std.proofs.lemmas.Bool.Decides.{nat_tests}
+use Rattle.std.proofs.lemmas.List.Sums.{sum_by_push}
+use Rattle.pagable_model.specs.declared.data_key.OptionalDataKey.TheVariants as optional
+use Rattle.pagable_model.specs.declared.numbers.HandleNumber.{HandleNumber}
+use Rattle.pagable_model.specs.declared.numbers.LoadNumber.{LoadNumber}
+use Rattle.pagable_model.specs.declared.numbers.NodeNumber.{NodeNumber}
+use Rattle.pagable_world.specs.declared.handles.HandleRow.{HandleRow}
+use Rattle.pagable_world.specs.declared.handles.Owner.{Owner}
+use Rattle.pagable_world.specs.declared.handles.Owner.TheVariants as owners
+use Rattle.pagable_world.specs.declared.rows.Mode.{Mode}
+use Rattle.pagable_world.specs.Plain.{one, Among, times, if_there, is_shared_kind}
+use Rattle.pagable_world.specs.Kinds.{held, sharing, is_at, is_share, is_shared, is_handle, is_owner, is_owned_by, find_row, has_key}
+use Rattle.pagable_world.specs.World.{Core, Cell, greatest, row_at, type_at}
+use Rattle.pagable_world.specs.Calls.{with_handle, row_of, IsNext}
+use Rattle.pagable_world.specs.Pager.{OwnersAreThere, IsRootWhole, IsEntryWhole, IsWhole}
+use Rattle.pagable_tables.specs.Falling.{is_valued}
+use Rattle.pagable_tables.specs.Core.{MayHold, Suits}
+use Rattle.pagable_tables.proofs.keeps.Rows.{among-both, among-one, at-most-sum, sum-less, found-among, found-push, ordered-push}
+use Rattle.pagable_tables.proofs.keeps.Told.{roomy, may-own}
+
+-- who may hold is neither the list nor a value
+pub not-list : (w : Core) (o : Owner) → MayHold w o → is_owner owners.List o ≡ false
+not-list w owners.Caller may = refl
+not-list w (owners.Worker v) may = refl
+not-list w (owners.Value n) may = absurd may
+not-list w owners.List may = absurd may
+not-list w (owners.Load l) may = refl
+
+pub not-a-value : (w : Core) (o : Owner) → MayHold w o → is_valued o ≡ false
+not-a-value w owners.Caller may = refl
+not-a-value w (owners.Worker v) may = refl
+not-a-value w (owners.Value n) may = absurd may
+not-a-value w owners.List may = absurd may
+not-a-value w (owners.Load l) may = refl
+
+pub not-the-list : (w : Core) (o : Owner) → MayHold w o → o ≡ owners.List → ⊥
+not-the-list w o may is = subst (MayHold w) is may
+
+-- whether a cell has a key
+abbrev pub keyed_in : Option Cell → Bool
+keyed_in cell = has_key (if_there (λ (cell : Cell). cell.key) optional.None cell)
+
+abbrev pub type_in : Option Cell → Option ℕ
+type_in cell = if_there (λ (cell : Cell). Some cell.node_type) None cell
+
+-- Of a node that is there, or of a new one.
+module _ {w : Core} (whole : IsWhole w) (x : HandleRow) (cells : ℕ → Option Cell) (last : ℕ) (number : x.number.0 ≡ w.last.handle + 1) (left : w.last.handle < greatest) (more : w.last.node ≤ last) (few : last ≤ greatest)
+    (there : is_some (cells x.node.0) ≡ true) (others : (n : ℕ) → n ≢ x.node.0 → cells n ≡ w.cells n) (numbered : (0 < x.node.0) × (x.node.0 ≤ last))
+    (typed : (t : ℕ) → type_in (cells x.node.0) ≡ Some t → (type_in (w.cells x.node.0) ≡ Some t) ⊎ (w.last.node < x.node.0))
+    (uniform : (is_shared x.mode ≡ false) × (sharing x.node.0 w.rows ≡ 0) ⊎ (is_shared x.mode ≡ true) × (sharing x.node.0 w.rows ≡ held x.node.0 w.rows) × (keyed_in (cells x.node.0) ≡ false))
+    (shares : (kind : ℕ) → IsEntryWhole w kind x.node.0 → is_shared x.mode ≡ is_shared_kind kind) (holder : MayHold w x.owner) where
+  abbrev grown : Core
+  grown = roomy (record w { rows = w.rows ++ x ∷ []; cells = cells; last = record w.last { node = last; handle = w.last.handle + 1 } })
+
+  held-push : (n : ℕ) → held n grown.rows ≡ held n w.rows + one (is_at n x)
+  held-push n = sum_by_push (λ h. one (is_at n h)) w.rows x
+
+  sharing-push : (n : ℕ) → sharing n grown.rows ≡ sharing n w.rows + one (is_share n x)
+  sharing-push n = sum_by_push (λ h. one (is_share n h)) w.rows x
+
+  at-here : (x.node.0 == x.node.0) ≡ true
+  at-here = grind (arith, nat_tests)
+
+  at-other : (n : ℕ) → n ≢ x.node.0 → (x.node.0 == n) ≡ false
+  at-other n other = grind (arith, nat_tests)
+
+  share-here : one (is_share x.node.0 x) ≡ one (is_shared x.mode)
+  share-here = ap (λ b. one (b && is_shared x.mode)) at-here
+
+  grown-live : (n : ℕ) → is_some (cells n) ≡ nat_lt 0 (held n grown.rows)
+  grown-live n = elim (cases_eq n x.node.0) [
+    | inl e ↦
+        let a = held-push x.node.0 in
+        let b : one (is_at x.node.0 x) ≡ 1 = ap one at-here in
+        let c : nat_lt 0 (held x.node.0 grown.rows) ≡ true = grind (arith, nat_tests) in
+        subst (λ m. is_some (cells m) ≡ nat_lt 0 (held m grown.rows)) (sym e) (there ∙ sym c)
+    | inr other ↦
+        let a = held-push n in
+        let b : one (is_at n x) ≡ 0 = ap one (at-other n other) in
+        let c : held n w.rows ≡ held n grown.rows = omega arith in
+        ap is_some (others n other) ∙ whole.handles.live n ∙ ap (nat_lt 0) c
+  ]
+
+  grown-uniform : (n : ℕ) → (sharing n grown.rows ≡ 0) ⊎ (sharing n grown.rows ≡ held n grown.rows)
+  grown-uniform n = elim (cases_eq n x.node.0) [
+    | inl e ↦
+        let a = held-push x.node.0 in
+        let b = sharing-push x.node.0 in
+        let c : one (is_at x.node.0 x) ≡ 1 = ap one at-here in
+        let d = share-here in
+        subst (λ m. (sharing m grown.rows ≡ 0) ⊎ (sharing m grown.rows ≡ held m grown.rows)) (sym e) (elim uniform [
+          | inl u ↦ let f : one (is_shared x.mode) ≡ 0 = ap one u.0 in let g = u.1 in inl (omega arith)
+          | inr u ↦ let f : one (is_shared x.mode) ≡ 1 = ap one u.0 in let g = u.1 in inr (omega arith)
+        ])
+    | inr other ↦
+        let a = held-push n in
+        let b = sharing-push n in
+        let c : one (is_at n x) ≡ 0 = ap one (at-other n other) in
+        let d : one (is_share n x) ≡ 0 = ap (λ b. one (b && is_shared x.mode)) (at-other n other) in
+        elim (whole.handles.uniform n) [ inl u ↦ inl (omega arith) | inr u ↦ inr (omega arith) ]
+  ]
+
+  grown-unkeyed : (n : ℕ) → 0 < sharing n grown.rows → keyed_in (cells n) ≡ false
+  grown-unkeyed n some = elim (cases_eq n x.node.0) [
+    | inl e ↦
+        let b = sharing-push x.node.0 in
+        let d = share-here in
+        let s : 0 < sharing x.node.0 grown.rows = subst (λ m. 0 < sharing m grown.rows) e some in
+        ap (λ m. keyed_in (cells m)) e ∙ elim uniform [
+          | inl u ↦ let f : one (is_shared x.mode) ≡ 0 = ap one u.0 in let g = u.1 in absurd (omega arith)
+          | inr u ↦ u.2
+        ]
+    | inr other ↦
+        let b = sharing-push n in
+        let d : one (is_share n x) ≡ 0 = ap (λ b. one (b && is_shared x.mode)) (at-other n other) in
+        ap keyed_in (others n other) ∙ whole.handles.unkeyed n (omega arith)
+  ]
+
+  grown-owners : OwnersAreThere grown
+  grown-owners =
+      let o = whole.owners_there in
+      record {
+        listed = λ q. let a = sum_by_push (λ h. one (is_handle q h && is_owned_by owners.List h)) w.rows x in let b = o.listed q in let c = not-list w x.owner holder in let d : one (is_handle q x && is_owned_by owners.List x) ≡ 0 = ap (λ b. one (is_handle q x && b)) c ∙ and-false (is_handle q x) in omega arith;
+        waiting = λ h among is. elim (among-both w.rows (x ∷ []) h among) [
+          | inl old ↦ o.waiting h old is
+          | inr new ↦ absurd (not-the-list w x.owner holder (ap (λ (y : HandleRow). y.owner) (sym (among-one x h new)) ∙ is))
+        ];
+        loads = λ h l among is. elim (among-both w.rows (x ∷ []) h among) [
+          | inl old ↦ o.loads h l old is
+          | inr new ↦ subst (MayHold w) (ap (λ (y : HandleRow). y.owner) (sym (among-one x h new)) ∙ is) holder
+        ];
+        workers = λ h v among is. elim (among-both w.rows (x ∷ []) h among) [
+          | inl old ↦ o.workers h v old is
+          | inr new ↦ subst (MayHold w) (ap (λ (y : HandleRow). y.owner) (sym (among-one x h new)) ∙ is) holder
+        ];
+      }
+    where
+      and-false : (b : Bool) → one (b && false) ≡ 0
+      and-false true = refl
+      and-false false = refl
+
+  -- a node that was there before has its type still
+  old-type : (n t : ℕ) → n ≤ w.last.node → type_in (cells n) ≡ Some t → type_in (w.cells n) ≡ Some t
+  old-type n t given is = elim (cases_eq n x.node.0) [
+    | inl e ↦ elim (typed t (subst (λ m. type_in (cells m) ≡ Some t) e is)) [ inl was ↦ subst (λ m. type_in (w.cells m) ≡ Some t) (sym e) was | inr new ↦ absurd (omega arith) ]
+    | inr other ↦ ap type_in (sym (others n other)) ∙ is
+  ]
+
+  grown-root : (n : NodeNumber) (t : ℕ) (h : HandleNumber) → IsRootWhole w n t h → IsRootWhole grown n t h
+  grown-root n t h r =
+      record {
+        typed = λ type is. r.typed type (old-type n.0 type r.given.1 is);
+        begun = λ row is. elim (found-push h.0 w.rows x row is) [
+          | inl old ↦ r.begun row old
+          | inr new ↦ let a = (found-among h.0 grown.rows row is).1 in let b = ap (λ (y : HandleRow). y.number.0) new in let c = r.given.0 in absurd (omega arith)
+        ];
+        given = let (a, b) = r.given in (omega arith, omega arith);
+      }
+
+  grown-entry : (kind n : ℕ) → IsEntryWhole w kind n → IsEntryWhole grown kind n
+  grown-entry kind n e =
+      record {
+        given = let a = e.given in omega arith;
+        typed = λ t is. e.typed t (old-type n t e.given is);
+        shares = λ h among at. elim (among-both w.rows (x ∷ []) h among) [
+          | inl old ↦ e.shares h old at
+          | inr new ↦ let same = among-one x h new in
+              ap (λ (y : HandleRow). is_shared y.mode) same ∙ shares kind (subst (IsEntryWhole w kind) (sym at ∙ ap (λ (y : HandleRow). y.node.0) same) e)
+        ];
+      }
+
+  pub grown-whole : IsWhole grown
+  grown-whole =
+      let h = whole.handles in
+      record {
+        handles = record {
+          ordered = ordered-push w.rows x (λ y among. let a = h.numbered y among in omega arith) h.ordered;
+          numbered = λ y among. elim (among-both w.rows (x ∷ []) y among) [
+            | inl old ↦ let a = h.numbered y old in (a.0, omega arith)
+            | inr new ↦ let a = ap (λ (z : HandleRow). z.number.0) (among-one x y new) in (omega arith, omega arith)
+          ];
+          nodes_numbered = λ n some. elim (cases_eq n x.node.0) [
+            | inl e ↦ (omega arith, omega arith)
+            | inr other ↦ let a = h.nodes_numbered n (sym (ap is_some (others n other)) ∙ some) in (a.0, omega arith)
+          ];
+          within = let (a, b, c) = h.within in (omega arith, omega arith, c);
+          live = grown-live;
+          uniform = grown-uniform;
+          unkeyed = grown-unkeyed;
+          places = (omega arith, omega arith);
+        };
+        owners_there = grown-owners;
+        loads = record {
+          numbered = whole.loads.numbered;
+          owned = λ l load is. may-own w grown (λ v at. at) load.owner (whole.loads.owned l load is);
+          roots = λ l load n t k is root. grown-root n t k (whole.loads.roots l load n t k is root);
+        };
+        cache = λ kind key n is. grown-entry kind n (whole.cache kind key n is);
+        workers_numbered = whole.workers_numbered;
+        shut = whole.shut;
+      }
+
+-- Beside the handles that its node has.
+module _ {w : Core} (whole : IsWhole w) (node : NodeNumber) (mode : Mode) (suits : Suits w node mode) where
+  at-node : (suits.row.node.0 == node.0) ≡ true
+  at-node = let e = ap (λ (k : NodeNumber). k.0) suits.at in grind (arith, nat_tests)
+
+  pub suits-held : 0 < held node.0 w.rows
+  suits-held = let a = at-most-sum (λ h. one (is_at node.0 h)) w.rows suits.row suits.there in let b : one (is_at node.0 suits.row) ≡ 1 = ap one at-node in omega arith
+
+  suits-there : is_some (w.cells node.0) ≡ true
+  suits-there = let a = suits-held in let b : nat_lt 0 (held node.0 w.rows) ≡ true = grind (arith, nat_tests) in whole.handles.live node.0 ∙ b
+
+  share-of : (b : Bool) → is_shared suits.row.mode ≡ b → one (is_share node.0 suits.row) ≡ one b
+  share-of b is = ap (λ a. one (a && is_shared suits.row.mode)) at-node ∙ ap one is
+
+  suits-uniform : (b : Bool) → is_shared mode ≡ b → (is_shared mode ≡ false) × (sharing node.0 w.rows ≡ 0) ⊎ (is_shared mode ≡ true) × (sharing node.0 w.rows ≡ held node.0 w.rows) × (keyed_in (w.cells node.0) ≡ false)
+  suits-uniform false is = elim (whole.handles.uniform node.0) [
+    | inl none ↦ inl (is, none)
+    | inr all ↦
+        let a = share-of false (suits.shared ∙ is) in
+        let b : one (is_at node.0 suits.row) ≡ 1 = ap one at-node in
+        let c = sum-less (λ h. one (is_share node.0 h)) (λ h. one (is_at node.0 h)) w.rows suits.row (λ h. share-le (is_at node.0 h) (is_shared h.mode)) suits.there (omega arith) in
+        absurd (omega arith)
+  ]
+    where
+      share-le : (a b : Bool) → one (a && b) ≤ one a
+      share-le true true = omega arith
+      share-le true false = omega arith
+      share-le false b = omega arith
+  suits-uniform true is =
+      let a = share-of true (suits.shared ∙ is) in
+      let b = at-most-sum (λ h. one (is_share node.0 h)) w.rows suits.row suits.there in
+      elim (whole.handles.uniform node.0) [ inl none ↦ absurd (omega arith) | inr all ↦ inr (is, all, whole.handles.unkeyed node.0 (omega arith)) ]
+
+  pub beside : (owner : Owner) → MayHold w owner → w.last.handle < greatest → IsWhole (roomy (with_handle w node mode owner))
+  beside owner holder left =
+      grown-whole whole (row_of (w.last.handle + 1) node mode owner) w.cells w.last.node refl left (omega arith) (whole.handles.within.1) suits-there (λ n other. refl) (whole.handles.nodes_numbered node.0 suits-there) (λ t is. inl is)
+      (suits-uniform (is_shared mode) refl) (λ kind e. sym suits.shared ∙ e.shares suits.row suits.there (ap (λ (k : NodeNumber). k.0) suits.at)) holder

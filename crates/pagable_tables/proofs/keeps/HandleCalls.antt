@@ -1,0 +1,65 @@
+-- Calls by which a handle comes or is pinned keep the world whole.
+use Rattle.std.proofs.Common.{◌≡◌, ℕ, ◌<◌, Bool, true, false, Ok, Err, Some, refl, ap, sym, subst, ◌∙◌}
+use Rattle.std.specs.Prelude.{Result}
+use Rattle.pagable_model.specs.declared.error.Error.{Error}
+use Rattle.pagable_model.specs.declared.numbers.HandleNumber.{HandleNumber}
+use Rattle.pagable_model.specs.declared.numbers.NodeNumber.{NodeNumber}
+use Rattle.pagable_world.specs.declared.handles.HandleRow.{HandleRow}
+use Rattle.pagable_world.specs.declared.handles.Owner.{Owner}
+use Rattle.pagable_world.specs.declared.handles.Owner.TheVariants as owners
+use Rattle.pagable_world.specs.declared.rows.Mode.{Mode}
+use Rattle.pagable_world.specs.declared.rows.Mode.TheVariants as modes
+use Rattle.pagable_world.specs.Plain.{Among}
+use Rattle.pagable_world.specs.Kinds.{is_shared, is_pinned, is_loose, is_owned_by}
+use Rattle.pagable_world.specs.World.{Core, Alike, row_at}
+use Rattle.pagable_world.specs.Calls.{with_mode, CloneCall, LoosenCall}
+use Rattle.pagable_world.specs.Pager.{IsWhole}
+use Rattle.pagable_tables.specs.Core.{ArePlaced, MayHold, Suits, Makes}
+use Rattle.pagable_tables.proofs.keeps.Rows.{found-among}
+use Rattle.pagable_tables.proofs.keeps.Told.{roomy, settles, alike-whole}
+use Rattle.pagable_tables.proofs.keeps.Turned.{moded-whole}
+use Rattle.pagable_tables.proofs.keeps.Comes.{beside}
+
+pub makes-whole : {w w' : Core} (node : NodeNumber) (mode : Mode) (owner : Owner) (r : Result HandleNumber Error) → IsWhole w → Suits w node mode → MayHold w owner → Makes w node mode owner r w' → ArePlaced w' → IsWhole w'
+makes-whole node mode owner (Ok k) whole suits holder makes placed = settles (beside whole node mode suits owner holder makes.made.0.is_left) makes.made.1 placed
+makes-whole node mode owner (Err e) whole suits holder makes placed = alike-whole whole makes.refused.stays placed
+
+-- a live handle's mode suits its node
+pub row-suits : {w : Core} (h : HandleNumber) (row : HandleRow) → row_at w h ≡ Some row → Suits w row.node row.mode
+row-suits {w} h row live = record { row = row; there = (found-among h.0 w.rows row live).0; at = refl; shared = refl }
+
+pub clone-whole : {w w' : Core} (me : Owner) (h : HandleNumber) (r : Result HandleNumber Error) → IsWhole w → MayHold w me → CloneCall w me h r w' → ArePlaced w' → IsWhole w'
+clone-whole me h (Ok k) whole holder call placed = let row = call.made.0 in settles (beside whole row.node row.mode (row-suits h row call.made.1) me holder call.made.2.is_left) call.made.3 placed
+clone-whole me h (Err e) whole holder call placed = alike-whole whole call.refused.stays placed
+
+-- the list's handles are owned by the list
+owned-by-list : (row : HandleRow) → is_owned_by owners.List row ≡ false → row.owner ≡ owners.List → ⊥
+owned-by-list row other is = let f : true ≡ false = ap (λ (o : Owner). is_owned_by owners.List (record row { owner = o })) (sym is) ∙ other in absurd (cc)
+
+-- a handle that is loose or Pinned, and not the list's, is loose and pins
+pub pins-whole : {w : Core} (h : HandleNumber) (row : HandleRow) → IsWhole w → row_at w h ≡ Some row → is_shared row.mode ≡ false → is_owned_by owners.List row ≡ false → IsWhole (roomy (with_mode w h modes.LoosePinned))
+pins-whole h row whole live unshared other = moded-whole whole h row modes.LoosePinned live (sym unshared) (λ loose. refl) (λ is. absurd (owned-by-list row other is))
+
+pub is-pinned : (mode : Mode) → is_pinned mode ≡ true → mode ≡ modes.Pinned
+is-pinned modes.Pinned is = refl
+is-pinned modes.LoosePinned is = absurd (cc)
+is-pinned modes.LooseUnpinned is = absurd (cc)
+is-pinned modes.Shared is = absurd (cc)
+
+-- a Pinned handle isn't the list's
+pub pinned-unlisted : {w : Core} (h : HandleNumber) (row : HandleRow) → IsWhole w → row_at w h ≡ Some row → is_pinned row.mode ≡ true → is_owned_by owners.List row ≡ false
+pinned-unlisted {w} h row whole live pinned = of row.owner refl
+  where
+    of : (o : Owner) → row.owner ≡ o → is_owned_by owners.List (record row { owner = o }) ≡ false
+    of owners.Caller is = refl
+    of (owners.Value n) is = refl
+    of owners.List is = let e = whole.owners_there.waiting row (found-among h.0 w.rows row live).0 is in let f : modes.LooseUnpinned ≡ modes.Pinned = sym e ∙ is-pinned row.mode pinned in absurd (cc)
+    of (owners.Load l) is = refl
+    of (owners.Worker v) is = refl
+
+pub loosen-whole : {w w' : Core} (me : Owner) (h : HandleNumber) (r : Result HandleNumber Error) → IsWhole w → LoosenCall w me h r w' → ArePlaced w' → IsWhole w'
+loosen-whole me h (Ok k) whole call placed =
+    let row = call.turned.0 in
+    let owns = call.turned.1 in
+    settles (pins-whole h row whole owns.live (ap is_shared (is-pinned row.mode owns.as_asked)) (pinned-unlisted h row whole owns.live owns.as_asked)) call.turned.3 placed
+loosen-whole me h (Err e) whole call placed = alike-whole whole call.refused.1 placed

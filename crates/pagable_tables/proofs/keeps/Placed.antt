@@ -1,0 +1,18 @@
+-- What the tables tell is in its places, since no vector is longer than its capacity.
+use Rattle.std.proofs.Common.{◌≤◌, length, arith, []}
+use Rattle.pagable_tables.specs.declared.tables.Tables.{Tables}
+use Rattle.pagable_world.specs.Pager as pager
+use Rattle.pagable_tables.specs.Falling.{IsFalling, owns_nothing}
+use Rattle.pagable_tables.specs.Core.{plain_of, ArePlaced, IsWhole}
+use Rattle.pagable_tables.proofs.Alive.{length-live-le}
+
+placed : (t : Tables) → ArePlaced (plain_of t)
+placed t =
+    let (a, b) = t.holdings.handles.places.ok in
+    let (c, d) = t.holdings.list.ok in
+    let l = length-live-le t.holdings.handles.places.items in
+    record { rows = omega arith; list = omega arith }
+
+-- so they are whole where the world is that is in its places
+pub whole-so : {t : Tables} → IsFalling t.holdings [] owns_nothing → (ArePlaced (plain_of t) → pager.IsWhole (plain_of t)) → IsWhole t
+whole-so {t} steady core = record { steady = steady; core = core (placed t) }

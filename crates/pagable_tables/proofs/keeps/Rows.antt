@@ -1,0 +1,148 @@
+-- Rows, one by one and counted, as they come and change.
+use Rattle.std.proofs.Common.{◌≡◌, ℕ, suc, zero, ◌+◌, ◌<◌, ◌≤◌, ◌==◌, Bool, true, false, not, List, [], ◌∷◌, ◌++◌, length, sum_by, filter, cond, if◌then◌else◌, Option, Some, None, slice_get, get_or, inl, inr, refl, ap, sym, subst, ◌∙◌, arith}
+use Rattle.std.specs.Prelude.{◌⊎◌, map}
+use Rattle.std.specs.List.{AllPairs}
+use Rattle.std.proofs.lemmas.Bool.{cases_order}
+use Rattle.std.proofs.lemmas.Bool.Decides.{nat_tests}
+use Rattle.std.proofs.lemmas.List.{get_or-map, length-map}
+use Rattle.std.proofs.lemmas.List.Sums.{sum_by-cons, sum_by-append, sum_by-le-sum_by}
+use Rattle.std.proofs.lemmas.List.Quantifiers.{all_pairs_push}
+use Rattle.std.proofs.lemmas.Option.{get_or_from_slice_get, slice_get_within, slice_get-get_or}
+use Rattle.pagable_world.specs.declared.handles.HandleRow.{HandleRow}
+use Rattle.pagable_world.specs.Plain.{one, Among}
+use Rattle.pagable_world.specs.Kinds.{find_row, is_handle}
+use Rattle.pagable_world.specs.Pager.{IsHandleBefore}
+
+-- ---- one by one
+
+pub among-both : {X : Type 0} (xs ys : List X) (z : X) → Among (xs ++ ys) z → Among xs z ⊎ Among ys z
+among-both [] ys z a = inr a
+among-both (x ∷ xs) ys z (zero, is) = inl (zero, is)
+among-both (x ∷ xs) ys z (suc i, is) = elim (among-both xs ys z (i, is)) [ inl a ↦ inl (suc a.0, a.1) | inr a ↦ inr a ]
+
+pub among-one : {X : Type 0} (x y : X) → Among (x ∷ []) y → y ≡ x
+among-one x y (zero, is) = let e : x ≡ y = cc in sym e
+among-one x y (suc i, is) = absurd (cc)
+
+-- the element of a changed list was one before
+pub among-map : {X : Type 0} (f : X → X) (xs : List X) (x : X) → Among (map f xs) x → (y : X) × Among xs y × (x ≡ f y)
+among-map f [] x a = absurd (cc)
+among-map f (y ∷ ys) x (zero, is) = let e : f y ≡ x = cc in (y, (zero, refl), sym e)
+among-map f (y ∷ ys) x (suc i, is) = let r = among-map f ys x (i, is) in (r.0, (suc r.1.0, r.1.1), r.2)
+
+among-cond : {X : Type 0} (test : X → Bool) (b : Bool) (y : X) (ys zs : List X) (x : X) → test y ≡ b → Among (if b then y ∷ ys else ys) x → (Among ys x → Among zs x × (test x ≡ true)) → Among (y ∷ zs) x × (test x ≡ true)
+among-cond test true y ys zs x so (zero, is) rest = let e : y ≡ x = cc in ((zero, is), ap test (sym e) ∙ so)
+among-cond test true y ys zs x so (suc i, is) rest = let a = rest (i, is) in ((suc a.0.0, a.0.1), a.1)
+among-cond test false y ys zs x so a rest = let b = rest a in ((suc b.0.0, b.0.1), b.1)
+
+-- what is left was there, and passes the test
+pub among-left : {X : Type 0} (test : X → Bool) (xs : List X) (x : X) → Among (filter test xs) x → Among xs x × (test x ≡ true)
+among-left test [] x a = absurd (cc)
+among-left test (y ∷ ys) x a = among-cond test (test y) y (filter test ys) ys x refl a (among-left test ys x)
+
+-- ---- counted
+
+-- each element is part of the sum
+pub at-most-sum : {X : Type 0} (f : X → ℕ) (xs : List X) (x : X) → Among xs x → f x ≤ sum_by f xs
+at-most-sum f [] x a = absurd (cc)
+at-most-sum f (y ∷ ys) x (zero, is) = let e : y ≡ x = cc in let a : f y ≡ f x = ap f e in let c = sum_by-cons f y ys in omega arith
+at-most-sum f (y ∷ ys) x (suc i, is) = let b = at-most-sum f ys x (i, is) in let c = sum_by-cons f y ys in omega arith
+
+-- a sum above zero has an element that counts
+pub counted : {X : Type 0} (f : X → ℕ) (xs : List X) → 0 < sum_by f xs → (x : X) × Among xs x × (0 < f x)
+counted f [] some = absurd (omega arith)
+counted {X} f (x ∷ xs) some = pick (f x) refl (λ z. let c = sum_by-cons f x xs in counted f xs (omega arith))
+  where
+    pick : (n : ℕ) → f x ≡ n → (f x ≡ 0 → (y : X) × Among xs y × (0 < f y)) → (y : X) × Among (x ∷ xs) y × (0 < f y)
+    pick zero e rest = let r = rest e in (r.0, (suc r.1.0, r.1.1), r.2)
+    pick (suc n) e rest = (x, (zero, refl), omega arith)
+
+-- smaller at each element and less at one, so less in sum
+pub sum-less : {X : Type 0} (f g : X → ℕ) (xs : List X) (x : X) → ((y : X) → f y ≤ g y) → Among xs x → f x < g x → sum_by f xs < sum_by g xs
+sum-less f g [] x le among lt = let a = among.1 in absurd (cc)
+sum-less f g (y ∷ ys) x le (zero, is) lt =
+    let e : y ≡ x = cc in
+    let a : f y ≡ f x = ap f e in let b : g y ≡ g x = ap g e in
+    let c = sum_by-le-sum_by f g ys le in
+    let d = sum_by-cons f y ys in let h = sum_by-cons g y ys in omega arith
+sum-less f g (y ∷ ys) x le (suc i, is) lt =
+    let a = le y in
+    let c = sum-less f g ys x le (i, is) lt in
+    let d = sum_by-cons f y ys in let h = sum_by-cons g y ys in omega arith
+
+-- the sum after each element changed
+pub sum-map : {X : Type 0} (f g : X → ℕ) (to : X → X) (xs : List X) → ((x : X) → Among xs x → f (to x) ≡ g x) → sum_by f (map to xs) ≡ sum_by g xs
+sum-map f g to [] h = refl
+sum-map f g to (x ∷ xs) h =
+    let a = h x (zero, refl) in
+    let rest = sum-map f g to xs (λ y among. h y (suc among.0, among.1)) in
+    let b = sum_by-cons f (to x) (map to xs) in
+    let c = sum_by-cons g x xs in
+    omega arith
+
+-- ---- numbers
+
+pub found-among : (q : ℕ) (rows : List HandleRow) (row : HandleRow) → find_row q rows ≡ Some row → Among rows row × (row.number.0 ≡ q)
+unfolding find_row
+found-among q [] row found = absurd (cc)
+found-among q (h ∷ hs) row found = at (found-among q hs row) (is_handle q h) refl found
+  where
+    at : (find_row q hs ≡ Some row → Among hs row × (row.number.0 ≡ q)) → (b : Bool) → is_handle q h ≡ b → (if b then Some h else find_row q hs) ≡ Some row → Among (h ∷ hs) row × (row.number.0 ≡ q)
+    at rest true is found = let e : h ≡ row = cc in ((zero, ap (λ (x : HandleRow). Some x) e), let f : (row.number.0 == q) ≡ true = subst (λ (x : HandleRow). is_handle q x ≡ true) e is in grind (arith, nat_tests))
+    at rest false is found = let r = rest found in ((suc r.0.0, r.0.1), r.1)
+
+-- one row has a number
+pub once : (rows : List HandleRow) → AllPairs IsHandleBefore rows → (a b : HandleRow) → Among rows a → Among rows b → a.number.0 ≡ b.number.0 → a ≡ b
+once rows ordered a b (i, at) (j, there) same =
+    let n = ap (λ (h : HandleRow). h.number.0) (get_or_from_slice_get rows i a a at) in
+    let k = ap (λ (h : HandleRow). h.number.0) (get_or_from_slice_get rows j b a there) in
+    let lt = slice_get_within rows i a at in
+    let lt' = slice_get_within rows j b there in
+    elim (cases_order i j) [
+      | inl equal ↦ let e : Some a ≡ Some b = sym at ∙ (ap (slice_get rows) equal ∙ there) in cc
+      | inr (inl before) ↦ absurd (let o = ordered i j a before lt' in not-below _ _ n k same o)
+      | inr (inr after) ↦ absurd (let o = ordered j i a after lt in not-below _ _ k n (sym same) o)
+    ]
+  where
+    not-below : (x y : ℕ) {m n : ℕ} → x ≡ m → y ≡ n → m ≡ n → x < y → ⊥
+    not-below x y a b c lt = absurd (omega arith)
+
+-- the order stays where numbers do, and where a greater number comes
+pub ordered-map : (to : HandleRow → HandleRow) (rows : List HandleRow) → ((h : HandleRow) → (to h).number.0 ≡ h.number.0) → AllPairs IsHandleBefore rows → AllPairs IsHandleBefore (map to rows)
+ordered-map to rows same ordered j k d less lt =
+    let n = length-map rows to in
+    let a = ap (λ (h : HandleRow). h.number.0) (get_or-map to rows j d d (omega arith)) in
+    let b = ap (λ (h : HandleRow). h.number.0) (get_or-map to rows k d d (omega arith)) in
+    let o = ordered j k d less (omega arith) in
+    let e = same (get_or rows j d) in
+    let f = same (get_or rows k d) in
+    omega arith
+
+pub ordered-push : (rows : List HandleRow) (row : HandleRow) → ((h : HandleRow) → Among rows h → h.number.0 < row.number.0) → AllPairs IsHandleBefore rows → AllPairs IsHandleBefore (rows ++ row ∷ [])
+ordered-push rows row above ordered = all_pairs_push IsHandleBefore rows row ordered (λ k d lt. above (get_or rows k d) (k, slice_get-get_or rows k d lt))
+
+-- what is found of changed rows, and of rows with one more
+pub found-map : (to : HandleRow → HandleRow) → ((h : HandleRow) → (to h).number.0 ≡ h.number.0) → (q : ℕ) (rows : List HandleRow) (row : HandleRow) → find_row q (map to rows) ≡ Some row → (y : HandleRow) × (find_row q rows ≡ Some y) × (row ≡ to y)
+unfolding find_row
+found-map to same q [] row found = absurd (cc)
+found-map to same q (h ∷ hs) row found = at (is_handle q h) (is_handle q (to h)) refl (ap (λ n. n == q) (same h)) (found-map to same q hs row) found
+  where
+    at : (b d : Bool) → is_handle q h ≡ b → d ≡ is_handle q h → (find_row q (map to hs) ≡ Some row → (y : HandleRow) × (find_row q hs ≡ Some y) × (row ≡ to y)) → (if d then Some (to h) else find_row q (map to hs)) ≡ Some row
+        → (y : HandleRow) × ((if is_handle q h then Some h else find_row q hs) ≡ Some y) × (row ≡ to y)
+    at true true e f rest found = let i : to h ≡ row = cc in (h, rw e refl, sym i)
+    at false false e f rest found = let r = rest found in (r.0, rw e r.1, r.2)
+    at true false e f rest found = let g : false ≡ true = f ∙ e in absurd (cc)
+    at false true e f rest found = let g : true ≡ false = f ∙ e in absurd (cc)
+
+pub found-push : (q : ℕ) (rows : List HandleRow) (x row : HandleRow) → find_row q (rows ++ x ∷ []) ≡ Some row → (find_row q rows ≡ Some row) ⊎ (row ≡ x)
+unfolding find_row
+found-push q [] x row found = at (is_handle q x) found
+  where
+    at : (b : Bool) → (if b then Some x else None) ≡ Some row → (None ≡ Some row) ⊎ (row ≡ x)
+    at true found = let e : x ≡ row = cc in inr (sym e)
+    at false found = absurd (cc)
+found-push q (h ∷ hs) x row found = at (is_handle q h) (found-push q hs x row) found
+  where
+    at : (b : Bool) → (find_row q (hs ++ x ∷ []) ≡ Some row → (find_row q hs ≡ Some row) ⊎ (row ≡ x)) → (if b then Some h else find_row q (hs ++ x ∷ [])) ≡ Some row → ((if b then Some h else find_row q hs) ≡ Some row) ⊎ (row ≡ x)
+    at true rest found = inl found
+    at false rest found = rest found

@@ -1,0 +1,119 @@
+-- Rows that change, each under its own number and of its own node.
+use Rattle.std.proofs.Common.{◌≡◌, ℕ, ◌≤◌, ◌+◌, ◌==◌, ◌&&◌, Bool, true, false, if◌then◌else◌, List, [], length, Option, Some, None, refl, ap, sym, subst, ◌∙◌, arith, sum_by}
+use Rattle.std.specs.Prelude.{◌⊎◌, is_some, nat_lt, map}
+use Rattle.std.proofs.lemmas.Bool.Decides.{nat_tests}
+use Rattle.pagable_model.specs.declared.numbers.HandleNumber.{HandleNumber}
+use Rattle.pagable_model.specs.declared.numbers.LoadNumber.{LoadNumber}
+use Rattle.pagable_model.specs.declared.numbers.NodeNumber.{NodeNumber}
+use Rattle.pagable_world.specs.declared.handles.HandleRow.{HandleRow}
+use Rattle.pagable_world.specs.declared.handles.Owner.{Owner}
+use Rattle.pagable_world.specs.declared.handles.Owner.TheVariants as owners
+use Rattle.pagable_world.specs.declared.rows.Mode.{Mode}
+use Rattle.pagable_world.specs.declared.rows.Mode.TheVariants as modes
+use Rattle.pagable_world.specs.Plain.{one, Among, times}
+use Rattle.pagable_world.specs.Kinds.{held, sharing, is_at, is_share, is_shared, is_loose, is_handle, is_owner, is_owned_by, find_row}
+use Rattle.pagable_world.specs.World.{Core, row_at}
+use Rattle.pagable_world.specs.Calls.{with_mode, moved}
+use Rattle.pagable_world.specs.Pager.{OwnersAreThere, IsRootWhole, IsEntryWhole, IsWhole}
+use Rattle.pagable_tables.specs.Core.{MayHold}
+use Rattle.pagable_tables.proofs.keeps.Rows.{among-map, sum-map, found-among, found-map, once, ordered-map}
+use Rattle.pagable_tables.proofs.keeps.Told.{roomy, may-own}
+
+module _ {w : Core} (whole : IsWhole w) (to : HandleRow → HandleRow) (list : List HandleNumber) (number : (h : HandleRow) → (to h).number.0 ≡ h.number.0) (node : (h : HandleRow) → (to h).node ≡ h.node)
+    (shared : (h : HandleRow) → Among w.rows h → is_shared (to h).mode ≡ is_shared h.mode) (loose : (h : HandleRow) → Among w.rows h → is_loose h.mode ≡ true → is_loose (to h).mode ≡ true) where
+  abbrev turned : Core
+  turned = roomy (record w { rows = map to w.rows; list = list })
+
+  same-held : (n : ℕ) → held n turned.rows ≡ held n w.rows
+  same-held n = sum-map (λ h. one (is_at n h)) (λ h. one (is_at n h)) to w.rows (λ h among. ap (λ (k : NodeNumber). one (k.0 == n)) (node h))
+
+  same-sharing : (n : ℕ) → sharing n turned.rows ≡ sharing n w.rows
+  same-sharing n = sum-map (λ h. one (is_share n h)) (λ h. one (is_share n h)) to w.rows (λ h among. ap (λ (k : NodeNumber). one (k.0 == n && is_shared (to h).mode)) (node h) ∙ ap (λ b. one (h.node.0 == n && b)) (shared h among))
+
+  turned-root : (n : NodeNumber) (t : ℕ) (h : HandleNumber) → IsRootWhole w n t h → IsRootWhole turned n t h
+  turned-root n t h r =
+      record {
+        typed = r.typed;
+        begun = λ row is.
+            let found = found-map to number h.0 w.rows row is in
+            let old = r.begun found.0 found.1 in
+            (ap (λ (x : HandleRow). x.node) found.2 ∙ node found.0 ∙ old.0, ap (λ (x : HandleRow). is_loose x.mode) found.2 ∙ loose found.0 (found-among h.0 w.rows found.0 found.1).0 old.1);
+        given = r.given;
+      }
+
+  turned-entry : (kind n : ℕ) → IsEntryWhole w kind n → IsEntryWhole turned kind n
+  turned-entry kind n e =
+      record {
+        given = e.given;
+        typed = e.typed;
+        shares = λ h among at.
+            let old = among-map to w.rows h among in
+            ap (λ (x : HandleRow). is_shared x.mode) old.2 ∙ shared old.0 old.1 ∙ e.shares old.0 old.1 (ap (λ (k : NodeNumber). k.0) (sym (node old.0) ∙ ap (λ (x : HandleRow). x.node) (sym old.2)) ∙ at);
+      }
+
+  pub turned-whole : OwnersAreThere turned → (w.closed ≡ true → list ≡ []) → IsWhole turned
+  turned-whole own none =
+      let h = whole.handles in
+      record {
+        handles = record {
+          ordered = ordered-map to w.rows number h.ordered;
+          numbered = λ x among. let old = among-map to w.rows x among in let a = h.numbered old.0 old.1 in let e = ap (λ (x : HandleRow). x.number.0) old.2 in let f = number old.0 in (omega arith, omega arith);
+          nodes_numbered = h.nodes_numbered;
+          within = h.within;
+          live = λ n. h.live n ∙ ap (nat_lt 0) (sym (same-held n));
+          uniform = λ n. subst (λ k. (sharing n turned.rows ≡ 0) ⊎ (sharing n turned.rows ≡ k)) (sym (same-held n)) (subst (λ k. (k ≡ 0) ⊎ (k ≡ held n w.rows)) (sym (same-sharing n)) (h.uniform n));
+          unkeyed = λ n some. h.unkeyed n (let e = same-sharing n in omega arith);
+          places = (omega arith, omega arith);
+        };
+        owners_there = own;
+        loads = record {
+          numbered = whole.loads.numbered;
+          owned = λ l load is. may-own w turned (λ v at. at) load.owner (whole.loads.owned l load is);
+          roots = λ l load n t k is root. turned-root n t k (whole.loads.roots l load n t k is root);
+        };
+        cache = λ kind key n is. turned-entry kind n (whole.cache kind key n is);
+        workers_numbered = whole.workers_numbered;
+        shut = λ so. (none so, (whole.shut so).1);
+      }
+
+-- ---- another mode
+
+module _ {w : Core} (whole : IsWhole w) (h : HandleNumber) (row : HandleRow) (mode : Mode) (live : row_at w h ≡ Some row) (shared : is_shared mode ≡ is_shared row.mode) (loose : is_loose row.mode ≡ true → is_loose mode ≡ true)
+    (waits : row.owner ≡ owners.List → mode ≡ modes.LooseUnpinned) where
+  abbrev to-mode : HandleRow → HandleRow
+  to-mode x = if is_handle h.0 x then record x { mode = mode } else x
+
+  the-row : (x : HandleRow) → Among w.rows x → is_handle h.0 x ≡ true → x ≡ row
+  the-row x among is = let a = found-among h.0 w.rows row live in once w.rows whole.handles.ordered x row among a.0 (let b = a.1 in grind (arith, nat_tests))
+
+  -- what both cases give
+  each : (P : HandleRow → Type 0) (x : HandleRow) → (is_handle h.0 x ≡ true → P (record x { mode = mode })) → (is_handle h.0 x ≡ false → P x) → P (to-mode x)
+  each P x named other = at (is_handle h.0 x) refl
+    where
+      at : (b : Bool) → is_handle h.0 x ≡ b → P (if b then record x { mode = mode } else x)
+      at true e = named e
+      at false e = other e
+
+  mode-owners : OwnersAreThere (roomy (with_mode w h mode))
+  mode-owners =
+      let o = whole.owners_there in
+      record {
+        listed = λ q. o.listed q ∙ sym (sum-map (λ x. one (is_handle q x && is_owned_by owners.List x)) (λ x. one (is_handle q x && is_owned_by owners.List x)) to-mode w.rows
+            (λ x among. each (λ y. one (is_handle q y && is_owned_by owners.List y) ≡ one (is_handle q x && is_owned_by owners.List x)) x (λ e. refl) (λ e. refl)));
+        waiting = λ x among is. let old = among-map to-mode w.rows x among in
+            ap (λ (y : HandleRow). y.mode) old.2 ∙ each (λ y. y.owner ≡ owners.List → y.mode ≡ modes.LooseUnpinned) old.0
+            (λ e own. waits (sym (ap (λ (y : HandleRow). y.owner) (the-row old.0 old.1 e)) ∙ own)) (λ e own. o.waiting old.0 old.1 own) (sym (ap (λ (y : HandleRow). y.owner) old.2) ∙ is);
+        loads = λ x l among is. let old = among-map to-mode w.rows x among in
+            each (λ y. y.owner ≡ owners.Load l → is_some (w.loads l.0) ≡ true) old.0 (λ e own. o.loads old.0 l old.1 own) (λ e own. o.loads old.0 l old.1 own) (sym (ap (λ (y : HandleRow). y.owner) old.2) ∙ is);
+        workers = λ x v among is. let old = among-map to-mode w.rows x among in
+            each (λ y. y.owner ≡ owners.Worker (record { 0 = v }) → w.workers v ≡ true) old.0 (λ e own. o.workers old.0 v old.1 own) (λ e own. o.workers old.0 v old.1 own) (sym (ap (λ (y : HandleRow). y.owner) old.2) ∙ is);
+      }
+
+  pub moded-whole : IsWhole (roomy (with_mode w h mode))
+  moded-whole =
+      turned-whole whole to-mode w.list
+      (λ x. each (λ y. y.number.0 ≡ x.number.0) x (λ e. refl) (λ e. refl))
+      (λ x. each (λ y. y.node ≡ x.node) x (λ e. refl) (λ e. refl))
+      (λ x among. each (λ y. is_shared y.mode ≡ is_shared x.mode) x (λ e. shared ∙ ap (λ (y : HandleRow). is_shared y.mode) (sym (the-row x among e))) (λ e. refl))
+      (λ x among was. each (λ y. is_loose y.mode ≡ true) x (λ e. loose (ap (λ (y : HandleRow). is_loose y.mode) (sym (the-row x among e)) ∙ was)) (λ e. was))
+      mode-owners (λ so. (whole.shut so).0)
