@@ -4,20 +4,21 @@ use Rattle.std.proofs.lemmas.Bool.Decides.{nat_tests}
 use Rattle.std.proofs.lemmas.List.{append-nil}
 use Rattle.std.proofs.lemmas.List.Sums.{sum_by-cons}
 use Rattle.pagable_model.specs.declared.error.Error.{Error}
+use Rattle.pagable_model.specs.declared.numbers.ArcRef.{ArcRef}
 use Rattle.pagable_world.specs.declared.handles.HandleRow.{HandleRow}
-use Rattle.pagable_world.specs.declared.handles.Owner.{Owner}
-use Rattle.pagable_world.specs.declared.handles.Owner.TheVariants as owners
 use Rattle.pagable_world.specs.Plain.{Blob, one, times}
-use Rattle.pagable_world.specs.Kinds.{is_at, is_share, is_handle, is_owner, owner_value, held, sharing}
+use Rattle.pagable_world.specs.Kinds.{is_at, is_share, held, sharing}
 use Rattle.pagable_world.specs.World.{Core, greatest, HasRoom}
 use Rattle.pagable_world.specs.Cascade.{IsWithin, MustList, TellsListing, nobody}
 use Rattle.pagable_tables.specs.declared.tables.Tables.{Tables}
+use Rattle.pagable_tables.specs.declared.rows.Counts.{Counts}
 use Rattle.pagable_tables.specs.declared.holdings.Holdings.{Holdings}
 use Rattle.pagable_tables.specs.Live.{live}
-use Rattle.pagable_tables.specs.ByNumber.{counts_at}
-use Rattle.pagable_tables.specs.Falling.{IsFalling, cell_in, is_valued, owns, owns_nothing}
+use Rattle.pagable_tables.specs.ByNumber.{counts_at, refs_at}
+use Rattle.pagable_tables.specs.Falling.{Fits, IsFalling, cell_in, is_valued, owns, owns_nothing}
 use Rattle.pagable_tables.specs.Onward.{with_tables, told_by, is_plain_pin, Begins, SoFar}
 use Rattle.pagable_tables.specs.Core.{core_of, IsWhole}
+use Rattle.pagable_tables.proofs.Coming.{owned-by-none}
 use Rattle.pagable_tables.proofs.Left.{left-all, all-kept}
 
 -- why a cell isn't listed is told aside
@@ -25,28 +26,20 @@ pub aside : (t : Holdings) (u : Option Error) (stack : List ℕ) (extra : ℕ �
 aside t u stack extra w = record { sound = w.sound; next = w.next; fits = w.fits }
 
 -- a handle that no value owns weighs nothing there
-pub unowned : (t : Holdings) (x : HandleRow) (stack : List ℕ) → is_valued x.owner ≡ false → IsFalling t stack owns_nothing → IsFalling t stack (owns x)
-unowned t x stack plain w =
+pub fits-unowned : (at : ℕ → Option Counts) (refs : ℕ → List ArcRef) (rows : List HandleRow) (top : ℕ) (stack : List ℕ) (x : HandleRow) → is_valued x.owner ≡ false → Fits at refs rows top stack owns_nothing → Fits at refs rows top stack (owns x)
+fits-unowned at refs rows top stack x plain fits =
     record {
-      sound = w.sound;
-      next = w.next;
-      fits = record {
-        pinned = w.fits.pinned;
-        holding = w.fits.holding;
-        owned = λ n q. let a = w.fits.owned n q in let b = none n q x.owner plain in omega arith;
-        chain = w.fits.chain;
-        marked = w.fits.marked;
-        right = w.fits.right;
-        from_one = w.fits.from_one;
-      };
+      pinned = fits.pinned;
+      holding = fits.holding;
+      owned = λ n q. let a = fits.owned n q in let b = owned-by-none n q x plain in omega arith;
+      chain = fits.chain;
+      marked = fits.marked;
+      right = fits.right;
+      from_one = fits.from_one;
     }
-  where
-    none : (n q : ℕ) (o : Owner) → is_valued o ≡ false → one (is_handle q x && is_owner (owner_value n) o) ≡ 0
-    none n q owners.Caller e = grind (arith, nat_tests)
-    none n q (owners.Value m) e = absurd (cc)
-    none n q owners.List e = grind (arith, nat_tests)
-    none n q (owners.Load l) e = grind (arith, nat_tests)
-    none n q (owners.Worker v) e = grind (arith, nat_tests)
+
+pub unowned : (t : Holdings) (x : HandleRow) (stack : List ℕ) → is_valued x.owner ≡ false → IsFalling t stack owns_nothing → IsFalling t stack (owns x)
+unowned t x stack plain w = record { sound = w.sound; next = w.next; fits = fits-unowned (counts_at t.nodes) (refs_at t.nodes) (live t.handles.places.items) t.top stack x plain w.fits }
 
 share-plain : (n : ℕ) (rows : List HandleRow) → sharing n rows + times (is_plain_pin n) rows ≤ held n rows
 share-plain n [] = omega arith

@@ -25,3 +25,4 @@ mod Begun
 mod Fewer
 mod Regiven
 mod keeps
+mod Lowered

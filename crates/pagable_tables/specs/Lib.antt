@@ -4,3 +4,4 @@ pub mod Falling
 pub mod Onward
 pub mod Core
 pub mod Owning
+pub mod Lowering

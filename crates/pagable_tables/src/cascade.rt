@@ -10,6 +10,7 @@ ghost use Rattle.pagable_world.specs.Cascade.{Falls};
 use crate::handles::Handles;
 use crate::holdings;
 use crate::holdings::Holdings;
+use pagable_model::Error;
 
 /// Twice the number of live handles, and one: so many steps are enough once a handle was given up.
 pub fn budget(handles: &Handles) -> usize
@@ -39,4 +40,24 @@ pub fn cascade(t: &mut Holdings, lists: bool)
         left -= 1;
         holdings::step(t, lists);
     }
+}
+
+/// What came of the listing since handles began to be given up.
+fn told(unlisted: Option<Error>) -> Result<(), Error>
+    ensures { result ≡ told_by unlisted }
+{
+    match unlisted {
+        None => Ok(()),
+        Some(e) => Err(e),
+    }
+}
+
+/// The same, and then what came of the listing: NumbersSpent or OutOfMemory where a cell that had to be listed isn't.
+pub fn fall(t: &mut Holdings, lists: bool) -> Result<(), Error>
+    requires falling { (stack : List ℕ) × IsFalling t.old stack owns_nothing × (length stack ≤ 1) }
+    ensures steady { IsFalling t.new [] owns_nothing }
+    ensures falls { (before w : Core) (given : ℕ → Bool) → SoFar before w given lists t.old → Falls before w given result (with_tables w t.new) }
+{
+    cascade(t, lists);
+    told(t.unlisted.take())
 }

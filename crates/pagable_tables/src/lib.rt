@@ -23,3 +23,4 @@ pub mod releases;
 pub mod rows;
 pub mod tables;
 pub mod turning;
+pub mod unpins;

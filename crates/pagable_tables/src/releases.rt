@@ -9,10 +9,10 @@ ghost use Rattle.pagable_world.specs.Calls.{ReleaseCall};
 ghost use Rattle.pagable_world.specs.Cascade.{Falls, nobody, only_handle};
 ghost use Rattle.pagable_tables.specs.Live.{live, alive};
 ghost use Rattle.pagable_tables.specs.Falling.{IsFalling, is_valued, owns_nothing};
-ghost use Rattle.pagable_tables.specs.Onward.{with_tables, told_by, SoFar};
+ghost use Rattle.pagable_tables.specs.Onward.{with_tables, SoFar};
 ghost use Rattle.pagable_tables.specs.Core.{core_of, IsWhole};
 
-use crate::cascade::cascade;
+use crate::cascade::fall;
 use crate::holdings;
 use crate::holdings::Holdings;
 use crate::rows::HandleAt;
@@ -20,16 +20,6 @@ use crate::tables::Tables;
 use crate::turning::own;
 use pagable_model::{Error, HandleNumber};
 use pagable_world::handles::Owner;
-
-/// What came of the listing since handles began to be given up.
-pub fn told(unlisted: Option<Error>) -> Result<(), Error>
-    ensures { result ≡ told_by unlisted }
-{
-    match unlisted {
-        None => Ok(()),
-        Some(e) => Err(e),
-    }
-}
 
 /// The handle at this place is given up, with all that goes with it. NumbersSpent or OutOfMemory where a cell that had to be listed isn't.
 pub fn give_back(t: &mut Holdings, at: HandleAt, lists: bool) -> Result<(), Error>
@@ -42,8 +32,7 @@ pub fn give_back(t: &mut Holdings, at: HandleAt, lists: bool) -> Result<(), Erro
 {
     t.unlisted = None;
     holdings::give_up(t, at, lists);
-    cascade(t, lists);
-    told(t.unlisted.take())
+    fall(t, lists)
 }
 
 /// An own handle is given up, with all that goes with it. NumbersSpent or OutOfMemory where a cell that had to be listed isn't.

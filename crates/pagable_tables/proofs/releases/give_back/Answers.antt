@@ -1,7 +1,7 @@
-use Rattle.std.proofs.Common.{[], ap, sym, ◌∙◌, subst, arith, None}
-use Rattle.pagable_world.specs.Cascade.{Falls, nobody, only_handle}
+use Rattle.std.proofs.Common.{[], arith, None}
+use Rattle.pagable_world.specs.Cascade.{nobody, only_handle}
 use Rattle.pagable_tables.specs.Falling.{GivesUp, owns_nothing}
-use Rattle.pagable_tables.specs.Onward.{with_tables, told_by, SoFar}
+use Rattle.pagable_tables.specs.Onward.{SoFar}
 use Rattle.pagable_tables.specs.declared.holdings.Holdings.{Holdings}
 use Rattle.pagable_tables.proofs.Begun.{aside, unowned}
 use Rattle.pagable_tables.proofs.Next.{gives-on}
@@ -10,8 +10,8 @@ use Rattle.pagable_tables.proofs.releases.give_back.Goals as goal
 pub give_up-requires-clause-falling : goal.give_up-requires-clause-falling
 give_up-requires-clause-falling c = ([], unowned (record c.args.t.now { unlisted = None }) c.args.at.row [] c.requires.plain (aside c.args.t.now None [] owns_nothing c.requires.steady))
 
-pub cascade-requires : goal.cascade-requires
-cascade-requires c =
+pub fall-requires : goal.fall-requires
+fall-requires c =
     let t : Holdings = record c.args.t.now { unlisted = None } in
     let g : GivesUp t [] c.args.at.row c.args.lists c.give_up.new.t = c.give_up.ensures [] (unowned t c.args.at.row [] c.requires.plain (aside c.args.t.now None [] owns_nothing c.requires.steady)) in
     let long = g.long in
@@ -23,4 +23,4 @@ returns-clause-falls c before w f few =
     let x = c.args.at.row in
     let g : GivesUp t [] x c.args.lists c.give_up.new.t = c.give_up.ensures [] (unowned t x [] c.requires.plain (aside c.args.t.now None [] owns_nothing c.requires.steady)) in
     let so-far : SoFar before w (only_handle x.number) c.args.lists c.give_up.new.t = gives-on before w nobody c.args.lists t c.give_up.new.t [] x f c.requires.steady.fits.pinned c.requires.free few g in
-    subst (λ r. Falls before w (only_handle x.number) r (with_tables w c.cascade.new.t)) (sym (c.told.ensures ∙ ap told_by c.take.ensures.value)) (c.cascade.ensures.falls before w (only_handle x.number) so-far)
+    c.fall.ensures.falls before w (only_handle x.number) so-far
