@@ -9,9 +9,8 @@ ghost use Rattle.pagable_tables.specs.Live.{live};
 ghost use Rattle.pagable_tables.specs.Falling.{IsFalling, owns_nothing};
 ghost use Rattle.pagable_tables.specs.Onward.{with_tables, SoFar};
 
-use crate::cascade::cascade;
+use crate::cascade::{cascade, fall};
 use crate::holdings::Holdings;
-use crate::releases::told;
 use crate::turning::is_owner;
 use crate::{handles, holdings};
 use pagable_model::{Error, HandleNumber, LoadNumber};
@@ -58,5 +57,5 @@ pub fn give_up_load(
 {
     t.unlisted = None;
     give_each(t, load, since, lists);
-    told(t.unlisted.take())
+    fall(t, lists)
 }
