@@ -26,3 +26,4 @@ mod Fewer
 mod Regiven
 mod keeps
 mod Lowered
+mod Dropped

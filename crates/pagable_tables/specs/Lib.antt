@@ -5,3 +5,4 @@ pub mod Onward
 pub mod Core
 pub mod Owning
 pub mod Lowering
+pub mod Later

@@ -1,18 +1,23 @@
 //! Loads that end: what they still own is given up.
 
-ghost use Rattle.std.specs.Prelude.{◌≡◌, ℕ, ◌<◌, ◌≤◌, ◌==◌, ◌&&◌, ◌||◌, [], length, Bool, true, None};
+ghost use Rattle.std.specs.Prelude.{◌≡◌, ℕ, ◌<◌, ◌≤◌, ◌==◌, ◌&&◌, ◌||◌, [], length, Bool, true, None, Option, not};
 ghost use Rattle.pagable_world.specs.declared.handles.Owner.TheVariants as owners;
+ghost use Rattle.pagable_world.specs.Plain.{Blob};
 ghost use Rattle.pagable_world.specs.World.{Core};
 ghost use Rattle.pagable_world.specs.Cascade.{Falls, nobody};
-ghost use Rattle.pagable_world.specs.LoadCalls.{is_owned_in};
+ghost use Rattle.pagable_world.specs.LoadCalls.{is_owned_in, DropCall};
 ghost use Rattle.pagable_tables.specs.Live.{live};
 ghost use Rattle.pagable_tables.specs.Falling.{IsFalling, owns_nothing};
 ghost use Rattle.pagable_tables.specs.Onward.{with_tables, SoFar};
+ghost use Rattle.pagable_tables.specs.Core.{core_of, IsWhole};
+ghost use Rattle.pagable_tables.specs.Later.{AreLater};
 
 use crate::cascade::{cascade, fall};
 use crate::holdings::Holdings;
+use crate::loading::load_row;
+use crate::tables::Tables;
 use crate::turning::is_owner;
-use crate::{handles, holdings};
+use crate::{handles, holdings, loads};
 use pagable_model::{Error, HandleNumber, LoadNumber};
 use pagable_world::handles::Owner;
 
@@ -58,4 +63,20 @@ pub fn give_up_load(
     t.unlisted = None;
     give_each(t, load, since, lists);
     fall(t, lists)
+}
+
+/// An open load is given up, with all that it owns. NoSuchHandle where none is open, NotYours where another began it. NumbersSpent or OutOfMemory where a cell that
+/// had to be listed isn't.
+pub fn load_drop(t: &mut Tables, me: Owner, load: LoadNumber, lists: bool) -> Result<(), Error>
+    requires whole { IsWhole t.old }
+    requires later { AreLater t.old }
+    ensures dropped { (stored : ℕ → Option Blob) (closed : Bool) (failures : ℕ) → lists ≡ not closed → DropCall (core_of t.old stored closed failures) me load result (core_of t.new stored closed failures) }
+    ensures steady { IsFalling t.new.holdings [] owns_nothing }
+{
+    let row = match load_row(t, me, load) {
+        Ok(row) => row,
+        Err(e) => return Err(e),
+    };
+    loads::close(&mut t.loads, load.0);
+    give_up_load(&mut t.holdings, load, row.since, lists)
 }
