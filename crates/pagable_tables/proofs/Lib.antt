@@ -27,3 +27,4 @@ mod Regiven
 mod keeps
 mod Lowered
 mod Dropped
+mod Asked

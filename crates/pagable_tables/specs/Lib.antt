@@ -6,3 +6,4 @@ pub mod Core
 pub mod Owning
 pub mod Lowering
 pub mod Later
+pub mod Asking
