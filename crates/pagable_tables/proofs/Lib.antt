@@ -28,3 +28,4 @@ mod keeps
 mod Lowered
 mod Dropped
 mod Asked
+mod Pins

@@ -2,10 +2,12 @@
 pub mod Rows
 pub mod Told
 pub mod Placed
+pub mod GoingOn
 pub mod Turned
 pub mod Comes
 pub mod Rests
 pub mod Fallen
 pub mod HandleCalls
+pub mod FallCalls
 pub mod LoadCalls
 pub mod CacheCalls

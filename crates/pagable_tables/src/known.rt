@@ -1,14 +1,12 @@
 //! What the cache gives and learns.
 
-ghost use Rattle.std.specs.Prelude.{◌≡◌, ℕ, [], Bool, Option, false, IsSome, IfSome};
+ghost use Rattle.std.specs.Prelude.{◌≡◌, ℕ, Bool, Option};
 ghost use Rattle.std.specs.Option.{option_map};
 ghost use Rattle.pagable_model.specs.declared.numbers.NodeNumber.{NodeNumber};
 ghost use Rattle.pagable_world.specs.Plain.{Blob};
 ghost use Rattle.pagable_world.specs.World.{usable};
 ghost use Rattle.pagable_world.specs.Calls.{RecallCall};
-ghost use Rattle.pagable_tables.specs.ByNumber.{counts_at};
-ghost use Rattle.pagable_tables.specs.Falling.{IsFalling, owns_nothing, is_valued};
-ghost use Rattle.pagable_tables.specs.Core.{core_of, IsWhole};
+ghost use Rattle.pagable_tables.specs.Core.{core_of, plain_of, IsWhole, MayHold};
 
 use crate::kinds::{is_pinned_kind, mode_of};
 use crate::lookups::is_here;
@@ -21,8 +19,7 @@ use pagable_world::handles::Owner;
 /// The node that the cache gives for a kind and a key. An entry counts only while its node lives and, as a pin, has its value.
 fn usable_of(t: &Tables, kind: Kind, key: DataKey) -> Option<NodeNumber>
     requires { IsWhole t.now }
-    ensures live { IfSome result (λ n. IsSome (counts_at t.now.holdings.nodes n.0)) }
-    ensures usable { (stored : ℕ → Option Blob) (closed : Bool) (failures : ℕ) → option_map (λ (n : NodeNumber). n.0) result ≡ usable (core_of t.now stored closed failures) kind.0 key }
+    ensures { (stored : ℕ → Option Blob) (closed : Bool) (failures : ℕ) → option_map (λ (n : NodeNumber). n.0) result ≡ usable (core_of t.now stored closed failures) kind.0 key }
 {
     let Some(node) = cache::known_of(&t.cache, kind, key) else {
         return None;
@@ -43,9 +40,9 @@ pub fn cache_get(
     key: DataKey,
 ) -> Result<Option<HandleNumber>, Error>
     requires whole { IsWhole t.old }
-    requires owner { is_valued me ≡ false }
+    requires holder { MayHold (plain_of t.old) me }
     ensures recalled { (stored : ℕ → Option Blob) (closed : Bool) (failures : ℕ) → RecallCall (core_of t.old stored closed failures) me kind key result (core_of t.new stored closed failures) }
-    ensures steady { IsFalling t.new.holdings [] owns_nothing }
+    ensures whole { IsWhole t.new }
 {
     let Some(node) = usable_of(t, kind, key) else {
         return Ok(None);

@@ -18,6 +18,7 @@ pub mod lookups;
 pub mod making;
 pub mod moving;
 pub mod nodes;
+pub mod pinning;
 pub mod places;
 pub mod releases;
 pub mod rows;

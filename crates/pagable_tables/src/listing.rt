@@ -3,8 +3,8 @@
 ghost use Rattle.std.specs.Prelude.{◌≡◌, ℕ, [], Bool, Option, false, length};
 ghost use Rattle.pagable_world.specs.Plain.{Blob};
 ghost use Rattle.pagable_world.specs.Calls.{ScheduleCall, TakeCall};
-ghost use Rattle.pagable_tables.specs.Falling.{IsFalling, owns_nothing, is_valued};
-ghost use Rattle.pagable_tables.specs.Core.{core_of, IsWhole};
+ghost use Rattle.pagable_tables.specs.Falling.{IsFalling, owns_nothing};
+ghost use Rattle.pagable_tables.specs.Core.{core_of, plain_of, IsWhole, MayHold};
 
 use crate::handles;
 use crate::holdings::make_place;
@@ -26,7 +26,7 @@ pub fn pending_len(t: &Tables) -> usize
 /// place.
 pub fn schedule_for_paging(t: &mut Tables, me: Owner, handle: HandleNumber) -> Result<(), Error>
     requires whole { IsWhole t.old }
-    requires owner { is_valued me ≡ false }
+    requires holder { MayHold (plain_of t.old) me }
     ensures scheduled { (stored : ℕ → Option Blob) (failures : ℕ) → ScheduleCall (core_of t.old stored false failures) me handle result (core_of t.new stored false failures) }
     ensures steady { IsFalling t.new.holdings [] owns_nothing }
 {
@@ -48,7 +48,7 @@ pub fn schedule_for_paging(t: &mut Tables, me: Owner, handle: HandleNumber) -> R
 /// The entry at this place of the list moves to the one who asks. None past the end.
 pub fn take_pending(t: &mut Tables, me: Owner, place: usize) -> Option<HandleNumber>
     requires whole { IsWhole t.old }
-    requires owner { is_valued me ≡ false }
+    requires holder { MayHold (plain_of t.old) me }
     ensures taken { (stored : ℕ → Option Blob) (closed : Bool) (failures : ℕ) → TakeCall (core_of t.old stored closed failures) me place result (core_of t.new stored closed failures) }
     ensures steady { IsFalling t.new.holdings [] owns_nothing }
 {

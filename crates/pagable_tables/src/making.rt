@@ -51,6 +51,7 @@ pub fn make(
     requires holder { MayHold (plain_of t.old) owner }
     ensures made { (stored : ℕ → Option Blob) (closed : Bool) (failures : ℕ) → Makes (core_of t.old stored closed failures) node mode owner result (core_of t.new stored closed failures) }
     ensures whole { IsWhole t.new }
+    ensures same { t.new ≡ record t.old { holdings = t.new.holdings } }
 {
     let Some(counts) = nodes::counts_of(&t.holdings.nodes, node.0) else {
         unreachable!();

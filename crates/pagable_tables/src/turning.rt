@@ -77,13 +77,14 @@ fn counts_pinned(counts: Counts, was_pinning: bool) -> Counts
 }
 
 /// The handle at this place is loose and pins its node from now on.
-fn turn(t: &mut Tables, at: HandleAt)
+pub fn turn(t: &mut Tables, at: HandleAt)
     requires whole { IsWhole t.old }
     requires place { slice_get t.old.holdings.handles.places.items at.place ≡ Some (alive at.row) }
     requires unshared { is_shared at.row.mode ≡ false }
     requires unlisted { is_owned_by owners.List at.row ≡ false }
     ensures turned { (stored : ℕ → Option Blob) (closed : Bool) (failures : ℕ) → Alike (with_mode (core_of t.old stored closed failures) at.row.number modes.LoosePinned) (core_of t.new stored closed failures) }
     ensures whole { IsWhole t.new }
+    ensures same { t.new ≡ record t.old { holdings = t.new.holdings } }
 {
     let Some(counts) = nodes::counts_of(&t.holdings.nodes, at.row.node.0) else {
         unreachable!();

@@ -21,6 +21,7 @@ use Rattle.pagable_tables.specs.Falling.{is_valued}
 use Rattle.pagable_tables.specs.Core.{MayHold, Suits}
 use Rattle.pagable_tables.proofs.keeps.Rows.{among-both, among-one, at-most-sum, sum-less, found-among, found-push, ordered-push}
 use Rattle.pagable_tables.proofs.keeps.Told.{roomy, may-own}
+use Rattle.pagable_tables.proofs.keeps.GoingOn.{GoesOn}
 
 -- who may hold is neither the list nor a value
 pub not-list : (w : Core) (o : Owner) → MayHold w o → is_owner owners.List o ≡ false
@@ -204,6 +205,11 @@ module _ {w : Core} (whole : IsWhole w) (x : HandleRow) (cells : ℕ → Option 
         shut = whole.shut;
       }
 
+share-le : (a b : Bool) → one (a && b) ≤ one a
+share-le true true = omega arith
+share-le true false = omega arith
+share-le false b = omega arith
+
 -- Beside the handles that its node has.
 module _ {w : Core} (whole : IsWhole w) (node : NodeNumber) (mode : Mode) (suits : Suits w node mode) where
   at-node : (suits.row.node.0 == node.0) ≡ true
@@ -227,11 +233,6 @@ module _ {w : Core} (whole : IsWhole w) (node : NodeNumber) (mode : Mode) (suits
         let c = sum-less (λ h. one (is_share node.0 h)) (λ h. one (is_at node.0 h)) w.rows suits.row (λ h. share-le (is_at node.0 h) (is_shared h.mode)) suits.there (omega arith) in
         absurd (omega arith)
   ]
-    where
-      share-le : (a b : Bool) → one (a && b) ≤ one a
-      share-le true true = omega arith
-      share-le true false = omega arith
-      share-le false b = omega arith
   suits-uniform true is =
       let a = share-of true (suits.shared ∙ is) in
       let b = at-most-sum (λ h. one (is_share node.0 h)) w.rows suits.row suits.there in
@@ -241,3 +242,22 @@ module _ {w : Core} (whole : IsWhole w) (node : NodeNumber) (mode : Mode) (suits
   beside owner holder left =
       grown-whole whole (row_of (w.last.handle + 1) node mode owner) w.cells w.last.node refl left (omega arith) (whole.handles.within.1) suits-there (λ n other. refl) (whole.handles.nodes_numbered node.0 suits-there) (λ t is. inl is)
       (suits-uniform (is_shared mode) refl) (λ kind e. sym suits.shared ∙ e.shares suits.row suits.there (ap (λ (k : NodeNumber). k.0) suits.at)) holder
+
+  pub beside-on : (owner : Owner) → GoesOn w (with_handle w node mode owner)
+  beside-on owner =
+      record {
+        cells = λ n is. is;
+        rows = λ n.
+            let x = row_of (w.last.handle + 1) node mode owner in
+            let a = sum_by_push (λ h. one (is_at n h)) w.rows x in
+            let b = sum_by_push (λ h. one (is_share n h)) w.rows x in
+            let c = share-le (node.0 == n) (is_shared mode) in
+            omega arith;
+      }
+
+-- a node with a handle that isn't Shared has none that is
+pub unshared-node : {w : Core} → IsWhole w → (row : HandleRow) → Among w.rows row → is_shared row.mode ≡ false → sharing row.node.0 w.rows ≡ 0
+unshared-node {w} whole row among is = elim (suits-uniform whole row.node row.mode (record { row = row; there = among; at = refl; shared = refl }) (is_shared row.mode) refl) [
+  | inl none ↦ none.1
+  | inr all ↦ let f : true ≡ false = sym all.0 ∙ is in absurd (cc)
+]

@@ -23,7 +23,8 @@ use Rattle.pagable_tables.specs.Core.{ArePlaced}
 use Rattle.pagable_tables.proofs.Left.{left-le, entries-none}
 use Rattle.pagable_tables.proofs.keeps.Rows.{among-both, among-left, at-most-sum, counted, found-among}
 use Rattle.pagable_tables.proofs.keeps.Rests.{found-so, same-left, one-left, within-goes, IsEntry, entry-is, entries-listed, ordered-entries}
-use Rattle.pagable_tables.proofs.keeps.Told.{roomy, may-own, settles}
+use Rattle.pagable_tables.proofs.keeps.Told.{roomy, roomy-loads, may-own, settles}
+use Rattle.pagable_tables.proofs.keeps.GoingOn.{GoesOn, on-listing}
 use Rattle.pagable_tables.proofs.keeps.Comes.{keyed_in, type_in}
 
 -- What is whole of a world before handles fall: all, but that owners of the given handles may have gone. And a cell that must be listed is there still, and unshared.
@@ -271,3 +272,20 @@ module _ {before u : Core} {given : ℕ → Bool} (may : MayFall before u given)
 
 pub falls-whole : {before u w' : Core} {given : ℕ → Bool} {r : Result (Unit {0}) Error} → MayFall before u given → Falls before u given r w' → ArePlaced w' → IsWhole w'
 falls-whole may f placed = settles (fallen-whole may f.gone f.entries f.set.holds f.new (λ n some. let m = (f.only n some).0 in (m.pinned, m.unshared, m.stands_open)) f.within) f.leaves placed
+
+-- a whole world may fall, where what it was before goes on
+pub may-fall : {before u : Core} (given : ℕ → Bool) → IsWhole before → IsWhole (roomy u) → GoesOn before u → MayFall before u given
+may-fall {before} {u} given was whole on =
+    let o = whole.owners_there in
+    record {
+      handles = whole.handles;
+      listed = λ q. inl (o.listed q);
+      waiting = o.waiting;
+      loads_there = λ h l among is. inl (o.loads h l among is);
+      workers_there = o.workers;
+      loads = roomy-loads u whole.loads;
+      cache = λ kind key n is. let e = whole.cache kind key n is in record { given = e.given; typed = e.typed; shares = e.shares };
+      workers_numbered = whole.workers_numbered;
+      shut = whole.shut;
+      listing = on-listing was whole.handles on;
+    }

@@ -10,15 +10,19 @@ use Rattle.pagable_world.specs.declared.handles.Owner.TheVariants as owners
 use Rattle.pagable_world.specs.declared.rows.Mode.{Mode}
 use Rattle.pagable_world.specs.declared.rows.Mode.TheVariants as modes
 use Rattle.pagable_world.specs.Plain.{Among}
-use Rattle.pagable_world.specs.Kinds.{is_shared, is_pinned, is_loose, is_owned_by}
-use Rattle.pagable_world.specs.World.{Core, Alike, row_at}
-use Rattle.pagable_world.specs.Calls.{with_mode, CloneCall, LoosenCall}
+use Rattle.pagable_world.specs.Kinds.{is_shared, is_pinned, is_loose, is_owner, is_owned_by}
+use Rattle.pagable_world.specs.declared.answers.Pinning.{Pinning}
+use Rattle.pagable_world.specs.declared.answers.Pinning.TheVariants as pinnings
+use Rattle.pagable_world.specs.Refusals.{Owns}
+use Rattle.pagable_world.specs.LoadCalls.{with_pin}
+use Rattle.pagable_world.specs.World.{Core, Alike, row_at, greatest}
+use Rattle.pagable_world.specs.Calls.{with_mode, CloneCall, LoosenCall, PinCall}
 use Rattle.pagable_world.specs.Pager.{IsWhole}
 use Rattle.pagable_tables.specs.Core.{ArePlaced, MayHold, Suits, Makes}
 use Rattle.pagable_tables.proofs.keeps.Rows.{found-among}
 use Rattle.pagable_tables.proofs.keeps.Told.{roomy, settles, alike-whole}
-use Rattle.pagable_tables.proofs.keeps.Turned.{moded-whole}
-use Rattle.pagable_tables.proofs.keeps.Comes.{beside}
+use Rattle.pagable_tables.proofs.keeps.Turned.{moded-whole, moded-among}
+use Rattle.pagable_tables.proofs.keeps.Comes.{beside, not-list, not-the-list}
 
 pub makes-whole : {w w' : Core} (node : NodeNumber) (mode : Mode) (owner : Owner) (r : Result HandleNumber Error) → IsWhole w → Suits w node mode → MayHold w owner → Makes w node mode owner r w' → ArePlaced w' → IsWhole w'
 makes-whole node mode owner (Ok k) whole suits holder makes placed = settles (beside whole node mode suits owner holder makes.made.0.is_left) makes.made.1 placed
@@ -63,3 +67,21 @@ loosen-whole me h (Ok k) whole call placed =
     let owns = call.turned.1 in
     settles (pins-whole h row whole owns.live (ap is_shared (is-pinned row.mode owns.as_asked)) (pinned-unlisted h row whole owns.live owns.as_asked)) call.turned.3 placed
 loosen-whole me h (Err e) whole call placed = alike-whole whole call.refused.1 placed
+
+pub loose-unshared : (mode : Mode) → is_loose mode ≡ true → is_shared mode ≡ false
+loose-unshared modes.LoosePinned is = refl
+loose-unshared modes.LooseUnpinned is = refl
+loose-unshared modes.Pinned is = absurd (cc)
+loose-unshared modes.Shared is = absurd (cc)
+
+-- a loose handle of one who may hold is pinned, and a Pinned one is made
+pub pin-comes : {w : Core} (h : HandleNumber) (row : HandleRow) (me : Owner) → IsWhole w → MayHold w me → Owns w me h is_loose row → w.last.handle < greatest → IsWhole (roomy (with_pin w h row.node me))
+pin-comes {w} h row me whole holder owns left =
+    let unshared = loose-unshared row.mode owns.as_asked in
+    let suits : Suits (with_mode w h modes.LoosePinned) row.node modes.Pinned = record { row = record row { mode = modes.LoosePinned }; there = moded-among whole h row modes.LoosePinned owns.live (sym unshared) (λ loose. refl) (λ is. absurd (not-the-list w me holder (sym owns.own ∙ is))); at = refl; shared = refl } in
+    beside (pins-whole h row whole owns.live unshared (ap (is_owner owners.List) owns.own ∙ not-list w me holder)) row.node modes.Pinned (record { row = suits.row; there = suits.there; at = refl; shared = refl }) me holder left
+
+pub pin-whole : {w w' : Core} (me : Owner) (h : HandleNumber) (r : Result Pinning Error) → IsWhole w → MayHold w me → PinCall w me h r w' → ArePlaced w' → IsWhole w'
+pin-whole me h (Ok (pinnings.Pinned k)) whole holder call placed = let (row, owns, does) = call.pins in settles (pin-comes h row me whole holder owns does.1.is_left) does.2 placed
+pin-whole me h (Ok (pinnings.NeedsLoad key)) whole holder call placed = alike-whole whole call.pins.2.2 placed
+pin-whole me h (Err e) whole holder call placed = alike-whole whole call.refused.stays placed

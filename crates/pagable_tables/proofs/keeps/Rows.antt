@@ -40,6 +40,12 @@ pub among-left : {X : Type 0} (test : X → Bool) (xs : List X) (x : X) → Amon
 among-left test [] x a = absurd (cc)
 among-left test (y ∷ ys) x a = among-cond test (test y) y (filter test ys) ys x refl a (among-left test ys x)
 
+-- and each that was there is there changed
+pub among-to : {X : Type 0} (f : X → X) (xs : List X) (x : X) → Among xs x → Among (map f xs) (f x)
+among-to f [] x a = let b = a.1 in absurd (cc)
+among-to f (y ∷ ys) x (zero, is) = let e : y ≡ x = cc in (zero, ap (λ z. Some (f z)) e)
+among-to f (y ∷ ys) x (suc i, is) = let r = among-to f ys x (i, is) in (suc r.0, r.1)
+
 -- ---- counted
 
 -- each element is part of the sum
@@ -79,6 +85,14 @@ sum-map f g to (x ∷ xs) h =
     let b = sum_by-cons f (to x) (map to xs) in
     let c = sum_by-cons g x xs in
     omega arith
+
+-- nothing at each element, so in sum
+pub sum-none : {X : Type 0} (f : X → ℕ) (xs : List X) → ((x : X) → Among xs x → f x ≡ 0) → sum_by f xs ≡ 0
+sum-none f xs none = at (sum_by f xs) refl
+  where
+    at : (n : ℕ) → sum_by f xs ≡ n → sum_by f xs ≡ 0
+    at zero e = e
+    at (suc n) e = let c = counted f xs (omega arith) in let a = none c.0 c.1 in let b = c.2 in absurd (omega arith)
 
 -- ---- numbers
 
@@ -146,3 +160,30 @@ found-push q (h ∷ hs) x row found = at (is_handle q h) (found-push q hs x row)
     at : (b : Bool) → (find_row q (hs ++ x ∷ []) ≡ Some row → (find_row q hs ≡ Some row) ⊎ (row ≡ x)) → (if b then Some h else find_row q (hs ++ x ∷ [])) ≡ Some row → ((if b then Some h else find_row q hs) ≡ Some row) ⊎ (row ≡ x)
     at true rest found = inl found
     at false rest found = rest found
+
+-- what is counted of one number is counted of its row
+pub only-row : (f : HandleRow → ℕ) (rows : List HandleRow) (row : HandleRow) → AllPairs IsHandleBefore rows → Among rows row → ((x : HandleRow) → (x.number.0 == row.number.0) ≡ false → f x ≡ 0) → sum_by f rows ≡ f row
+only-row f [] row ordered among none = let a = among.1 in absurd (cc)
+only-row f (x ∷ xs) row ordered (zero, is) none =
+    let e : x ≡ row = cc in
+    let n = ap (λ (y : HandleRow). y.number.0) e in
+    let a = sum_by-cons f x xs in
+    let b : f x ≡ f row = ap f e in
+    let c = sum-none f xs (λ y among. none y (above y among n)) in
+    omega arith
+  where
+    above : (y : HandleRow) → Among xs y → x.number.0 ≡ row.number.0 → (y.number.0 == row.number.0) ≡ false
+    above y (j, at) n =
+        let lt = slice_get_within xs j y at in
+        let o = ordered 0 (suc j) x (omega arith) (omega arith) in
+        let k : (get_or xs j x).number.0 ≡ y.number.0 = ap (λ (h : HandleRow). h.number.0) (get_or_from_slice_get xs j y x at) in
+        let less : x.number.0 < (get_or xs j x).number.0 = o in
+        grind (arith, nat_tests)
+only-row f (x ∷ xs) row ordered (suc i, is) none =
+    let lt = slice_get_within xs i row is in
+    let less : x.number.0 < (get_or xs i x).number.0 = ordered 0 (suc i) x (omega arith) (omega arith) in
+    let k : (get_or xs i x).number.0 ≡ row.number.0 = ap (λ (h : HandleRow). h.number.0) (get_or_from_slice_get xs i row x is) in
+    let a = sum_by-cons f x xs in
+    let b = none x (grind (arith, nat_tests)) in
+    let c = only-row f xs row (λ j k d less lt. ordered (suc j) (suc k) d (omega arith) (omega arith)) (i, is) none in
+    omega arith

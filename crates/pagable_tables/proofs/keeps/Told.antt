@@ -108,3 +108,12 @@ settles {m} {w'} whole a placed = told-whole {m = roomy m} {w' = w'} whole a.row
 
 pub alike-whole : {w w' : Core} → IsWhole w → Alike w w' → ArePlaced w' → IsWhole w'
 alike-whole whole a placed = settles (roomy-whole whole) a placed
+
+-- room is nothing to loads
+pub roomy-loads : (w : Core) → LoadsAreWhole (roomy w) → LoadsAreWhole w
+roomy-loads w o =
+    record {
+      numbered = o.numbered;
+      owned = λ l load is. may-own (roomy w) w (λ v at. at) load.owner (o.owned l load is);
+      roots = λ l load node t h is root. let r = o.roots l load node t h is root in record { typed = r.typed; begun = r.begun; given = r.given };
+    }

@@ -16,18 +16,19 @@ use Rattle.pagable_world.specs.World.{Core, row_at}
 use Rattle.pagable_world.specs.Calls.{with_mode, moved}
 use Rattle.pagable_world.specs.Pager.{OwnersAreThere, IsRootWhole, IsEntryWhole, IsWhole}
 use Rattle.pagable_tables.specs.Core.{MayHold}
-use Rattle.pagable_tables.proofs.keeps.Rows.{among-map, sum-map, found-among, found-map, once, ordered-map}
+use Rattle.pagable_tables.proofs.keeps.Rows.{among-map, among-to, sum-map, found-among, found-map, once, ordered-map}
 use Rattle.pagable_tables.proofs.keeps.Told.{roomy, may-own}
+use Rattle.pagable_tables.proofs.keeps.GoingOn.{GoesOn, changed-on}
 
 module _ {w : Core} (whole : IsWhole w) (to : HandleRow → HandleRow) (list : List HandleNumber) (number : (h : HandleRow) → (to h).number.0 ≡ h.number.0) (node : (h : HandleRow) → (to h).node ≡ h.node)
     (shared : (h : HandleRow) → Among w.rows h → is_shared (to h).mode ≡ is_shared h.mode) (loose : (h : HandleRow) → Among w.rows h → is_loose h.mode ≡ true → is_loose (to h).mode ≡ true) where
   abbrev turned : Core
   turned = roomy (record w { rows = map to w.rows; list = list })
 
-  same-held : (n : ℕ) → held n turned.rows ≡ held n w.rows
+  pub same-held : (n : ℕ) → held n turned.rows ≡ held n w.rows
   same-held n = sum-map (λ h. one (is_at n h)) (λ h. one (is_at n h)) to w.rows (λ h among. ap (λ (k : NodeNumber). one (k.0 == n)) (node h))
 
-  same-sharing : (n : ℕ) → sharing n turned.rows ≡ sharing n w.rows
+  pub same-sharing : (n : ℕ) → sharing n turned.rows ≡ sharing n w.rows
   same-sharing n = sum-map (λ h. one (is_share n h)) (λ h. one (is_share n h)) to w.rows (λ h among. ap (λ (k : NodeNumber). one (k.0 == n && is_shared (to h).mode)) (node h) ∙ ap (λ b. one (h.node.0 == n && b)) (shared h among))
 
   turned-root : (n : NodeNumber) (t : ℕ) (h : HandleNumber) → IsRootWhole w n t h → IsRootWhole turned n t h
@@ -83,7 +84,7 @@ module _ {w : Core} (whole : IsWhole w) (h : HandleNumber) (row : HandleRow) (mo
   abbrev to-mode : HandleRow → HandleRow
   to-mode x = if is_handle h.0 x then record x { mode = mode } else x
 
-  the-row : (x : HandleRow) → Among w.rows x → is_handle h.0 x ≡ true → x ≡ row
+  pub the-row : (x : HandleRow) → Among w.rows x → is_handle h.0 x ≡ true → x ≡ row
   the-row x among is = let a = found-among h.0 w.rows row live in once w.rows whole.handles.ordered x row among a.0 (let b = a.1 in grind (arith, nat_tests))
 
   -- what both cases give
@@ -109,11 +110,29 @@ module _ {w : Core} (whole : IsWhole w) (h : HandleNumber) (row : HandleRow) (mo
             each (λ y. y.owner ≡ owners.Worker (record { 0 = v }) → w.workers v ≡ true) old.0 (λ e own. o.workers old.0 v old.1 own) (λ e own. o.workers old.0 v old.1 own) (sym (ap (λ (y : HandleRow). y.owner) old.2) ∙ is);
       }
 
+  mode-number : (x : HandleRow) → (to-mode x).number.0 ≡ x.number.0
+  mode-number x = each (λ y. y.number.0 ≡ x.number.0) x (λ e. refl) (λ e. refl)
+
+  mode-node : (x : HandleRow) → (to-mode x).node ≡ x.node
+  mode-node x = each (λ y. y.node ≡ x.node) x (λ e. refl) (λ e. refl)
+
+  mode-shared : (x : HandleRow) → Among w.rows x → is_shared (to-mode x).mode ≡ is_shared x.mode
+  mode-shared x among = each (λ y. is_shared y.mode ≡ is_shared x.mode) x (λ e. shared ∙ ap (λ (y : HandleRow). is_shared y.mode) (sym (the-row x among e))) (λ e. refl)
+
+  mode-loose : (x : HandleRow) → Among w.rows x → is_loose x.mode ≡ true → is_loose (to-mode x).mode ≡ true
+  mode-loose x among was = each (λ y. is_loose y.mode ≡ true) x (λ e. loose (ap (λ (y : HandleRow). is_loose y.mode) (sym (the-row x among e)) ∙ was)) (λ e. was)
+
   pub moded-whole : IsWhole (roomy (with_mode w h mode))
-  moded-whole =
-      turned-whole whole to-mode w.list
-      (λ x. each (λ y. y.number.0 ≡ x.number.0) x (λ e. refl) (λ e. refl))
-      (λ x. each (λ y. y.node ≡ x.node) x (λ e. refl) (λ e. refl))
-      (λ x among. each (λ y. is_shared y.mode ≡ is_shared x.mode) x (λ e. shared ∙ ap (λ (y : HandleRow). is_shared y.mode) (sym (the-row x among e))) (λ e. refl))
-      (λ x among was. each (λ y. is_loose y.mode ≡ true) x (λ e. loose (ap (λ (y : HandleRow). is_loose y.mode) (sym (the-row x among e)) ∙ was)) (λ e. was))
-      mode-owners (λ so. (whole.shut so).0)
+  moded-whole = turned-whole whole to-mode w.list mode-number mode-node mode-shared mode-loose mode-owners (λ so. (whole.shut so).0)
+
+  -- the handle's row in the new mode
+  pub moded-among : Among (with_mode w h mode).rows (record row { mode = mode })
+  moded-among =
+      let a = found-among h.0 w.rows row live in
+      let b : is_handle h.0 row ≡ true = let c = a.1 in grind (arith, nat_tests) in
+      subst (Among (with_mode w h mode).rows) (ap (λ c. if c then record row { mode = mode } else row) b) (among-to to-mode w.rows row a.0)
+
+  pub moded-on : GoesOn w (with_mode w h mode)
+  moded-on = changed-on w (with_mode w h mode) (λ n. refl)
+      (same-held whole to-mode w.list mode-number mode-node mode-shared mode-loose)
+      (same-sharing whole to-mode w.list mode-number mode-node mode-shared mode-loose)

@@ -5,6 +5,8 @@ use Rattle.pagable_world.specs.Calls.{moved}
 use Rattle.pagable_world.specs.Cascade.{only_handle}
 use Rattle.pagable_tables.specs.Live.{live}
 use Rattle.pagable_tables.specs.Falling.{is_valued, owns_nothing}
+use Rattle.pagable_tables.specs.Core.{plain_of}
+use Rattle.pagable_tables.proofs.keeps.Comes.{not-a-value}
 use Rattle.pagable_tables.proofs.Listed.{alike-listed}
 use Rattle.pagable_tables.proofs.Owned.{no-values}
 use Rattle.pagable_tables.proofs.Worlds.{still, owner-same}
@@ -30,5 +32,5 @@ pub returns-clause-steady : goal.returns-clause-steady
 returns-clause-steady c =
     let row = c.in-Ok.at.row in
     let w = c.requires.whole.steady in
-    let free = no-values row owners.List (ap is_valued (owner-same c.args.me row.owner c.in-Ok.ensures.owner) ∙ c.requires.owner) refl in
+    let free = no-values row owners.List (ap is_valued (owner-same c.args.me row.owner c.in-Ok.ensures.owner) ∙ not-a-value (plain_of c.args.t.now) c.args.me c.requires.holder) refl in
     c.hand_over.ensures.falling (record c.args.t.now.holdings { list = c.push.new.self }) owns_nothing owns_nothing free (record { sound = w.sound; next = w.next; fits = w.fits })

@@ -4,6 +4,8 @@ use Rattle.pagable_world.specs.Calls.{moved}
 use Rattle.pagable_world.specs.Cascade.{only_handle}
 use Rattle.pagable_tables.specs.Live.{live}
 use Rattle.pagable_tables.specs.Falling.{owns_nothing}
+use Rattle.pagable_tables.specs.Core.{plain_of}
+use Rattle.pagable_tables.proofs.keeps.Comes.{not-a-value}
 use Rattle.pagable_tables.proofs.Listed.{alike-listed}
 use Rattle.pagable_tables.proofs.Owned.{no-values, entry-lives, entry-unvalued}
 use Rattle.pagable_tables.proofs.listing.take_pending.Goals as goal
@@ -28,5 +30,5 @@ returns-clause-steady c =
     let row = c.in-Some.at.row in
     let listed = c.requires.whole.core.owners_there.listed c.remove-handle.result.0 in
     let none = entry-unvalued t.list.items t.handles.places.items c.args.place c.remove-handle.result (omega arith) c.remove-handle.ensures.value listed in
-    let free = no-values row c.args.me (none c.in-Some.at.place row w.sound.ordered c.in-Some.ensures.place c.in-Some.ensures.number) c.requires.owner in
+    let free = no-values row c.args.me (none c.in-Some.at.place row w.sound.ordered c.in-Some.ensures.place c.in-Some.ensures.number) (not-a-value (plain_of c.args.t.now) c.args.me c.requires.holder) in
     c.hand_over.ensures.falling (record t { list = c.remove-handle.new.self }) owns_nothing owns_nothing free (record { sound = w.sound; next = w.next; fits = w.fits })

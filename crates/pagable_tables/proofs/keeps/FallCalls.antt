@@ -1,0 +1,107 @@
+-- Calls by which handles or values fall keep the world whole.
+use Rattle.std.proofs.Common.{◌≡◌, ℕ, ◌+◌, ◌<◌, ◌==◌, Bool, true, false, Option, Some, None, inl, inr, refl, ap, sym, subst, ◌∙◌, if◌then◌else◌, arith}
+use Rattle.std.specs.Prelude.{Result, is_some}
+use Rattle.std.proofs.lemmas.Bool.Decides.{nat_tests}
+use Rattle.pagable_model.specs.declared.data_key.OptionalDataKey.TheVariants as optional
+use Rattle.pagable_model.specs.declared.error.Error.{Error}
+use Rattle.pagable_model.specs.declared.numbers.HandleNumber.{HandleNumber}
+use Rattle.pagable_model.specs.declared.numbers.NodeNumber.{NodeNumber}
+use Rattle.pagable_world.specs.declared.handles.HandleRow.{HandleRow}
+use Rattle.pagable_world.specs.declared.handles.Owner.{Owner}
+use Rattle.pagable_world.specs.declared.rows.Mode.TheVariants as modes
+use Rattle.pagable_world.specs.Plain.{updated, if_there}
+use Rattle.pagable_world.specs.Kinds.{is_shared, sharing}
+use Rattle.pagable_world.specs.World.{Core, Cell, Alike}
+use Rattle.pagable_world.specs.Cascade.{only_handle, nobody}
+use Rattle.pagable_world.specs.Calls.{with_mode, with_key, IsRefused, ReleaseCall, UnpinCall, SetKeyCall}
+use Rattle.pagable_world.specs.Pager.{IsWhole, IsRootWhole}
+use Rattle.pagable_tables.specs.Core.{ArePlaced}
+use Rattle.pagable_tables.proofs.keeps.Rows.{found-among}
+use Rattle.pagable_tables.proofs.keeps.Told.{roomy, roomy-whole, alike-whole, may-own}
+use Rattle.pagable_tables.proofs.keeps.GoingOn.{GoesOn, stays-on}
+use Rattle.pagable_tables.proofs.keeps.Turned.{moded-whole, moded-on}
+use Rattle.pagable_tables.proofs.keeps.Comes.{keyed_in, type_in, unshared-node}
+use Rattle.pagable_tables.proofs.keeps.Fallen.{may-fall, falls-whole}
+use Rattle.pagable_tables.proofs.keeps.HandleCalls.{loose-unshared}
+
+pub release-whole : {w w' : Core} (me : Owner) (h : HandleNumber) (r : Result (Unit {0}) Error) → IsWhole w → ReleaseCall w me h r w' → ArePlaced w' → IsWhole w'
+release-whole {w} me h r whole call placed = elim call.does [
+  | inl refused ↦ alike-whole whole refused.stays placed
+  | inr (row, owns, falls) ↦ falls-whole (may-fall (only_handle h) whole (roomy-whole whole) (stays-on w)) falls placed
+]
+
+pub unpin-whole : {w w' : Core} (me : Owner) (h : HandleNumber) (r : Result (Unit {0}) Error) → IsWhole w → UnpinCall w me h r w' → ArePlaced w' → IsWhole w'
+unpin-whole {w} {w'} me h r whole call placed = elim call.does [
+  | inl refused ↦ alike-whole whole refused.stays placed
+  | inr (row, owns, inl stays) ↦ alike-whole whole stays.2 placed
+  | inr (row, owns, inr (pinned, falls)) ↦
+      let unshared : is_shared modes.LooseUnpinned ≡ is_shared row.mode = ap is_shared (sym pinned) in
+      falls-whole (may-fall nobody whole (moded-whole whole h row modes.LooseUnpinned owns.live unshared (λ loose. refl) (λ is. refl)) (moded-on whole h row modes.LooseUnpinned owns.live unshared (λ loose. refl) (λ is. refl))) falls placed
+]
+
+-- ---- a key
+
+-- a cell that isn't shared gets a key
+module _ {w : Core} (whole : IsWhole w) (node : NodeNumber) (key : ℕ) (unshared : sharing node.0 w.rows ≡ 0) where
+  abbrev rekey : Option Cell → Option Cell
+  rekey cell = if_there (λ (cell : Cell). Some (record cell { key = optional.Some key })) None cell
+
+  kept : {X : Type 0} (f : Option Cell → X) → ((cell : Option Cell) → f (rekey cell) ≡ f cell) → (n : ℕ) → f ((with_key w node key).cells n) ≡ f (w.cells n)
+  kept {X} f same n = at (n == node.0) refl
+    where
+      at : (b : Bool) → (n == node.0) ≡ b → f (if b then rekey (w.cells node.0) else w.cells n) ≡ f (w.cells n)
+      at true e = let is : n ≡ node.0 = grind (arith, nat_tests) in same (w.cells node.0) ∙ ap (λ m. f (w.cells m)) (sym is)
+      at false e = refl
+
+  same-there : (cell : Option Cell) → is_some (rekey cell) ≡ is_some cell
+  same-there None = refl
+  same-there (Some cell) = refl
+
+  same-type : (cell : Option Cell) → type_in (rekey cell) ≡ type_in cell
+  same-type None = refl
+  same-type (Some cell) = refl
+
+  keyless : (n : ℕ) → 0 < sharing n w.rows → keyed_in ((with_key w node key).cells n) ≡ false
+  keyless n some = at (n == node.0) refl
+    where
+      at : (b : Bool) → (n == node.0) ≡ b → keyed_in (if b then rekey (w.cells node.0) else w.cells n) ≡ false
+      at true e = let is : n ≡ node.0 = grind (arith, nat_tests) in let a : sharing n w.rows ≡ 0 = ap (λ m. sharing m w.rows) is ∙ unshared in absurd (omega arith)
+      at false e = whole.handles.unkeyed n some
+
+  pub keyed-whole : IsWhole (with_key w node key)
+  keyed-whole =
+      let h = whole.handles in
+      let o = whole.owners_there in
+      record {
+        handles = record {
+          ordered = h.ordered;
+          numbered = h.numbered;
+          nodes_numbered = λ n some. h.nodes_numbered n (sym (kept is_some same-there n) ∙ some);
+          within = h.within;
+          live = λ n. kept is_some same-there n ∙ h.live n;
+          uniform = h.uniform;
+          unkeyed = keyless;
+          places = h.places;
+        };
+        owners_there = record { listed = o.listed; waiting = o.waiting; loads = o.loads; workers = o.workers };
+        loads = record {
+          numbered = whole.loads.numbered;
+          owned = λ l load is. may-own w (with_key w node key) (λ v at. at) load.owner (whole.loads.owned l load is);
+          roots = λ l load n t k is root. let r = whole.loads.roots l load n t k is root in record { typed = λ type named. r.typed type (sym (kept type_in same-type n.0) ∙ named); begun = r.begun; given = r.given };
+        };
+        cache = λ kind q n is. let e = whole.cache kind q n is in record { given = e.given; typed = λ t named. e.typed t (sym (kept type_in same-type n) ∙ named); shares = e.shares };
+        workers_numbered = whole.workers_numbered;
+        shut = whole.shut;
+      }
+
+  pub keyed-on : GoesOn w (with_key w node key)
+  keyed-on = record { cells = λ n is. kept is_some same-there n ∙ is; rows = λ n. omega arith }
+
+pub set-key-whole : {w w' : Core} (me : Owner) (h : HandleNumber) (key : ℕ) (r : Result (Unit {0}) Error) → IsWhole w → SetKeyCall w me h key r w' → ArePlaced w' → IsWhole w'
+set-key-whole {w} me h key r whole call placed = elim call.does [
+  | inl refused ↦ alike-whole whole refused.stays placed
+  | inr (row, owns, inl stays) ↦ alike-whole whole stays.2 placed
+  | inr (row, owns, inr (loose, falls)) ↦
+      let unshared = unshared-node whole row (found-among h.0 w.rows row owns.live).0 (loose-unshared row.mode loose) in
+      falls-whole (may-fall nobody whole (roomy-whole (keyed-whole whole row.node key unshared)) (keyed-on whole row.node key unshared)) falls placed
+]

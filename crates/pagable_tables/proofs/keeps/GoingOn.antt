@@ -1,0 +1,32 @@
+-- What a call makes directly leaves nodes there, and those that aren't shared unshared.
+use Rattle.std.proofs.Common.{◌≡◌, ℕ, suc, zero, ◌+◌, ◌<◌, ◌≤◌, true, List, refl, ap, sym, ◌∙◌, inl, inr, arith}
+use Rattle.std.specs.Prelude.{is_some, nat_lt}
+use Rattle.std.proofs.lemmas.Bool.Decides.{nat_tests}
+use Rattle.pagable_world.specs.Kinds.{held, pins, sharing}
+use Rattle.pagable_world.specs.World.{Core}
+use Rattle.pagable_world.specs.Pager.{HandlesAreWhole, IsWhole}
+use Rattle.pagable_tables.proofs.Fitting.{pins-le-held}
+use Rattle.pagable_tables.proofs.keeps.Told.{roomy}
+
+-- no node goes, and none has fewer handles that aren't Shared
+pub record GoesOn (before u : Core) : Type 0 where
+  pub cells : (n : ℕ) → is_some (before.cells n) ≡ true → is_some (u.cells n) ≡ true
+  pub rows : (n : ℕ) → held n before.rows + sharing n u.rows ≤ held n u.rows + sharing n before.rows
+
+pub stays-on : (w : Core) → GoesOn w w
+stays-on w = record { cells = λ n is. is; rows = λ n. omega arith }
+
+pub then-on : {a b c : Core} → GoesOn a b → GoesOn b c → GoesOn a c
+then-on p q = record { cells = λ n is. q.cells n (p.cells n is); rows = λ n. let x = p.rows n in let y = q.rows n in omega arith }
+
+-- rows are as many of each node, and Shared or not as they were
+pub changed-on : (w u : Core) → ((n : ℕ) → is_some (u.cells n) ≡ is_some (w.cells n)) → ((n : ℕ) → held n u.rows ≡ held n w.rows) → ((n : ℕ) → sharing n u.rows ≡ sharing n w.rows) → GoesOn w u
+changed-on w u cells many shared = record { cells = λ n is. cells n ∙ is; rows = λ n. let a = many n in let b = shared n in omega arith }
+
+-- a pinned node that isn't shared is there still, and unshared
+pub on-listing : {before u : Core} → IsWhole before → HandlesAreWhole (roomy u) → GoesOn before u → (n : ℕ) → 0 < pins n before.rows → sharing n before.rows ≡ 0 → (is_some (u.cells n) ≡ true) × (sharing n u.rows ≡ 0)
+on-listing {before} {u} whole after on n pinned unshared =
+    let a = pins-le-held n before.rows in
+    let b : nat_lt 0 (held n before.rows) ≡ true = grind (arith, nat_tests) in
+    let c = on.rows n in
+    (on.cells n (whole.handles.live n ∙ b), elim (after.uniform n) [ | inl none ↦ none | inr all ↦ absurd (omega arith) ])

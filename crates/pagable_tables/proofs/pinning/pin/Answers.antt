@@ -1,0 +1,41 @@
+use Rattle.std.proofs.Common.{◌≡◌, ◌∙◌, ap, subst, false, true, inl, inr, rules}
+use Rattle.pagable_world.specs.Kinds.{is_loose}
+use Rattle.pagable_world.specs.Plain.{if_there}
+use Rattle.pagable_world.specs.World.{Alike, is_here}
+use Rattle.pagable_world.specs.Calls.{with_handle, with_mode, is_handle_here, pin_fault}
+use Rattle.pagable_world.specs.Refusals.{earlier, where_so, spent, Owns}
+use Rattle.pagable_world.specs.declared.handles.HandleRow.{HandleRow}
+use Rattle.pagable_world.specs.declared.rows.Mode.TheVariants as modes
+use Rattle.pagable_tables.specs.Core.{core_of}
+use Rattle.pagable_tables.proofs.Pins.{handle-first, no-fault, spent-late}
+use Rattle.pagable_tables.proofs.Worlds.{still, owner-same}
+use Rattle.pagable_tables.proofs.pinning.pin.Goals as goal
+
+pub returns-in-Err-clause-pinned : goal.returns-in-Err-clause-pinned
+returns-in-Err-clause-pinned c stored closed failures =
+    let w = core_of c.args.t.now stored closed failures in
+    let why = handle-first w c.args.me c.args.handle is_loose c.in-Err.e _ (c.in-Err.ensures.fault stored closed failures is_loose) (spent-late w.last.handle _) in
+    record { pins = tt; refused = record { why = inl why; stays = still _ } }
+
+pub returns-in-Ok-pin_here-clause-pinned : goal.returns-in-Ok-pin_here-clause-pinned
+returns-in-Ok-pin_here-clause-pinned c stored closed failures =
+    let w = core_of c.args.t.now stored closed failures in
+    let w' = core_of c.pin_here.new.t stored closed failures in
+    let row = c.in-Ok.at.row in
+    let here : is_here w row.node.0 ≡ true = search rules in
+    let m = (c.in-Ok-pin_here.ensures.pinned stored closed failures).pinned in
+    let owns : Owns w c.args.me c.args.handle is_loose row = record { live = c.in-Ok.ensures.found; own = owner-same c.args.me row.owner c.in-Ok.ensures.owner; as_asked = search rules } in
+    let alike = subst (λ q. Alike (with_handle (with_mode w q modes.LoosePinned) row.node modes.Pinned c.args.me) w') c.in-Ok.ensures.number m.1 in
+    record { pins = (row, owns, (here, m.0, alike)); refused = tt }
+
+pub returns-in-Err-pin_here-clause-pinned : goal.returns-in-Err-pin_here-clause-pinned
+returns-in-Err-pin_here-clause-pinned c stored closed failures =
+    let w = core_of c.args.t.now stored closed failures in
+    let row = c.in-Ok.at.row in
+    let here : is_here w row.node.0 ≡ true = search rules in
+    let so : is_handle_here w c.args.handle ≡ true = ap (if_there (λ (row : HandleRow). is_here w row.node.0) false) c.in-Ok.ensures.found ∙ here in
+    let none = no-fault w c.args.me c.args.handle is_loose row c.in-Ok.ensures.found c.in-Ok.ensures.owner (search rules) in
+    let m = (c.in-Err-pin_here.ensures.pinned stored closed failures).refused in
+    let cause : pin_fault w c.args.me c.args.handle ≡ spent w.last.handle =
+    ap (λ f. earlier f (where_so (is_handle_here w c.args.handle) (spent w.last.handle))) none ∙ ap (λ b. where_so b (spent w.last.handle)) so in
+    record { pins = tt; refused = record { why = elim m.why [ inl a ↦ inl (cause ∙ a) | inr b ↦ inr (b.0, cause ∙ b.1, (so, b.2)) ]; stays = m.stays } }

@@ -1,0 +1,57 @@
+use Rattle.std.proofs.Common.{◌≡◌, ◌∙◌, ℕ, ap, sym, subst, refl, false, Some, None, arith}
+use Rattle.pagable_world.specs.Kinds.{is_owner, is_shared, is_owned_by}
+use Rattle.pagable_world.specs.World.{Alike}
+use Rattle.pagable_world.specs.Calls.{with_mode}
+use Rattle.pagable_world.specs.declared.handles.HandleRow.{HandleRow}
+use Rattle.pagable_world.specs.declared.handles.Owner.TheVariants as owners
+use Rattle.pagable_world.specs.declared.rows.Mode.TheVariants as modes
+use Rattle.pagable_tables.specs.declared.tables.Tables.{Tables}
+use Rattle.pagable_tables.specs.Live.{live}
+use Rattle.pagable_tables.specs.Core.{core_of, plain_of}
+use Rattle.pagable_tables.proofs.Pins.{pinned-alike, found-again}
+use Rattle.pagable_tables.proofs.keeps.Comes.{not-list}
+use Rattle.pagable_tables.proofs.keeps.HandleCalls.{loose-unshared}
+use Rattle.pagable_tables.proofs.keeps.Rows.{found-among}
+use Rattle.pagable_tables.proofs.pinning.pin_here.Goals as goal
+
+pub make-requires-clause-suits : goal.make-requires-clause-suits
+make-requires-clause-suits c =
+    let rows = live c.args.t.now.holdings.handles.places.items in
+    record { row = c.args.row; there = (found-among c.args.row.number.0 rows c.args.row c.requires.owns.live).0; at = refl; shared = loose-unshared c.args.row.mode c.requires.owns.as_asked }
+
+pub returns-in-Err-clause-pinned : goal.returns-in-Err-clause-pinned
+returns-in-Err-clause-pinned c stored closed failures = let m = c.in-Err.ensures.made stored closed failures in record { pinned = tt; refused = m.refused }
+
+pub unreachable-requires : goal.unreachable-requires
+unreachable-requires c =
+    let came = (c.in-Ok.ensures.made (λ key. None) false 0).made.1.rows in
+    let again = found-again c.args.row.number.0 _ _ _ c.args.row None c.requires.owns.live came c.in_default.ensures.none in
+    absurd (cc)
+
+pub turn-requires-clause-unshared : goal.turn-requires-clause-unshared
+turn-requires-clause-unshared c =
+    let came = (c.in-Ok.ensures.made (λ key. None) false 0).made.1.rows in
+    let again = found-again c.args.row.number.0 _ _ _ c.args.row (Some c.in-Some.at.row) c.requires.owns.live came c.in-Some.ensures.found in
+    let same : c.in-Some.at.row ≡ c.args.row = cc in
+    ap (λ (row : HandleRow). is_shared row.mode) same ∙ loose-unshared c.args.row.mode c.requires.owns.as_asked
+
+pub turn-requires-clause-unlisted : goal.turn-requires-clause-unlisted
+turn-requires-clause-unlisted c =
+    let came = (c.in-Ok.ensures.made (λ key. None) false 0).made.1.rows in
+    let again = found-again c.args.row.number.0 _ _ _ c.args.row (Some c.in-Some.at.row) c.requires.owns.live came c.in-Some.ensures.found in
+    let same : c.in-Some.at.row ≡ c.args.row = cc in
+    ap (is_owned_by owners.List) same ∙ ap (is_owner owners.List) c.requires.owns.own ∙ not-list (plain_of c.args.t.now) c.args.me c.requires.holder
+
+pub returns-clause-pinned : goal.returns-clause-pinned
+returns-clause-pinned c stored closed failures =
+    let t = c.args.t.now in
+    let row = c.args.row in
+    let m = c.in-Ok.ensures.made stored closed failures in
+    let cache = λ (u : Tables). (core_of u stored closed failures).cache in
+    let w = core_of t stored closed failures in
+    let u = core_of c.make.new.t stored closed failures in
+    let w' = core_of c.turn.new.t stored closed failures in
+    let turned = subst (λ q. Alike (with_mode u q modes.LoosePinned) w') c.in-Some.ensures.number (c.turn.ensures.turned stored closed failures) in
+    let numbered = c.requires.whole.core.handles.numbered row (found-among row.number.0 w.rows row c.requires.owns.live).0 in
+    let same = λ (kind key : ℕ). ap (λ (u : Tables). cache u kind key) c.turn.ensures.same ∙ ap (λ (u : Tables). cache u kind key) c.in-Ok.ensures.same in
+    record { pinned = (record { above = m.made.0.above; is_left = m.made.0.is_left }, pinned-alike w u w' row.number row.node c.args.me numbered.1 same m.made.1 turned); refused = tt }

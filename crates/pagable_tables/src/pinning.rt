@@ -1,0 +1,65 @@
+//! Pins of loose handles.
+
+ghost use Rattle.std.specs.Prelude.{ℕ, Bool, Option};
+ghost use Rattle.pagable_world.specs.Plain.{Blob};
+ghost use Rattle.pagable_world.specs.Kinds.{is_loose};
+ghost use Rattle.pagable_world.specs.Refusals.{Owns};
+ghost use Rattle.pagable_world.specs.Calls.{PinCall};
+ghost use Rattle.pagable_tables.specs.Owning.{PinsHere};
+ghost use Rattle.pagable_tables.specs.Core.{core_of, plain_of, IsWhole, MayHold};
+
+use crate::kinds::is_loose;
+use crate::lookups::{is_here, key_in};
+use crate::making::make;
+use crate::tables::Tables;
+use crate::turning::{own, turn};
+use crate::{handles, nodes};
+use pagable_model::{Error, HandleNumber, OptionalDataKey};
+use pagable_world::handles::{HandleRow, Owner};
+use pagable_world::{Mode, Pinning};
+
+/// A Pinned handle of this loose handle's node, and the handle pins too from now on. It is refused only where no number is left, or no place.
+fn pin_here(t: &mut Tables, me: Owner, row: HandleRow) -> Result<HandleNumber, Error>
+    requires whole { IsWhole t.old }
+    requires holder { MayHold (plain_of t.old) me }
+    requires owns { Owns (plain_of t.old) me row.number is_loose row }
+    ensures pinned { (stored : ℕ → Option Blob) (closed : Bool) (failures : ℕ) → PinsHere (core_of t.old stored closed failures) me row result (core_of t.new stored closed failures) }
+    ensures whole { IsWhole t.new }
+{
+    let handle = match make(t, row.node, Mode::Pinned, me) {
+        Ok(handle) => handle,
+        Err(e) => return Err(e),
+    };
+    let Some(at) = handles::look(&t.holdings.handles, row.number) else {
+        unreachable!();
+    };
+    turn(t, at);
+    Ok(handle)
+}
+
+/// A pin of a loose handle. Or its key, where the value has to be read first. It is refused where it isn't an own loose handle, no number is left, or no place.
+pub fn pin(t: &mut Tables, me: Owner, handle: HandleNumber) -> Result<Pinning, Error>
+    requires whole { IsWhole t.old }
+    requires holder { MayHold (plain_of t.old) me }
+    ensures pinned { (stored : ℕ → Option Blob) (closed : Bool) (failures : ℕ) → PinCall (core_of t.old stored closed failures) me handle result (core_of t.new stored closed failures) }
+    ensures whole { IsWhole t.new }
+{
+    let at = match own(t, me, handle) {
+        Ok(at) => at,
+        Err(e) => return Err(e),
+    };
+    if !is_loose(at.row.mode) {
+        return Err(Error::WrongMode);
+    }
+    let counts = nodes::counts_of(&t.holdings.nodes, at.row.node.0);
+    if !is_here(counts) {
+        match key_in(counts) {
+            OptionalDataKey::Some(key) => return Ok(Pinning::NeedsLoad(key)),
+            OptionalDataKey::None => unreachable!(),
+        }
+    }
+    match pin_here(t, me, at.row) {
+        Ok(handle) => Ok(Pinning::Pinned(handle)),
+        Err(e) => Err(e),
+    }
+}
