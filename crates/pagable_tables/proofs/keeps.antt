@@ -7,7 +7,9 @@ pub mod Turned
 pub mod Comes
 pub mod Rests
 pub mod Fallen
+pub mod Moved
 pub mod HandleCalls
 pub mod FallCalls
+pub mod ListCalls
 pub mod LoadCalls
 pub mod CacheCalls
