@@ -29,3 +29,5 @@ mod Lowered
 mod Dropped
 mod Asked
 mod Pins
+mod Unpinning
+mod KeyPut

@@ -1,6 +1,6 @@
 -- A handle lets its pin go: handles and nodes fit again, as if an unpinned handle came and then the pinned one left.
-use Rattle.std.proofs.Common.{◌≡◌, ℕ, ◌+◌, ◌-◌, ◌≤◌, ◌==◌, ◌&&◌, ◌||◌, Bool, true, false, if◌then◌else◌, List, [], ◌∷◌, ◌++◌, sum_by, refl, ap, sym, ◌∙◌, subst, arith, Option, Some, None, inl, inr}
-use Rattle.std.specs.Prelude.{◌≢◌, is_some, nat_lt}
+use Rattle.std.proofs.Common.{◌≡◌, ℕ, ◌+◌, ◌-◌, ◌≤◌, ◌==◌, Bool, true, false, if◌then◌else◌, List, [], ◌∷◌, ◌++◌, sum_by, refl, ap, sym, ◌∙◌, subst, arith, Option, Some}
+use Rattle.std.specs.Prelude.{◌≢◌, nat_lt}
 use Rattle.std.proofs.lemmas.Bool.Decides.{nat_tests}
 use Rattle.std.proofs.lemmas.List.Sums.{sum_by_push}
 use Rattle.pagable_model.specs.declared.numbers.ArcRef.{ArcRef}
@@ -15,10 +15,10 @@ use Rattle.pagable_tables.proofs.Begun.{fits-unowned}
 use Rattle.pagable_tables.proofs.Coming.{come-fits, come-cells, come-there}
 use Rattle.pagable_tables.proofs.Fitting.{given-fits, given-cells}
 
-updated-here : {X : Type 0} (n : ℕ) (x : X) (f : ℕ → X) → updated n x f n ≡ x
+pub updated-here : {X : Type 0} (n : ℕ) (x : X) (f : ℕ → X) → updated n x f n ≡ x
 updated-here n x f = let e : (n == n) ≡ true = grind (arith, nat_tests) in ap (λ b. if b then x else f n) e
 
-updated-other : {X : Type 0} (n : ℕ) (x : X) (f : ℕ → X) (q : ℕ) → q ≢ n → updated n x f q ≡ f q
+pub updated-other : {X : Type 0} (n : ℕ) (x : X) (f : ℕ → X) (q : ℕ) → q ≢ n → updated n x f q ≡ f q
 updated-other n x f q other = let e : (q == n) ≡ false = grind (arith, nat_tests) in ap (λ b. if b then x else f q) e
 
 -- one that is pinned no more falls only if it has a key

@@ -7,3 +7,4 @@ pub mod Owning
 pub mod Lowering
 pub mod Later
 pub mod Asking
+pub mod Keyed

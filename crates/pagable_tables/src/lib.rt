@@ -9,6 +9,7 @@ pub mod cascade;
 pub mod ending;
 pub mod handles;
 pub mod holdings;
+pub mod keys;
 pub mod kinds;
 pub mod known;
 pub mod listing;
