@@ -11,5 +11,6 @@ pub mod Moved
 pub mod HandleCalls
 pub mod FallCalls
 pub mod ListCalls
+pub mod BirthCalls
 pub mod LoadCalls
 pub mod CacheCalls
