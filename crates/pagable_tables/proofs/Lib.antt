@@ -31,3 +31,4 @@ mod Asked
 mod Pins
 mod Unpinning
 mod KeyPut
+mod Seen

@@ -8,3 +8,4 @@ pub mod Lowering
 pub mod Later
 pub mod Asking
 pub mod Keyed
+pub mod Named
