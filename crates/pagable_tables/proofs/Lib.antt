@@ -32,3 +32,4 @@ mod Pins
 mod Unpinning
 mod KeyPut
 mod Seen
+mod Handed

@@ -1,18 +1,23 @@
 //! Handles that a load hands over.
 
-ghost use Rattle.std.specs.Prelude.{◌≡◌, ◌<◌, ◌≤◌, ◌||◌, ℕ, [], length, Some, not};
+ghost use Rattle.std.specs.Prelude.{◌≡◌, ◌<◌, ◌≤◌, ◌||◌, ℕ, [], length, Some, not, false, vec_capacity};
 ghost use Rattle.pagable_model.specs.declared.error.Error.TheVariants as errors;
 ghost use Rattle.pagable_world.specs.Plain.{is_in, if_there};
 ghost use Rattle.pagable_world.specs.Kinds.{is_owner, find_row};
 ghost use Rattle.pagable_world.specs.Refusals.{named_fault, refused_if};
+ghost use Rattle.pagable_world.specs.Calls.{moved};
+ghost use Rattle.pagable_world.specs.LoadCalls.{numbers_of};
 ghost use Rattle.pagable_world.specs.declared.handles.HandleRow.{HandleRow};
 ghost use Rattle.pagable_world.specs.World.{Core};
 ghost use Rattle.pagable_tables.specs.Live.{live, AreSound};
-ghost use Rattle.pagable_tables.specs.Named.{seen, named_at};
+ghost use Rattle.pagable_tables.specs.Named.{seen, named_at, IsNamed};
+ghost use Rattle.pagable_tables.specs.Falling.{IsFalling, owns_nothing, is_valued};
 
 use crate::causes::earlier;
 use crate::handles;
 use crate::handles::Handles;
+use crate::holdings::Holdings;
+use crate::moving::hand_over;
 use crate::turning::is_owner;
 use pagable_model::{Error, HandleNumber};
 use pagable_world::handles::Owner;
@@ -63,4 +68,22 @@ pub fn named_fault(handles: &Handles, owner: Owner, named: &[HandleNumber]) -> O
         fault = earlier(fault_at(handles, owner, named, place), fault);
     }
     fault
+}
+
+/// The handles that are named come to another owner. Each is there, and none is a value's.
+pub fn hand_each(t: &mut Holdings, named: &[HandleNumber], owner: Owner)
+    requires steady { IsFalling t.old [] owns_nothing }
+    requires plain { is_valued owner ≡ false }
+    requires there { (place : ℕ) → place < length named.now → IsNamed (live t.old.handles.places.items) (named_at named.now place) }
+    ensures rows { live t.new.handles.places.items ≡ moved (is_in (numbers_of named.now)) owner (live t.old.handles.places.items) }
+    ensures same { t.new ≡ record t.old { handles = t.new.handles } }
+    ensures capacity { vec_capacity t.new.handles.places ≡ vec_capacity t.old.handles.places }
+    ensures steady { IsFalling t.new [] owns_nothing }
+{
+    for place in 0..named.len() {
+        let Some(at) = handles::look(&t.handles, named[place]) else {
+            unreachable!();
+        };
+        hand_over(&mut t.handles, at, owner);
+    }
 }
