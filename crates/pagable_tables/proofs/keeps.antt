@@ -12,5 +12,7 @@ pub mod HandleCalls
 pub mod FallCalls
 pub mod ListCalls
 pub mod BirthCalls
-pub mod LoadCalls
 pub mod CacheCalls
+pub mod LoadCalls
+pub mod AdoptCalls
+pub mod EndCalls

@@ -1,5 +1,5 @@
 -- Calls by which a node comes, with a handle, keep the world whole.
-use Rattle.std.proofs.Common.{◌≡◌, ℕ, suc, zero, ◌+◌, ◌<◌, ◌≤◌, ◌==◌, ◌||◌, Bool, true, false, not, if◌then◌else◌, List, [], ◌∷◌, ◌++◌, Ok, Err, Option, Some, None, inl, inr, refl, ap, sym, subst, ◌∙◌, arith}
+use Rattle.std.proofs.Common.{◌≡◌, ℕ, suc, zero, ◌+◌, ◌<◌, ◌==◌, ◌||◌, Bool, true, false, not, if◌then◌else◌, List, [], ◌∷◌, Ok, Err, Option, Some, None, inl, inr, refl, ap, sym, subst, ◌∙◌, arith}
 use Rattle.std.specs.Prelude.{◌⊎◌, ◌≢◌, Result, is_some, nat_lt}
 use Rattle.std.proofs.lemmas.Bool.Decides.{nat_tests}
 use Rattle.pagable_model.specs.declared.data_key.OptionalDataKey.{OptionalDataKey}
@@ -18,12 +18,12 @@ use Rattle.pagable_world.specs.Kinds.{held, sharing, is_shared, is_owner, is_own
 use Rattle.pagable_world.specs.World.{Core, Cell, greatest, row_at, type_at}
 use Rattle.pagable_world.specs.Refusals.{references_fault, reference_fault, row_fault, refused_if, is_type}
 use Rattle.pagable_world.specs.Calls.{row_of, moved, is_named_by, with_handle, with_node, next_node, BirthCall, AwayBirthCall}
-use Rattle.pagable_world.specs.Pager.{IsWhole, IsEntryWhole}
+use Rattle.pagable_world.specs.Pager.{IsWhole}
 use Rattle.pagable_tables.specs.Core.{ArePlaced, MayHold}
 use Rattle.pagable_tables.proofs.Worlds.{owner-same}
 use Rattle.pagable_tables.proofs.keeps.Rows.{found-among, once}
 use Rattle.pagable_tables.proofs.keeps.Told.{roomy, settles, alike-whole}
-use Rattle.pagable_tables.proofs.keeps.Comes.{grown-whole, keyed_in, type_in, not-list}
+use Rattle.pagable_tables.proofs.keeps.Comes.{grown-whole, keyed_in, not-list}
 use Rattle.pagable_tables.proofs.keeps.Moved.{moved-to-value}
 
 -- ---- references that are good
@@ -42,14 +42,16 @@ good-one w owner seen r good = of (row_at w r.handle) refl good
     parts true false c rest e = absurd (cc)
     parts false b c rest e = absurd (cc)
 
-    of : (found : Option HandleRow) → row_at w r.handle ≡ found → if_there (λ (row : HandleRow). row_fault w r (refused_if (not (is_owner owner row.owner) || is_in seen r.handle.0) errors.NotYours) row) (Some errors.NoSuchHandle) found ≡ None
+    of : (found : Option HandleRow) → row_at w r.handle ≡ found
+        → if_there (λ (row : HandleRow). row_fault w r (refused_if (not (is_owner owner row.owner) || is_in seen r.handle.0) errors.NotYours) row) (Some errors.NoSuchHandle) found ≡ None
         → IsMine w owner r.handle.0
     of None e good = absurd (cc)
     of (Some row) e good =
         record {
           row = row;
           live = e;
-          own = owner-same owner row.owner (parts (row.node.0 == r.node.0) (is_owner owner row.owner) (is_in seen r.handle.0) (if not (fits_mode r.kind.0 row.mode) then Some errors.WrongMode else refused_if (not (is_type (type_of r.kind.0) (type_at w r.node.0))) errors.WrongKind) good);
+          own = owner-same owner row.owner (parts (row.node.0 == r.node.0) (is_owner owner row.owner) (is_in seen r.handle.0)
+              (if not (fits_mode r.kind.0 row.mode) then Some errors.WrongMode else refused_if (not (is_type (type_of r.kind.0) (type_at w r.node.0))) errors.WrongKind) good);
         }
 
 or-none : {X : Type 0} (a b : Option X) → or_else a b ≡ None → (a ≡ None) × (b ≡ None)
@@ -68,7 +70,8 @@ named-mine w owner seen (r ∷ rs) good q named =
     at false e named mine rest = rest named
 
 -- what is named isn't the list's
-pub named-unlisted : {w : Core} → IsWhole w → (owner : Owner) (refs : List ArcRef) → is_owner owners.List owner ≡ false → references_fault w owner [] refs ≡ None → (x : HandleRow) → Among w.rows x → is_named_by refs x.number.0 ≡ true → is_owned_by owners.List x ≡ false
+pub named-unlisted : {w : Core} → IsWhole w → (owner : Owner) (refs : List ArcRef) → is_owner owners.List owner ≡ false → references_fault w owner [] refs ≡ None → (x : HandleRow)
+    → Among w.rows x → is_named_by refs x.number.0 ≡ true → is_owned_by owners.List x ≡ false
 named-unlisted {w} whole owner refs other good x among named =
     let m = named-mine w owner [] refs good x.number.0 named in
     let a = found-among x.number.0 w.rows m.row m.live in
@@ -77,12 +80,13 @@ named-unlisted {w} whole owner refs other good x among named =
 
 -- ---- the node
 
-module _ {w : Core} (whole : IsWhole w) (node_type : ℕ) (key : OptionalDataKey) (refs : List ArcRef) (mode : Mode) (from me : Owner) (other : is_owner owners.List from ≡ false) (good : references_fault w from [] refs ≡ None)
+module _ {w : Core} (whole : IsWhole w) (node_type : ℕ) (key : OptionalDataKey) (refs : List ArcRef) (mode : Mode) (from me : Owner) (other : is_owner owners.List from ≡ false)
+    (good : references_fault w from [] refs ≡ None)
     (holder : MayHold w me) (node_left : w.last.node < greatest) (left : w.last.handle < greatest) (unkeyed : is_shared mode ≡ true → has_key key ≡ false) where
-  abbrev moved-world : Core
+  abbrev pub moved-world : Core
   moved-world = record w { rows = moved (is_named_by refs) (owner_value (w.last.node + 1)) w.rows }
 
-  abbrev born : Core
+  abbrev pub born : Core
   born = with_handle (with_node w node_type key refs) (next_node w) mode me
 
   moved-whole : IsWhole (roomy moved-world)
@@ -99,7 +103,7 @@ module _ {w : Core} (whole : IsWhole w) (node_type : ℕ) (key : OptionalDataKey
           absurd (omega arith)
 
   none-shared : sharing (w.last.node + 1) moved-world.rows ≡ 0
-  none-shared = elim (moved-whole.handles.uniform (w.last.node + 1)) [ | inl none ↦ none | inr all ↦ all ∙ none-held ]
+  none-shared = elim (moved-whole.handles.uniform (w.last.node + 1)) [ inl none ↦ none | inr all ↦ all ∙ none-held ]
 
   abbrev cells : ℕ → Option Cell
   cells = updated (w.last.node + 1) (Some (record { node_type = node_type; key = key })) w.cells
@@ -111,16 +115,19 @@ module _ {w : Core} (whole : IsWhole w) (node_type : ℕ) (key : OptionalDataKey
   cell-old n old = let e : (n == w.last.node + 1) ≡ false = grind (arith, nat_tests) in rw e refl
 
   uniform-by : (b : Bool) → is_shared mode ≡ b
-      → (is_shared mode ≡ false) × (sharing (w.last.node + 1) moved-world.rows ≡ 0) ⊎ (is_shared mode ≡ true) × (sharing (w.last.node + 1) moved-world.rows ≡ held (w.last.node + 1) moved-world.rows) × (keyed_in (cells (w.last.node + 1)) ≡ false)
+      → (is_shared mode ≡ false) × (sharing (w.last.node + 1) moved-world.rows ≡ 0) ⊎ (is_shared mode ≡ true)
+      × (sharing (w.last.node + 1) moved-world.rows ≡ held (w.last.node + 1) moved-world.rows) × (keyed_in (cells (w.last.node + 1)) ≡ false)
   uniform-by false is = inl (is, none-shared)
   uniform-by true is = inr (is, none-shared ∙ sym none-held, ap keyed_in cell-new ∙ unkeyed is)
 
   pub born-whole : IsWhole (roomy born)
   born-whole =
-      grown-whole moved-whole (row_of (w.last.handle + 1) (next_node w) mode me) cells (w.last.node + 1) refl left (omega arith) (omega arith) (ap is_some cell-new) cell-old (omega arith, omega arith) (λ t is. inr (omega arith)) (uniform-by (is_shared mode) refl)
+      grown-whole moved-whole (row_of (w.last.handle + 1) (next_node w) mode me) cells (w.last.node + 1) refl left (omega arith) (omega arith) (ap is_some cell-new) cell-old
+      (omega arith, omega arith) (λ t is. inr (omega arith)) (uniform-by (is_shared mode) refl)
       (λ kind e. absurd (let a = e.given in omega arith)) holder
 
-pub birth-whole : {N : Type 0} {w w' : Core} (me : Owner) (x : N) (node_type : ℕ) (refs : List ArcRef) (mode : Mode) (r : Result HandleNumber (Error × N)) → IsWhole w → MayHold w me → BirthCall w me x node_type refs mode r w' → ArePlaced w' → IsWhole w'
+pub birth-whole : {N : Type 0} {w w' : Core} (me : Owner) (x : N) (node_type : ℕ) (refs : List ArcRef) (mode : Mode) (r : Result HandleNumber (Error × N)) → IsWhole w → MayHold w me
+    → BirthCall w me x node_type refs mode r w' → ArePlaced w' → IsWhole w'
 birth-whole {N} {w} me x node_type refs mode (Ok k) whole holder call placed =
     let (good, node_left, next, leaves) = call.made in
     settles (born-whole whole node_type optional.None refs mode me me (not-list w me holder) good holder node_left next.is_left (λ is. refl)) leaves placed

@@ -1,5 +1,5 @@
 -- Calls on the cache and on room keep the world whole.
-use Rattle.std.proofs.Common.{◌≡◌, ℕ, ◌<◌, ◌≤◌, ◌==◌, ◌&&◌, ◌%◌, Bool, true, false, not, if◌then◌else◌, Ok, Err, Option, Some, None, inl, inr, refl, ap, sym, subst, ◌∙◌, arith}
+use Rattle.std.proofs.Common.{◌≡◌, ℕ, ◌<◌, ◌==◌, ◌&&◌, ◌%◌, Bool, true, false, not, if◌then◌else◌, Ok, Err, Option, Some, None, inl, inr, refl, ap, sym, subst, ◌∙◌, arith}
 use Rattle.std.specs.Prelude.{Result, is_some, nat_lt}
 use Rattle.std.proofs.lemmas.Bool.Decides.{nat_tests}
 use Rattle.pagable_model.specs.declared.error.Error.{Error}
@@ -19,12 +19,12 @@ use Rattle.pagable_world.specs.Pager.{IsWhole, IsEntryWhole}
 use Rattle.pagable_tables.specs.Core.{ArePlaced, MayHold, Suits}
 use Rattle.pagable_tables.proofs.keeps.Rows.{at-most-sum, counted, found-among}
 use Rattle.pagable_tables.proofs.keeps.Told.{roomy, roomy-whole, settles, told-whole, alike-whole, may-own}
-use Rattle.pagable_tables.proofs.keeps.GoingOn.{GoesOn}
-use Rattle.pagable_tables.proofs.keeps.Comes.{type_in, beside, beside-on, unshared-node}
+use Rattle.pagable_tables.proofs.keeps.Comes.{type_in, beside, handle-on, unshared-node}
 use Rattle.pagable_tables.proofs.keeps.Fallen.{may-fall, falls-whole}
 
 pub clear-whole : {w w' : Core} (r : Result (Unit {0}) Error) → IsWhole w → ClearCall w r w' → ArePlaced w' → IsWhole w'
-clear-whole {w} {w'} r whole call placed = let a = call.leaves in told-whole whole a.rows a.cells a.list (λ kind key n is. let f = a.cache.only kind key n is in absurd (cc)) a.closed a.loads a.workers a.last placed
+clear-whole {w} {w'} r whole call placed = let a = call.leaves in
+    told-whole whole a.rows a.cells a.list (λ kind key n is. let f = a.cache.only kind key n is in absurd (cc)) a.closed a.loads a.workers a.last placed
 
 pub reserve-whole : {w w' : Core} (n : ℕ) (r : Result (Unit {0}) Error) → IsWhole w → ReserveCall w n r w' → ArePlaced w' → IsWhole w'
 reserve-whole n r whole call placed = alike-whole whole call.stays placed
@@ -49,7 +49,8 @@ fits-shared kind modes.LooseUnpinned fits = let a : (kind % 3 == 1) ≡ true = f
 usable-is : (w : Core) (kind key n : ℕ) → usable w kind key ≡ Some n → (w.cache kind key ≡ Some n) × (is_some (w.cells n) ≡ true)
 usable-is w kind key n is = at (w.cache kind key) refl is
   where
-    of-cell : (m : ℕ) (cell : Option Cell) → w.cells m ≡ cell → if_there (λ (cell : Cell). if is_pinned_kind kind && not (is_in_memory (pins m w.rows) cell.key) then None else Some m) None cell ≡ Some n → (m ≡ n) × (is_some (w.cells m) ≡ true)
+    of-cell : (m : ℕ) (cell : Option Cell) → w.cells m ≡ cell → if_there
+        (λ (cell : Cell). if is_pinned_kind kind && not (is_in_memory (pins m w.rows) cell.key) then None else Some m) None cell ≡ Some n → (m ≡ n) × (is_some (w.cells m) ≡ true)
     of-cell m None e is = absurd (cc)
     of-cell m (Some cell) e is = (so (is_pinned_kind kind && not (is_in_memory (pins m w.rows) cell.key)) is, ap is_some e)
       where
@@ -57,7 +58,8 @@ usable-is w kind key n is = at (w.cache kind key) refl is
         so true is = absurd (cc)
         so false is = cc
 
-    at : (found : Option ℕ) → w.cache kind key ≡ found → if_there (λ m. if_there (λ (cell : Cell). if is_pinned_kind kind && not (is_in_memory (pins m w.rows) cell.key) then None else Some m) None (w.cells m)) None found ≡ Some n
+    at : (found : Option ℕ) → w.cache kind key ≡ found → if_there
+        (λ m. if_there (λ (cell : Cell). if is_pinned_kind kind && not (is_in_memory (pins m w.rows) cell.key) then None else Some m) None (w.cells m)) None found ≡ Some n
         → (w.cache kind key ≡ Some n) × (is_some (w.cells n) ≡ true)
     at None e is = absurd (cc)
     at (Some m) e is = let a = of-cell m (w.cells m) refl is in (e ∙ ap (λ k. Some k) a.0, ap (λ k. is_some (w.cells k)) (sym a.0) ∙ a.1)
@@ -78,11 +80,9 @@ known-suits {w} whole kind key n is =
         at true e some = grind (arith, nat_tests)
         at false e some = absurd (omega arith)
 
-pub known-whole : {w : Core} (kind : Kind) (key n : ℕ) (owner : Owner) → IsWhole w → usable w kind.0 key ≡ Some n → MayHold w owner → w.last.handle < greatest → IsWhole (roomy (with_known w kind n owner))
+pub known-whole : {w : Core} (kind : Kind) (key n : ℕ) (owner : Owner) → IsWhole w → usable w kind.0 key ≡ Some n → MayHold w owner → w.last.handle < greatest
+    → IsWhole (roomy (with_known w kind n owner))
 known-whole kind key n owner whole is holder left = beside whole (record { 0 = n }) (mode_of kind.0) (known-suits whole kind.0 key n is) owner holder left
-
-pub known-on : {w : Core} (kind : Kind) (key n : ℕ) (owner : Owner) → IsWhole w → usable w kind.0 key ≡ Some n → GoesOn w (with_known w kind n owner)
-known-on kind key n owner whole is = beside-on whole (record { 0 = n }) (mode_of kind.0) (known-suits whole kind.0 key n is) owner
 
 pub recall-whole : {w w' : Core} (me : Owner) (kind : Kind) (key : ℕ) (r : Result (Option HandleNumber) Error) → IsWhole w → MayHold w me → RecallCall w me kind key r w' → ArePlaced w' → IsWhole w'
 recall-whole me kind key (Ok (Some k)) whole holder call placed = let (n, is, next, leaves) = call.answers in settles (known-whole kind key n me whole is holder next.is_left) leaves placed
@@ -130,7 +130,8 @@ shared-alike {w} whole x y there here same = at (is_shared x.mode) (is_shared y.
     at true false e f = let a = counts x there e in let b = unshared-node whole y here f in let c = ap (λ n. sharing n w.rows) same in absurd (omega arith)
     at false true e f = let a = counts y here f in let b = unshared-node whole x there e in let c = ap (λ n. sharing n w.rows) same in absurd (omega arith)
 
-pub offer-whole : {w w' : Core} (me : Owner) (kind : Kind) (key : ℕ) (h : HandleNumber) (r : Result (Option HandleNumber) Error) → IsWhole w → MayHold w me → OfferCall w me kind key h r w' → ArePlaced w' → IsWhole w'
+pub offer-whole : {w w' : Core} (me : Owner) (kind : Kind) (key : ℕ) (h : HandleNumber) (r : Result (Option HandleNumber) Error) → IsWhole w → MayHold w me → OfferCall w me kind key h r w'
+    → ArePlaced w' → IsWhole w'
 offer-whole {w} me kind key h (Ok None) whole holder call placed =
     let (row, owns, typed, offers) = call.answers in
     let (stands_open, none, leaves) = offers in
@@ -147,6 +148,7 @@ offer-whole {w} me kind key h (Ok None) whole holder call placed =
     some-typed None is = absurd (cc)
 offer-whole {w} me kind key h (Ok (Some k)) whole holder call placed = elim call.answers.3 [
   | inl (closed, same, stays) ↦ alike-whole whole stays placed
-  | inr (stands_open, (n, is, next, falls)) ↦ falls-whole (may-fall (only_handle h) whole (known-whole kind key n me whole is holder next.is_left) (known-on kind key n me whole is)) falls.falls placed
+  | inr (stands_open, (n, is, next, falls)) ↦ falls-whole (may-fall (only_handle h) whole (known-whole kind key n me whole is holder next.is_left)
+      (handle-on w (record { 0 = n }) (mode_of kind.0) me)) falls.falls placed
 ]
 offer-whole me kind key h (Err e) whole holder call placed = alike-whole whole call.refused.stays placed

@@ -1,23 +1,22 @@
 -- Calls by which handles or values fall keep the world whole.
-use Rattle.std.proofs.Common.{◌≡◌, ℕ, ◌+◌, ◌<◌, ◌==◌, Bool, true, false, Option, Some, None, inl, inr, refl, ap, sym, subst, ◌∙◌, if◌then◌else◌, arith}
+use Rattle.std.proofs.Common.{◌≡◌, ℕ, ◌<◌, ◌==◌, Bool, true, false, Option, Some, None, inl, inr, refl, ap, sym, ◌∙◌, if◌then◌else◌, arith}
 use Rattle.std.specs.Prelude.{Result, is_some}
 use Rattle.std.proofs.lemmas.Bool.Decides.{nat_tests}
 use Rattle.pagable_model.specs.declared.data_key.OptionalDataKey.TheVariants as optional
 use Rattle.pagable_model.specs.declared.error.Error.{Error}
 use Rattle.pagable_model.specs.declared.numbers.HandleNumber.{HandleNumber}
 use Rattle.pagable_model.specs.declared.numbers.NodeNumber.{NodeNumber}
-use Rattle.pagable_world.specs.declared.handles.HandleRow.{HandleRow}
 use Rattle.pagable_world.specs.declared.handles.Owner.{Owner}
 use Rattle.pagable_world.specs.declared.rows.Mode.TheVariants as modes
-use Rattle.pagable_world.specs.Plain.{updated, if_there}
+use Rattle.pagable_world.specs.Plain.{if_there}
 use Rattle.pagable_world.specs.Kinds.{is_shared, sharing}
-use Rattle.pagable_world.specs.World.{Core, Cell, Alike}
+use Rattle.pagable_world.specs.World.{Core, Cell}
 use Rattle.pagable_world.specs.Cascade.{only_handle, nobody}
-use Rattle.pagable_world.specs.Calls.{with_mode, with_key, IsRefused, ReleaseCall, UnpinCall, SetKeyCall}
-use Rattle.pagable_world.specs.Pager.{IsWhole, IsRootWhole}
+use Rattle.pagable_world.specs.Calls.{with_key, ReleaseCall, UnpinCall, SetKeyCall}
+use Rattle.pagable_world.specs.Pager.{IsWhole}
 use Rattle.pagable_tables.specs.Core.{ArePlaced}
 use Rattle.pagable_tables.proofs.keeps.Rows.{found-among}
-use Rattle.pagable_tables.proofs.keeps.Told.{roomy, roomy-whole, alike-whole, may-own}
+use Rattle.pagable_tables.proofs.keeps.Told.{roomy-whole, alike-whole, may-own}
 use Rattle.pagable_tables.proofs.keeps.GoingOn.{GoesOn, stays-on}
 use Rattle.pagable_tables.proofs.keeps.Turned.{moded-whole, moded-on}
 use Rattle.pagable_tables.proofs.keeps.Comes.{keyed_in, type_in, unshared-node}
@@ -36,7 +35,8 @@ unpin-whole {w} {w'} me h r whole call placed = elim call.does [
   | inr (row, owns, inl stays) ↦ alike-whole whole stays.2 placed
   | inr (row, owns, inr (pinned, falls)) ↦
       let unshared : is_shared modes.LooseUnpinned ≡ is_shared row.mode = ap is_shared (sym pinned) in
-      falls-whole (may-fall nobody whole (moded-whole whole h row modes.LooseUnpinned owns.live unshared (λ loose. refl) (λ is. refl)) (moded-on whole h row modes.LooseUnpinned owns.live unshared (λ loose. refl) (λ is. refl))) falls placed
+      falls-whole (may-fall nobody whole (moded-whole whole h row modes.LooseUnpinned owns.live unshared (λ loose. refl) (λ is. refl))
+      (moded-on whole h row modes.LooseUnpinned owns.live unshared (λ loose. refl) (λ is. refl))) falls placed
 ]
 
 -- ---- a key
@@ -87,7 +87,8 @@ module _ {w : Core} (whole : IsWhole w) (node : NodeNumber) (key : ℕ) (unshare
         loads = record {
           numbered = whole.loads.numbered;
           owned = λ l load is. may-own w (with_key w node key) (λ v at. at) load.owner (whole.loads.owned l load is);
-          roots = λ l load n t k is root. let r = whole.loads.roots l load n t k is root in record { typed = λ type named. r.typed type (sym (kept type_in same-type n.0) ∙ named); begun = r.begun; given = r.given };
+          roots = λ l load n t k is root. let r = whole.loads.roots l load n t k is root in
+              record { typed = λ type named. r.typed type (sym (kept type_in same-type n.0) ∙ named); begun = r.begun; given = r.given };
         };
         cache = λ kind q n is. let e = whole.cache kind q n is in record { given = e.given; typed = λ t named. e.typed t (sym (kept type_in same-type n) ∙ named); shares = e.shares };
         workers_numbered = whole.workers_numbered;

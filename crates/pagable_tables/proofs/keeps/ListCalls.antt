@@ -1,6 +1,6 @@
 -- Calls by which handles go to the list and come from it keep the world whole.
-use Rattle.std.proofs.Common.{◌≡◌, ℕ, ◌+◌, ◌<◌, ◌==◌, ◌&&◌, Bool, true, false, Ok, Err, if◌then◌else◌, List, [], ◌∷◌, ◌++◌, Option, Some, None, inl, inr, refl, ap, sym, subst, ◌∙◌, arith, sum_by, slice_get, get_or}
-use Rattle.std.specs.Prelude.{◌⊎◌, Result}
+use Rattle.std.proofs.Common.{◌≡◌, ℕ, ◌+◌, ◌<◌, ◌==◌, ◌&&◌, Bool, true, false, Ok, Err, if◌then◌else◌, [], ◌∷◌, ◌++◌, Option, Some, None, inl, inr, refl, ap, sym, subst, ◌∙◌, arith, slice_get, get_or}
+use Rattle.std.specs.Prelude.{Result}
 use Rattle.std.specs.List.{remove}
 use Rattle.std.proofs.lemmas.Bool.Decides.{nat_tests}
 use Rattle.std.proofs.lemmas.List.Sums.{sum_by_push, sum_by-remove}
@@ -13,13 +13,13 @@ use Rattle.pagable_world.specs.declared.handles.Owner.TheVariants as owners
 use Rattle.pagable_world.specs.declared.rows.Mode.{Mode}
 use Rattle.pagable_world.specs.declared.rows.Mode.TheVariants as modes
 use Rattle.pagable_world.specs.Plain.{one, Among, times}
-use Rattle.pagable_world.specs.Kinds.{is_handle, is_owner, is_owned_by, is_unpinned}
+use Rattle.pagable_world.specs.Kinds.{is_owner, is_owned_by, is_unpinned}
 use Rattle.pagable_world.specs.World.{Core}
 use Rattle.pagable_world.specs.Cascade.{only_handle}
 use Rattle.pagable_world.specs.Calls.{moved, ScheduleCall, TakeCall}
 use Rattle.pagable_world.specs.Pager.{IsWhole}
 use Rattle.pagable_tables.specs.Core.{ArePlaced, MayHold}
-use Rattle.pagable_tables.proofs.keeps.Rows.{among-to, at-most-sum, counted, found-among, once, only-row, ordered-map, sum-map}
+use Rattle.pagable_tables.proofs.keeps.Rows.{among-to, counted, found-among, once, only-row, ordered-map, sum-map}
 use Rattle.pagable_tables.proofs.keeps.Told.{roomy, roomy-whole, settles, alike-whole}
 use Rattle.pagable_tables.proofs.keeps.GoingOn.{stays-on}
 use Rattle.pagable_tables.proofs.keeps.Comes.{not-list}
@@ -42,7 +42,8 @@ module _ {w : Core} (whole : IsWhole w) (h : HandleNumber) (row : HandleRow) (ow
 
   pub lists-now : times (lists h.0) (moved (only_handle h) owner w.rows) ≡ one (is_owner owners.List owner)
   lists-now =
-      only-row (λ x. one (lists h.0 x)) (moved (only_handle h) owner w.rows) (record row { owner = owner }) (ordered-map to-owner w.rows (moved-number whole (only_handle h) owner) whole.handles.ordered)
+      only-row (λ x. one (lists h.0 x)) (moved (only_handle h) owner w.rows) (record row { owner = owner })
+      (ordered-map to-owner w.rows (moved-number whole (only_handle h) owner) whole.handles.ordered)
       (subst (Among (moved (only_handle h) owner w.rows)) (ap (λ b. if b then record row { owner = owner } else row) here) (among-to to-owner w.rows row among)) other-lists
       ∙ ap (λ b. one (b && is_owner owners.List owner)) here
 
@@ -51,7 +52,7 @@ module _ {w : Core} (whole : IsWhole w) (h : HandleNumber) (row : HandleRow) (ow
   lists-others q other =
       sum-map (λ x. one (lists q x)) (λ x. one (lists q x)) to-owner w.rows
       (λ x there. each-moved whole (only_handle h) owner (λ y. one (lists q y) ≡ one (lists q x)) x
-        (λ e. let a : (x.number.0 == q) ≡ false = grind (arith, nat_tests) in ap (λ b. one (b && is_owner owners.List owner)) a ∙ sym (ap (λ b. one (b && is_owned_by owners.List x)) a)) (λ e. refl))
+      (λ e. let a : (x.number.0 == q) ≡ false = grind (arith, nat_tests) in ap (λ b. one (b && is_owner owners.List owner)) a ∙ sym (ap (λ b. one (b && is_owned_by owners.List x)) a)) (λ e. refl))
 
 is-unpinned : (mode : Mode) → is_unpinned mode ≡ true → mode ≡ modes.LooseUnpinned
 is-unpinned modes.LooseUnpinned is = refl
@@ -64,11 +65,13 @@ same-number a b is = grind (arith, nat_tests)
 
 pub schedule-whole : {w w' : Core} (me : Owner) (h : HandleNumber) (r : Result (Unit {0}) Error) → IsWhole w → MayHold w me → ScheduleCall w me h r w' → ArePlaced w' → IsWhole w'
 schedule-whole {w} {w'} me h (Ok u) whole holder call placed = let (row, owns, does) = call.moves in elim does [
-    | inl (stands_open, alike) ↦ settles (listed row (found-among h.0 w.rows row owns.live).0 (found-among h.0 w.rows row owns.live).1 (ap (is_owner owners.List) owns.own ∙ not-list w me holder) (is-unpinned row.mode owns.as_asked) stands_open) alike placed
-    | inr (closed, falls) ↦ falls-whole (may-fall (only_handle h) whole (roomy-whole whole) (stays-on w)) falls.falls placed
-  ]
+  | inl (stands_open, alike) ↦ settles (listed row (found-among h.0 w.rows row owns.live).0 (found-among h.0 w.rows row owns.live).1 (ap (is_owner owners.List) owns.own ∙ not-list w me holder)
+      (is-unpinned row.mode owns.as_asked) stands_open) alike placed
+  | inr (closed, falls) ↦ falls-whole (may-fall (only_handle h) whole (roomy-whole whole) (stays-on w)) falls.falls placed
+]
   where
-    listed : (row : HandleRow) → Among w.rows row → row.number.0 ≡ h.0 → is_owned_by owners.List row ≡ false → row.mode ≡ modes.LooseUnpinned → w.closed ≡ false → IsWhole (roomy (record w { rows = moved (only_handle h) owners.List w.rows; list = w.list ++ h ∷ [] }))
+    listed : (row : HandleRow) → Among w.rows row → row.number.0 ≡ h.0 → is_owned_by owners.List row ≡ false → row.mode ≡ modes.LooseUnpinned → w.closed ≡ false
+        → IsWhole (roomy (record w { rows = moved (only_handle h) owners.List w.rows; list = w.list ++ h ∷ [] }))
     listed row among number mine mode stands_open =
         moved-so whole (only_handle h) owners.List (w.list ++ h ∷ []) (λ q. at q (h.0 == q) refl)
         (λ x there e own. ap (λ (y : HandleRow). y.mode) (once w.rows whole.handles.ordered x row there among (same-number x.number.0 h.0 e ∙ sym number)) ∙ mode)
@@ -144,6 +147,7 @@ take-whole {w} {w'} me i (Some h) whole holder call placed = settles taken call.
 
     taken : IsWhole (roomy (record w { rows = moved (only_handle h) me w.rows; list = remove w.list i }))
     taken =
-        moved-so whole (only_handle h) me (remove w.list i) (λ q. still q (h.0 == q) refl) (λ x there e own. absurd (subst (MayHold w) own holder)) (λ l own. subst (MayHold w) own holder) (λ v own. subst (MayHold w) own holder)
+        moved-so whole (only_handle h) me (remove w.list i) (λ q. still q (h.0 == q) refl) (λ x there e own. absurd (subst (MayHold w) own holder)) (λ l own. subst (MayHold w) own holder)
+        (λ v own. subst (MayHold w) own holder)
         (λ closed. let f : None ≡ Some h = ap (λ l. slice_get l i) (sym (whole.shut closed).0) ∙ call.0 in absurd (cc))
 take-whole me i None whole holder call placed = alike-whole whole call.1 placed
