@@ -1,5 +1,5 @@
 -- Where handles begin to be given up: nothing has gone so far.
-use Rattle.std.proofs.Common.{◌≡◌, ℕ, ◌+◌, ◌≤◌, ◌&&◌, Bool, false, not, List, [], ◌∷◌, length, refl, ap, sym, ◌∙◌, subst, arith, inl, inr, Option, None}
+use Rattle.std.proofs.Common.{◌≡◌, ℕ, ◌+◌, ◌≤◌, ◌&&◌, Bool, false, not, List, [], ◌∷◌, length, refl, ap, sym, ◌∙◌, subst, arith, inl, inr, Option, None, true}
 use Rattle.std.proofs.lemmas.Bool.Decides.{nat_tests}
 use Rattle.std.proofs.lemmas.List.{append-nil}
 use Rattle.std.proofs.lemmas.List.Sums.{sum_by-cons}
@@ -96,3 +96,8 @@ abbrev pub begun-whole : (t : Tables) (stored : ℕ → Option Blob) (closed lis
 begun-whole t stored closed lists failures w e =
     begun (core_of t stored closed failures) (core_of t stored closed failures) lists (record t.holdings { unlisted = None }) (begins t stored closed lists failures w e) refl refl refl w.core.handles.within.0 (record { handles = omega arith; entries = omega arith }) (λ n. refl) refl
     (λ n must. let a = must.pinned in let b = must.unpinned in absurd (omega arith))
+
+-- the storage can be open or closed as it is listed or not
+pub not-closed : (lists : Bool) → lists ≡ not (not lists)
+not-closed true = refl
+not-closed false = refl

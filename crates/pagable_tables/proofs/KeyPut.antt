@@ -80,7 +80,7 @@ module _ (at at' : ℕ → Option Counts) (refs refs' : ℕ → List ArcRef) (ro
   key-cells m = elim (cases_eq m n) [
     | inl eq ↦
         let g : cell_in (at' n) ≡ updated n (if_there (λ (cell : Cell). Some (record cell { key = optional.Some key })) None (cell_in (at n))) (λ k. cell_in (at k)) n =
-            ap cell_in here ∙ ap (λ k. Some (record { node_type = c.node_type; key = k })) (key-some key some) ∙ sym (updated-here n (if_there (λ (cell : Cell). Some (record cell { key = optional.Some key })) None (cell_in (at n))) (λ k. cell_in (at k)) ∙ ap (λ o. if_there (λ (cell : Cell). Some (record cell { key = optional.Some key })) None (cell_in o)) is) in
+        ap cell_in here ∙ ap (λ k. Some (record { node_type = c.node_type; key = k })) (key-some key some) ∙ sym (updated-here n (if_there (λ (cell : Cell). Some (record cell { key = optional.Some key })) None (cell_in (at n))) (λ k. cell_in (at k)) ∙ ap (λ o. if_there (λ (cell : Cell). Some (record cell { key = optional.Some key })) None (cell_in o)) is) in
         subst (λ k. cell_in (at' k) ≡ updated n (if_there (λ (cell : Cell). Some (record cell { key = optional.Some key })) None (cell_in (at n))) (λ k. cell_in (at k)) k) (sym eq) g
     | inr other ↦ ap cell_in (others m other) ∙ sym (updated-other n (if_there (λ (cell : Cell). Some (record cell { key = optional.Some key })) None (cell_in (at n))) (λ k. cell_in (at k)) m other)
   ]

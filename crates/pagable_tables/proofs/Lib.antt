@@ -18,6 +18,7 @@ mod Listed
 mod Opened
 mod Recalled
 mod Listings
+mod Wanted
 mod Telling
 mod Going
 mod Next
@@ -33,3 +34,4 @@ mod Unpinning
 mod KeyPut
 mod Seen
 mod Handed
+mod KeySet

@@ -1,6 +1,6 @@
 -- A handle lets its pin go: handles and nodes fit again, as if an unpinned handle came and then the pinned one left.
-use Rattle.std.proofs.Common.{◌≡◌, ℕ, ◌+◌, ◌-◌, ◌≤◌, ◌==◌, Bool, true, false, if◌then◌else◌, List, [], ◌∷◌, ◌++◌, sum_by, refl, ap, sym, ◌∙◌, subst, arith, Option, Some}
-use Rattle.std.specs.Prelude.{◌≢◌, nat_lt}
+use Rattle.std.proofs.Common.{None, ◌≡◌, ℕ, ◌+◌, ◌-◌, ◌≤◌, ◌==◌, Bool, true, false, if◌then◌else◌, List, [], ◌∷◌, ◌++◌, sum_by, refl, ap, sym, ◌∙◌, subst, arith, Option, Some}
+use Rattle.std.specs.Prelude.{is_some, ◌≢◌, nat_lt}
 use Rattle.std.proofs.lemmas.Bool.Decides.{nat_tests}
 use Rattle.std.proofs.lemmas.List.Sums.{sum_by_push}
 use Rattle.pagable_model.specs.declared.numbers.ArcRef.{ArcRef}
@@ -9,10 +9,10 @@ use Rattle.pagable_world.specs.declared.rows.Mode.TheVariants as modes
 use Rattle.pagable_world.specs.Plain.{one, updated}
 use Rattle.pagable_world.specs.Kinds.{is_pinning}
 use Rattle.pagable_tables.specs.declared.rows.Counts.{Counts}
-use Rattle.pagable_tables.specs.Falling.{Fits, entry, after, is_fallen_by, owns_nothing, is_valued, CellsStay}
+use Rattle.pagable_tables.specs.Falling.{cell_in, Fits, entry, after, is_fallen_by, owns_nothing, is_valued, CellsStay}
 use Rattle.pagable_tables.specs.Lowering.{unpinned}
 use Rattle.pagable_tables.proofs.Begun.{fits-unowned}
-use Rattle.pagable_tables.proofs.Coming.{come-fits, come-cells, come-there}
+use Rattle.pagable_tables.proofs.Coming.{come-fits, come-cells}
 use Rattle.pagable_tables.proofs.Fitting.{given-fits, given-cells}
 
 pub updated-here : {X : Type 0} (n : ℕ) (x : X) (f : ℕ → X) → updated n x f n ≡ x
@@ -20,6 +20,10 @@ updated-here n x f = let e : (n == n) ≡ true = grind (arith, nat_tests) in ap 
 
 pub updated-other : {X : Type 0} (n : ℕ) (x : X) (f : ℕ → X) (q : ℕ) → q ≢ n → updated n x f q ≡ f q
 updated-other n x f q other = let e : (q == n) ≡ false = grind (arith, nat_tests) in ap (λ b. if b then x else f q) e
+
+cell-there : (o : Option Counts) → is_some (cell_in o) ≡ is_some o
+cell-there None = refl
+cell-there (Some c) = refl
 
 -- one that is pinned no more falls only if it has a key
 pub keyed-then : (c : Counts) (listed : Bool) → 1 ≤ c.holds → is_fallen_by (record c { holds = c.holds + 1 }) true (c.pins - 1) (if listed then c.holds + 1 else c.holds + 1 - 1) ≡ true → nat_lt 0 c.key ≡ true
@@ -58,4 +62,5 @@ module _ (at at' : ℕ → Option Counts) (refs refs' : ℕ → List ArcRef) (ro
   pub lower-cells : CellsStay at at'
   lower-cells n there =
       let s = given-cells mid at' refs refs' (rows ++ unpinned x ∷ []) rows' top [] x (record c { holds = c.holds + 1 }) listed k (fits-unowned mid refs (rows ++ unpinned x ∷ []) top [] x plain mid-fits) mid-is mid-sums mid-here mid-others same (subst (λ m. one (is_pinning m) ≤ c.pins) (sym pinned) some) (omega arith) n there in
-      (sym (come-there at mid refs refs rows top (unpinned x) c fits is (updated-here x.node.0 (Some beside) at) (updated-other x.node.0 (Some beside) at) (λ n. refl) plain n) ∙ s.0, s.1 ∙ come-cells at mid refs refs rows top (unpinned x) c fits is (updated-here x.node.0 (Some beside) at) (updated-other x.node.0 (Some beside) at) (λ n. refl) plain n)
+      let cells : cell_in (mid n) ≡ cell_in (at n) = come-cells at mid refs refs rows top (unpinned x) c fits is (updated-here x.node.0 (Some beside) at) (updated-other x.node.0 (Some beside) at) (λ n. refl) plain n in
+      (sym (cell-there (at n)) ∙ sym (ap is_some cells) ∙ cell-there (mid n) ∙ s.0, s.1 ∙ cells)

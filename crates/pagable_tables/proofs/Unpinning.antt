@@ -27,7 +27,7 @@ use Rattle.pagable_tables.proofs.Begun.{begun-whole, none-within}
 use Rattle.pagable_tables.proofs.Going.{entry-number, new-more, long-one, within-more, ones}
 use Rattle.pagable_tables.proofs.Left.{left-all, all-kept}
 use Rattle.pagable_tables.proofs.Leaving.{with-entry}
-use Rattle.pagable_tables.proofs.Listing.{listing-is, entry-pins}
+use Rattle.pagable_tables.proofs.Wanted.{listing-is, entry-pins}
 use Rattle.pagable_tables.proofs.Telling.{only-more, tells-more, refusal-now}
 
 -- what must be listed and what is told of it, where only a mode differs

@@ -41,7 +41,7 @@ pub fn release(t: &mut Tables, me: Owner, handle: HandleNumber, lists: bool) -> 
     requires plain { is_valued me ≡ false }
     requires free { is_owner owners.List me ≡ false }
     ensures released { (stored : ℕ → Option Blob) (closed : Bool) (failures : ℕ) → lists ≡ not closed → ReleaseCall (core_of t.old stored closed failures) me handle result (core_of t.new stored closed failures) }
-    ensures steady { IsFalling t.new.holdings [] owns_nothing }
+    ensures whole { IsWhole t.new }
 {
     let at = match own(t, me, handle) {
         Ok(at) => at,

@@ -70,7 +70,7 @@ pub fn unpin(t: &mut Tables, me: Owner, handle: HandleNumber, lists: bool) -> Re
     requires whole { IsWhole t.old }
     requires plain { is_valued me ≡ false }
     ensures unpinned { (stored : ℕ → Option Blob) (closed : Bool) (failures : ℕ) → lists ≡ not closed → UnpinCall (core_of t.old stored closed failures) me handle result (core_of t.new stored closed failures) }
-    ensures steady { IsFalling t.new.holdings [] owns_nothing }
+    ensures whole { IsWhole t.new }
 {
     let at = match own(t, me, handle) {
         Ok(at) => at,

@@ -1,8 +1,10 @@
-use Rattle.std.proofs.Common.{refl, subst, arith, inl, inr}
+use Rattle.std.proofs.Common.{not, None, refl, subst, arith, inl, inr}
 use Rattle.pagable_world.specs.Kinds.{any_mode}
 use Rattle.pagable_world.specs.Cascade.{Falls, only_handle}
 use Rattle.pagable_tables.specs.Core.{core_of}
-use Rattle.pagable_tables.proofs.Begun.{begun-whole}
+use Rattle.pagable_tables.proofs.Begun.{begun-whole, not-closed}
+use Rattle.pagable_tables.proofs.keeps.FallCalls.{release-whole}
+use Rattle.pagable_tables.proofs.keeps.Placed.{whole-so}
 use Rattle.pagable_tables.proofs.Worlds.{still, owner-same}
 use Rattle.pagable_tables.proofs.releases.release.Goals as goal
 
@@ -20,3 +22,7 @@ returns-clause-released c stored closed failures e =
         subst (λ q. Falls w w (only_handle q) c.give_back.result (core_of (record c.args.t.now { holdings = c.give_back.new.t }) stored closed failures)) c.in-Ok.ensures.number (c.give_back.ensures.falls w w (begun-whole c.args.t.now stored closed c.args.lists failures c.requires.whole e) (omega arith)),
       );
     }
+
+pub returns-clause-whole : goal.returns-clause-whole
+returns-clause-whole c =
+    whole-so c.give_back.ensures.steady (release-whole c.args.me c.args.handle c.give_back.result c.requires.whole.core (returns-clause-released c (λ key. None) (not c.args.lists) 0 (not-closed c.args.lists)))
