@@ -25,11 +25,12 @@ mod Next
 mod Begun
 mod Fewer
 mod Regiven
+mod Pins
+mod Offers
 mod keeps
 mod Lowered
 mod Dropped
 mod Asked
-mod Pins
 mod Unpinning
 mod KeyPut
 mod Seen
