@@ -21,11 +21,7 @@ use Rattle.pagable_tables.specs.Falling.{pins_in, entry, entries_of, is_listing,
 use Rattle.pagable_tables.specs.Onward.{with_tables, told_by, SoFar}
 use Rattle.pagable_tables.proofs.Left.{and_one, kept-more, times-left, entries-more}
 use Rattle.pagable_tables.proofs.Leaving.{leaves-sums}
-<<<<<<< HEAD
-use Rattle.pagable_tables.proofs.Listings.{entry-pins}
-=======
 use Rattle.pagable_tables.proofs.Wanted.{entry-pins}
->>>>>>> 01f3a3b72101692e23ed936c3052a631b84a8b49
 use Rattle.pagable_tables.proofs.NoEntry.{of_list, none-listed, none-entered}
 use Rattle.pagable_tables.proofs.RowsMore.{rows-more}
 use Rattle.pagable_tables.proofs.Telling.{only-more, tells-more, refusal-now}

@@ -17,7 +17,6 @@ mod Owned
 mod Listed
 mod Opened
 mod Recalled
-mod Listings
 mod Wanted
 mod Telling
 mod Going

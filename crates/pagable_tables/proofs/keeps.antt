@@ -13,10 +13,7 @@ pub mod FallCalls
 pub mod ListCalls
 pub mod BirthCalls
 pub mod CacheCalls
-<<<<<<< HEAD
 pub mod LoadCalls
 pub mod AdoptCalls
 pub mod EndCalls
-=======
 pub mod Opened
->>>>>>> 01f3a3b72101692e23ed936c3052a631b84a8b49

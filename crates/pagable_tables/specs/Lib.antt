@@ -9,5 +9,4 @@ pub mod Later
 pub mod Asking
 pub mod Keyed
 pub mod Named
-pub mod Owning
 pub mod Offering

@@ -36,12 +36,7 @@ unpin-whole me h r whole call placed = elim call.does [
   | inr (row, owns, inl stays) ↦ alike-whole whole (alike-opened stays.2) placed
   | inr (row, owns, inr (pinned, falls)) ↦
       let unshared : is_shared modes.LooseUnpinned ≡ is_shared row.mode = ap is_shared (sym pinned) in
-<<<<<<< HEAD
-      falls-whole (may-fall nobody whole (moded-whole whole h row modes.LooseUnpinned owns.live unshared (λ loose. refl) (λ is. refl))
-      (moded-on whole h row modes.LooseUnpinned owns.live unshared (λ loose. refl) (λ is. refl))) falls placed
-=======
       falls-opened (may-fall nobody whole (moded-whole whole h row modes.LooseUnpinned owns.live unshared (λ loose. refl) (λ is. refl)) (moded-on whole h row modes.LooseUnpinned owns.live unshared (λ loose. refl) (λ is. refl))) falls placed
->>>>>>> 01f3a3b72101692e23ed936c3052a631b84a8b49
 ]
 
 -- ---- a key
