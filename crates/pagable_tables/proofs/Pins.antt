@@ -8,12 +8,13 @@ use Rattle.pagable_model.specs.declared.numbers.HandleNumber.{HandleNumber}
 use Rattle.pagable_model.specs.declared.numbers.NodeNumber.{NodeNumber}
 use Rattle.pagable_world.specs.declared.handles.HandleRow.{HandleRow}
 use Rattle.pagable_world.specs.declared.handles.Owner.{Owner}
+use Rattle.pagable_world.specs.declared.handles.Owner.TheVariants as owners
 use Rattle.pagable_world.specs.declared.rows.Mode.{Mode}
 use Rattle.pagable_world.specs.declared.rows.Mode.TheVariants as modes
 use Rattle.pagable_world.specs.Plain.{changed, if_there}
 use Rattle.pagable_world.specs.Kinds.{find_row, is_handle, is_owner}
 use Rattle.pagable_world.specs.World.{Core, Alike, greatest, row_at}
-use Rattle.pagable_world.specs.Refusals.{earlier, rank, refused_if, spent, where_so, handle_fault}
+use Rattle.pagable_world.specs.Refusals.{earlier, rank, refused_if, spent, where_so, handle_fault, Owns}
 use Rattle.pagable_world.specs.Calls.{with_handle, with_mode, row_of}
 use Rattle.pagable_tables.proofs.Coming.{turned}
 use Rattle.pagable_tables.proofs.Worlds.{same-cache}
@@ -56,26 +57,38 @@ fault-rank (Some row) me fits e is = by (is_owner me row.owner) (fits row.mode) 
     by true false is = let same : errors.WrongMode ≡ e = cc in subst (λ x. rank x ≤ 2) same (omega arith)
     by true true is = absurd (cc)
 
-earlier-first : (e : Error) (later : Option Error) → rank e ≤ 2 → ((f : Error) → later ≡ Some f → 2 < rank f) → earlier (Some e) later ≡ Some e
-earlier-first e None low late = refl
-earlier-first e (Some f) low late = let a = late f refl in let b : nat_lt (rank f) (rank e) ≡ false = grind (arith, nat_tests) in rw b refl
+-- a cause stands where no earlier one may come
+pub earlier-first : (e : Error) (later : Option Error) → ((f : Error) → later ≡ Some f → rank e ≤ rank f) → earlier (Some e) later ≡ Some e
+earlier-first e None late = refl
+earlier-first e (Some f) late = let a = late f refl in let b : nat_lt (rank f) (rank e) ≡ false = grind (arith, nat_tests) in rw b refl
 
 -- a cause that tells of the handle comes before a later one
 pub handle-first : (w : Core) (me : Owner) (h : HandleNumber) (fits : Mode → Bool) (e : Error) (later : Option Error) → handle_fault w me h fits ≡ Some e
     → ((f : Error) → later ≡ Some f → 2 < rank f) → earlier (handle_fault w me h fits) later ≡ Some e
-handle-first w me h fits e later is late = ap (λ x. earlier x later) is ∙ earlier-first e later (fault-rank (row_at w h) me fits e is) late
+handle-first w me h fits e later is late =
+    ap (λ x. earlier x later) is ∙ earlier-first e later (λ f so. let a = fault-rank (row_at w h) me fits e is in let b = late f so in omega arith)
+
+owner-self : (o : Owner) → is_owner o o ≡ true
+owner-self owners.Caller = refl
+owner-self (owners.Value n) = grind (arith, nat_tests)
+owner-self owners.List = refl
+owner-self (owners.Load l) = grind (arith, nat_tests)
+owner-self (owners.Worker v) = grind (arith, nat_tests)
 
 -- the handle can be used as is asked
-pub no-fault : (w : Core) (me : Owner) (h : HandleNumber) (fits : Mode → Bool) (row : HandleRow) → row_at w h ≡ Some row → is_owner me row.owner ≡ true → fits row.mode ≡ true → handle_fault w me h fits ≡ None
-no-fault w me h fits row at own asked = ap (fault-of me fits) at ∙ rw (own, asked) refl
+pub no-fault : (w : Core) (me : Owner) (h : HandleNumber) (fits : Mode → Bool) (row : HandleRow) → Owns w me h fits row → handle_fault w me h fits ≡ None
+no-fault w me h fits row o =
+    let own : is_owner me row.owner ≡ true = ap (is_owner me) o.own ∙ owner-self me in
+    let asked = o.as_asked in
+    ap (fault-of me fits) o.live ∙ rw (own, asked) refl
 
-pub spent-late : (l : ℕ) (b : Bool) (f : Error) → where_so b (spent l) ≡ Some f → 2 < rank f
+pub spent-late : (l : ℕ) (b : Bool) (f : Error) → where_so b (spent l) ≡ Some f → 3 < rank f
 spent-late l false f is = absurd (cc)
 spent-late l true f is = by (nat_le greatest l) is
   where
-    by : (b : Bool) → refused_if b errors.NumbersSpent ≡ Some f → 2 < rank f
+    by : (b : Bool) → refused_if b errors.NumbersSpent ≡ Some f → 3 < rank f
     by false is = absurd (cc)
-    by true is = let same : errors.NumbersSpent ≡ f = cc in subst (λ x. 2 < rank x) same (omega arith)
+    by true is = let same : errors.NumbersSpent ≡ f = cc in subst (λ x. 3 < rank x) same (omega arith)
 
 -- who is found stays found when more rows come
 found-more : (q : ℕ) (rows more : List HandleRow) (row : HandleRow) → find_row q rows ≡ Some row → find_row q (rows ++ more) ≡ Some row

@@ -7,8 +7,13 @@ pub mod Turned
 pub mod Comes
 pub mod Rests
 pub mod Fallen
+pub mod Moved
 pub mod HandleCalls
 pub mod FallCalls
-pub mod LoadCalls
+pub mod ListCalls
+pub mod BirthCalls
 pub mod CacheCalls
+pub mod LoadCalls
+pub mod AdoptCalls
+pub mod EndCalls
 pub mod Opened

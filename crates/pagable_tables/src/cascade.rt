@@ -31,6 +31,8 @@ pub fn is_falling(t: &Holdings) -> bool
 pub fn cascade(t: &mut Holdings, lists: bool)
     requires falling { (stack : List ℕ) × IsFalling t.old stack owns_nothing × (length stack ≤ 1) }
     ensures whole { IsFalling t.new [] owns_nothing }
+    ensures fewer { length (live t.new.handles.places.items) ≤ length (live t.old.handles.places.items) }
+    ensures so_far { (before w : Core) (given : ℕ → Bool) → SoFar before w given lists t.old → SoFar before w given lists t.new }
     ensures falls { (before w : Core) (given : ℕ → Bool) → SoFar before w given lists t.old → Falls before w given (told_by t.new.unlisted) (with_tables w t.new) }
 {
     let mut left = budget(&t.handles);

@@ -1,20 +1,25 @@
 //! What the cache gives and learns.
 
-ghost use Rattle.std.specs.Prelude.{◌≡◌, ℕ, Bool, Option};
+ghost use Rattle.std.specs.Prelude.{◌≡◌, ℕ, [], Bool, Option, Some, IfSome, IfOk, IfErr, false};
 ghost use Rattle.std.specs.Option.{option_map};
 ghost use Rattle.pagable_model.specs.declared.numbers.NodeNumber.{NodeNumber};
-ghost use Rattle.pagable_world.specs.Plain.{Blob};
-ghost use Rattle.pagable_world.specs.World.{usable};
-ghost use Rattle.pagable_world.specs.Calls.{RecallCall};
+ghost use Rattle.pagable_world.specs.Plain.{Blob, type_of};
+ghost use Rattle.pagable_world.specs.Kinds.{fits_mode};
+ghost use Rattle.pagable_world.specs.World.{usable, type_at};
+ghost use Rattle.pagable_world.specs.Refusals.{Owns};
+ghost use Rattle.pagable_world.specs.Calls.{RecallCall, offer_fault};
+ghost use Rattle.pagable_tables.specs.Falling.{IsFalling, owns_nothing};
+ghost use Rattle.pagable_tables.specs.Offering.{Offered};
 ghost use Rattle.pagable_tables.specs.Core.{core_of, plain_of, IsWhole, MayHold};
 
-use crate::kinds::{is_pinned_kind, mode_of};
+use crate::kinds::{fits_mode, is_of, is_pinned_kind, mode_of};
 use crate::lookups::is_here;
 use crate::making::make;
 use crate::tables::Tables;
+use crate::turning::own;
 use crate::{cache, nodes};
 use pagable_model::{DataKey, Error, HandleNumber, Kind, NodeNumber};
-use pagable_world::handles::Owner;
+use pagable_world::handles::{HandleRow, Owner};
 
 /// The node that the cache gives for a kind and a key. An entry counts only while its node lives and, as a pin, has its value.
 fn usable_of(t: &Tables, kind: Kind, key: DataKey) -> Option<NodeNumber>
@@ -49,6 +54,57 @@ pub fn cache_get(
     };
     match make(t, node, mode_of(kind), me) {
         Ok(handle) => Ok(Some(handle)),
+        Err(e) => Err(e),
+    }
+}
+
+/// The row of an own handle that may stand under this kind.
+fn offered(t: &Tables, me: Owner, kind: Kind, handle: HandleNumber) -> Result<HandleRow, Error>
+    requires { IsWhole t.now }
+    ensures owns { IfOk result (λ row. Owns (plain_of t.now) me handle (fits_mode kind.0) row) }
+    ensures typed { IfOk result (λ row. type_at (plain_of t.now) row.node.0 ≡ Some (type_of kind.0)) }
+    ensures fault { IfErr result (λ e. (stored : ℕ → Option Blob) (closed : Bool) (failures key : ℕ) → offer_fault (core_of t.now stored closed failures) me kind key handle ≡ Some e) }
+{
+    let at = match own(t, me, handle) {
+        Ok(at) => at,
+        Err(e) => return Err(e),
+    };
+    if !fits_mode(kind, at.row.mode) {
+        return Err(Error::WrongMode);
+    }
+    if !is_of(nodes::counts_of(&t.holdings.nodes, at.row.node.0), kind) {
+        return Err(Error::WrongKind);
+    }
+    Ok(at.row)
+}
+
+/// The cache learns a handle's node, while the storage is open. Where it gives a node already, a handle of that is answered, and the one that was offered is
+/// still to be given up. It is refused where it isn't an own handle that may stand under the kind, no number is left, or no place or memory.
+pub fn cache_put(
+    t: &mut Tables,
+    me: Owner,
+    kind: Kind,
+    key: DataKey,
+    handle: HandleNumber,
+) -> Result<Option<HandleNumber>, Error>
+    requires whole { IsWhole t.old }
+    requires holder { MayHold (plain_of t.old) me }
+    ensures offered { (stored : ℕ → Option Blob) (failures : ℕ) → Offered (core_of t.old stored false failures) me kind key handle result (core_of t.new stored false failures) }
+    ensures known { IfOk result (λ found. IfSome found (λ k. t.new ≡ record t.old { holdings = t.new.holdings })) }
+    ensures steady { IsFalling t.new.holdings [] owns_nothing }
+{
+    let row = match offered(t, me, kind, handle) {
+        Ok(row) => row,
+        Err(e) => return Err(e),
+    };
+    let Some(node) = usable_of(t, kind, key) else {
+        let Ok(()) = cache::learn(&mut t.cache, kind, key, row.node) else {
+            return Err(Error::OutOfMemory);
+        };
+        return Ok(None);
+    };
+    match make(t, node, mode_of(kind), me) {
+        Ok(known) => Ok(Some(known)),
         Err(e) => Err(e),
     }
 }

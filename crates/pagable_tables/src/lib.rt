@@ -2,15 +2,20 @@
 //! handles are given up with all that goes with them. No call of it knows of values or of the storage.
 #![tactic(auto)]
 
+pub mod arriving;
 pub mod begins;
 pub mod cache;
 pub mod cascade;
+pub mod causes;
+pub mod ending;
+pub mod handing;
 pub mod handles;
 pub mod holdings;
 pub mod keys;
 pub mod kinds;
 pub mod known;
 pub mod listing;
+pub mod loading;
 pub mod loads;
 pub mod lookups;
 pub mod making;

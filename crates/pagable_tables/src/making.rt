@@ -22,7 +22,7 @@ pub fn places_taken(places: &[Place]) -> usize
 }
 
 /// The counts after one handle more.
-fn counts_more(counts: Counts, pinning: bool) -> Counts
+pub fn counts_more(counts: Counts, pinning: bool) -> Counts
     requires pins { counts.pins < 2 ^ 63 }
     requires holds { counts.holds < 2 ^ 63 }
     ensures { result ≡ record counts { pins = counts.pins + one pinning; holds = counts.holds + 1 } }

@@ -22,7 +22,7 @@ use pagable_world::Mode;
 use pagable_world::handles::{HandleRow, Owner};
 
 /// Whether it is the same owner.
-fn is_owner(a: Owner, b: Owner) -> bool
+pub fn is_owner(a: Owner, b: Owner) -> bool
     ensures { result ≡ is_owner a b }
 {
     match (a, b) {

@@ -1,15 +1,154 @@
 -- Calls on the cache and on room keep the world whole.
-use Rattle.std.proofs.Common.{◌≡◌, ℕ, Ok, Err, None, refl}
-use Rattle.std.specs.Prelude.{Result}
+use Rattle.std.proofs.Common.{◌≡◌, ℕ, ◌<◌, ◌==◌, ◌&&◌, ◌%◌, Bool, true, false, not, if◌then◌else◌, Ok, Err, Option, Some, None, inl, inr, refl, ap, sym, subst, ◌∙◌, arith}
+use Rattle.std.specs.Prelude.{Result, is_some, nat_lt}
+use Rattle.std.proofs.lemmas.Bool.Decides.{nat_tests}
 use Rattle.pagable_model.specs.declared.error.Error.{Error}
-use Rattle.pagable_world.specs.World.{Core}
-use Rattle.pagable_world.specs.Calls.{ClearCall, ReserveCall}
-use Rattle.pagable_world.specs.Pager.{IsWhole}
-use Rattle.pagable_tables.specs.Core.{ArePlaced}
-use Rattle.pagable_tables.proofs.keeps.Told.{told-whole, alike-whole}
+use Rattle.pagable_model.specs.declared.numbers.HandleNumber.{HandleNumber}
+use Rattle.pagable_model.specs.declared.numbers.Kind.{Kind}
+use Rattle.pagable_model.specs.declared.numbers.NodeNumber.{NodeNumber}
+use Rattle.pagable_world.specs.declared.handles.HandleRow.{HandleRow}
+use Rattle.pagable_world.specs.declared.handles.Owner.{Owner}
+use Rattle.pagable_world.specs.declared.rows.Mode.{Mode}
+use Rattle.pagable_world.specs.declared.rows.Mode.TheVariants as modes
+use Rattle.pagable_world.specs.Plain.{one, Among, if_there, type_of, is_shared_kind, is_loose_kind, is_pinned_kind}
+use Rattle.pagable_world.specs.Kinds.{held, sharing, pins, is_at, is_share, is_shared, is_in_memory, fits_mode, mode_of}
+use Rattle.pagable_world.specs.World.{Core, Cell, greatest, usable}
+use Rattle.pagable_world.specs.Cascade.{only_handle}
+use Rattle.pagable_world.specs.Calls.{ClearCall, ReserveCall, RecallCall, OfferCall, with_cached, with_known}
+use Rattle.pagable_world.specs.Pager.{IsWhole, IsEntryWhole}
+use Rattle.pagable_tables.specs.Core.{ArePlaced, MayHold, Suits}
+use Rattle.pagable_tables.proofs.keeps.Rows.{at-most-sum, counted, found-among}
+use Rattle.pagable_tables.proofs.keeps.Told.{roomy, roomy-whole, settles, told-whole, alike-whole, may-own}
+use Rattle.pagable_tables.proofs.keeps.Comes.{type_in, beside, handle-on, unshared-node}
+use Rattle.pagable_tables.proofs.keeps.Fallen.{may-fall, falls-whole}
 
 pub clear-whole : {w w' : Core} (r : Result (Unit {0}) Error) → IsWhole w → ClearCall w r w' → ArePlaced w' → IsWhole w'
-clear-whole {w} {w'} r whole call placed = let a = call.leaves in told-whole whole a.rows a.cells a.list (λ kind key n is. let f = a.cache.only kind key n is in absurd (cc)) a.closed a.loads a.workers a.last placed
+clear-whole {w} {w'} r whole call placed = let a = call.leaves in
+    told-whole whole a.rows a.cells a.list (λ kind key n is. let f = a.cache.only kind key n is in absurd (cc)) a.closed a.loads a.workers a.last placed
 
 pub reserve-whole : {w w' : Core} (n : ℕ) (r : Result (Unit {0}) Error) → IsWhole w → ReserveCall w n r w' → ArePlaced w' → IsWhole w'
 reserve-whole n r whole call placed = alike-whole whole call.stays placed
+
+-- ---- what the cache gives
+
+pub mode-shared : (kind : ℕ) → is_shared (mode_of kind) ≡ is_shared_kind kind
+mode-shared kind = at (is_shared_kind kind) (is_loose_kind kind)
+  where
+    at : (a b : Bool) → is_shared (if a then modes.Shared else if b then modes.LooseUnpinned else modes.Pinned) ≡ a
+    at true b = refl
+    at false true = refl
+    at false false = refl
+
+pub fits-shared : (kind : ℕ) (mode : Mode) → fits_mode kind mode ≡ true → is_shared mode ≡ is_shared_kind kind
+fits-shared kind modes.Shared fits = sym fits
+fits-shared kind modes.Pinned fits = let a : (kind % 3 == 2) ≡ true = fits in grind (arith, nat_tests)
+fits-shared kind modes.LoosePinned fits = let a : (kind % 3 == 1) ≡ true = fits in grind (arith, nat_tests)
+fits-shared kind modes.LooseUnpinned fits = let a : (kind % 3 == 1) ≡ true = fits in grind (arith, nat_tests)
+
+-- an entry that is given names a live node
+usable-is : (w : Core) (kind key n : ℕ) → usable w kind key ≡ Some n → (w.cache kind key ≡ Some n) × (is_some (w.cells n) ≡ true)
+usable-is w kind key n is = at (w.cache kind key) refl is
+  where
+    of-cell : (m : ℕ) (cell : Option Cell) → w.cells m ≡ cell → if_there
+        (λ (cell : Cell). if is_pinned_kind kind && not (is_in_memory (pins m w.rows) cell.key) then None else Some m) None cell ≡ Some n → (m ≡ n) × (is_some (w.cells m) ≡ true)
+    of-cell m None e is = absurd (cc)
+    of-cell m (Some cell) e is = (so (is_pinned_kind kind && not (is_in_memory (pins m w.rows) cell.key)) is, ap is_some e)
+      where
+        so : (b : Bool) → (if b then None else Some m) ≡ Some n → m ≡ n
+        so true is = absurd (cc)
+        so false is = cc
+
+    at : (found : Option ℕ) → w.cache kind key ≡ found → if_there
+        (λ m. if_there (λ (cell : Cell). if is_pinned_kind kind && not (is_in_memory (pins m w.rows) cell.key) then None else Some m) None (w.cells m)) None found ≡ Some n
+        → (w.cache kind key ≡ Some n) × (is_some (w.cells n) ≡ true)
+    at None e is = absurd (cc)
+    at (Some m) e is = let a = of-cell m (w.cells m) refl is in (e ∙ ap (λ k. Some k) a.0, ap (λ k. is_some (w.cells k)) (sym a.0) ∙ a.1)
+
+-- so the mode of its kind suits the node
+pub known-suits : {w : Core} → IsWhole w → (kind key n : ℕ) → usable w kind key ≡ Some n → Suits w (record { 0 = n }) (mode_of kind)
+known-suits {w} whole kind key n is =
+    let a = usable-is w kind key n is in
+    let b : nat_lt 0 (held n w.rows) ≡ true = sym (whole.handles.live n) ∙ a.1 in
+    let found = counted (λ h. one (is_at n h)) w.rows (grind (arith, nat_tests)) in
+    let at : found.0.node.0 ≡ n = one-at (found.0.node.0) found.2 in
+    record { row = found.0; there = found.1; at = ap (λ k. record { 0 = k }) at; shared = (whole.cache kind key n a.0).shares found.0 found.1 at ∙ sym (mode-shared kind) }
+  where
+    one-at : (m : ℕ) → 0 < one (m == n) → m ≡ n
+    one-at m some = at (m == n) refl some
+      where
+        at : (b : Bool) → (m == n) ≡ b → 0 < one b → m ≡ n
+        at true e some = grind (arith, nat_tests)
+        at false e some = absurd (omega arith)
+
+pub known-whole : {w : Core} (kind : Kind) (key n : ℕ) (owner : Owner) → IsWhole w → usable w kind.0 key ≡ Some n → MayHold w owner → w.last.handle < greatest
+    → IsWhole (roomy (with_known w kind n owner))
+known-whole kind key n owner whole is holder left = beside whole (record { 0 = n }) (mode_of kind.0) (known-suits whole kind.0 key n is) owner holder left
+
+pub recall-whole : {w w' : Core} (me : Owner) (kind : Kind) (key : ℕ) (r : Result (Option HandleNumber) Error) → IsWhole w → MayHold w me → RecallCall w me kind key r w' → ArePlaced w' → IsWhole w'
+recall-whole me kind key (Ok (Some k)) whole holder call placed = let (n, is, next, leaves) = call.answers in settles (known-whole kind key n me whole is holder next.is_left) leaves placed
+recall-whole me kind key (Ok None) whole holder call placed = alike-whole whole call.answers.1 placed
+recall-whole me kind key (Err e) whole holder call placed = alike-whole whole call.refused.stays placed
+
+-- ---- what the cache learns
+
+pub cached-whole : {w : Core} (kind : Kind) (key : ℕ) (n : NodeNumber) → IsWhole w → w.closed ≡ false → IsEntryWhole w kind.0 n.0 → IsWhole (with_cached w kind key n)
+cached-whole {w} kind key n whole stands_open entry =
+    let h = whole.handles in
+    let o = whole.owners_there in
+    record {
+      handles = record { ordered = h.ordered; numbered = h.numbered; nodes_numbered = h.nodes_numbered; within = h.within; live = h.live; uniform = h.uniform; unkeyed = h.unkeyed; places = h.places };
+      owners_there = record { listed = o.listed; waiting = o.waiting; loads = o.loads; workers = o.workers };
+      loads = record {
+        numbered = whole.loads.numbered;
+        owned = λ l load is. may-own w (with_cached w kind key n) (λ v at. at) load.owner (whole.loads.owned l load is);
+        roots = λ l load m t k is root. let r = whole.loads.roots l load m t k is root in record { typed = r.typed; begun = r.begun; given = r.given };
+      };
+      cache = λ k q m is. let e = at k q m (k == kind.0) (q == key) refl is in record { given = e.given; typed = e.typed; shares = e.shares };
+      workers_numbered = whole.workers_numbered;
+      shut = λ closed. let f : true ≡ false = sym closed ∙ stands_open in absurd (cc);
+    }
+  where
+    at : (k q m : ℕ) (a b : Bool) → (k == kind.0) ≡ a → (if a && b then Some n.0 else w.cache k q) ≡ Some m → IsEntryWhole w k m
+    at k q m true true e is = let same : n.0 ≡ m = cc in let of_kind : k ≡ kind.0 = grind (arith, nat_tests) in subst (λ i. IsEntryWhole w i m) (sym of_kind) (subst (IsEntryWhole w kind.0) same entry)
+    at k q m true false e is = whole.cache k q m is
+    at k q m false b e is = whole.cache k q m is
+
+-- handles of one node are all Shared, or none is
+pub shared-alike : {w : Core} → IsWhole w → (x y : HandleRow) → Among w.rows x → Among w.rows y → x.node.0 ≡ y.node.0 → is_shared x.mode ≡ is_shared y.mode
+shared-alike {w} whole x y there here same = at (is_shared x.mode) (is_shared y.mode) refl refl
+  where
+    counts : (z : HandleRow) → Among w.rows z → is_shared z.mode ≡ true → 0 < sharing z.node.0 w.rows
+    counts z among is =
+        let a = at-most-sum (λ h. one (is_share z.node.0 h)) w.rows z among in
+        let b : (z.node.0 == z.node.0) ≡ true = grind (arith, nat_tests) in
+        let c : one (is_share z.node.0 z) ≡ 1 = ap (λ i. one (i && is_shared z.mode)) b ∙ ap (λ i. one (true && i)) is in
+        omega arith
+
+    at : (a b : Bool) → is_shared x.mode ≡ a → is_shared y.mode ≡ b → is_shared x.mode ≡ is_shared y.mode
+    at true true e f = e ∙ sym f
+    at false false e f = e ∙ sym f
+    at true false e f = let a = counts x there e in let b = unshared-node whole y here f in let c = ap (λ n. sharing n w.rows) same in absurd (omega arith)
+    at false true e f = let a = counts y here f in let b = unshared-node whole x there e in let c = ap (λ n. sharing n w.rows) same in absurd (omega arith)
+
+pub offer-whole : {w w' : Core} (me : Owner) (kind : Kind) (key : ℕ) (h : HandleNumber) (r : Result (Option HandleNumber) Error) → IsWhole w → MayHold w me → OfferCall w me kind key h r w'
+    → ArePlaced w' → IsWhole w'
+offer-whole {w} me kind key h (Ok None) whole holder call placed =
+    let (row, owns, typed, offers) = call.answers in
+    let (stands_open, none, leaves) = offers in
+    let there = (found-among h.0 w.rows row owns.live).0 in
+    let entry : IsEntryWhole w kind.0 row.node.0 = record {
+      given = (whole.handles.nodes_numbered row.node.0 (some-typed (w.cells row.node.0) typed)).1;
+      typed = λ t is. let e : Some t ≡ Some (type_of kind.0) = sym is ∙ typed in cc;
+      shares = λ x among at. shared-alike whole x row among there at ∙ fits-shared kind.0 row.mode owns.as_asked;
+    } in
+    settles (roomy-whole (cached-whole kind key row.node whole stands_open entry)) leaves placed
+  where
+    some-typed : {t : ℕ} (cell : Option Cell) → type_in cell ≡ Some t → is_some cell ≡ true
+    some-typed (Some cell) is = refl
+    some-typed None is = absurd (cc)
+offer-whole {w} me kind key h (Ok (Some k)) whole holder call placed = elim call.answers.3 [
+  | inl (closed, same, stays) ↦ alike-whole whole stays placed
+  | inr (stands_open, (n, is, next, falls)) ↦ falls-whole (may-fall (only_handle h) whole (known-whole kind key n me whole is holder next.is_left)
+      (handle-on w (record { 0 = n }) (mode_of kind.0) me)) falls.falls placed
+]
+offer-whole me kind key h (Err e) whole holder call placed = alike-whole whole call.refused.stays placed

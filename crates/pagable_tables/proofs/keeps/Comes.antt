@@ -1,21 +1,20 @@
 -- A handle comes, under the next number.
-use Rattle.std.proofs.Common.{◌≡◌, ℕ, ◌≤◌, ◌<◌, ◌+◌, ◌==◌, ◌&&◌, Bool, true, false, if◌then◌else◌, List, [], ◌∷◌, ◌++◌, length, Option, Some, None, inl, inr, refl, ap, sym, subst, ◌∙◌, arith, sum_by}
+use Rattle.std.proofs.Common.{◌≡◌, ℕ, ◌≤◌, ◌<◌, ◌+◌, ◌==◌, ◌&&◌, Bool, true, false, [], ◌∷◌, ◌++◌, Option, Some, None, inl, inr, refl, ap, sym, subst, ◌∙◌, arith}
 use Rattle.std.specs.Prelude.{◌⊎◌, ◌≢◌, is_some, nat_lt}
 use Rattle.std.proofs.lemmas.Bool.{cases_eq}
 use Rattle.std.proofs.lemmas.Bool.Decides.{nat_tests}
 use Rattle.std.proofs.lemmas.List.Sums.{sum_by_push}
 use Rattle.pagable_model.specs.declared.data_key.OptionalDataKey.TheVariants as optional
 use Rattle.pagable_model.specs.declared.numbers.HandleNumber.{HandleNumber}
-use Rattle.pagable_model.specs.declared.numbers.LoadNumber.{LoadNumber}
 use Rattle.pagable_model.specs.declared.numbers.NodeNumber.{NodeNumber}
 use Rattle.pagable_world.specs.declared.handles.HandleRow.{HandleRow}
 use Rattle.pagable_world.specs.declared.handles.Owner.{Owner}
 use Rattle.pagable_world.specs.declared.handles.Owner.TheVariants as owners
 use Rattle.pagable_world.specs.declared.rows.Mode.{Mode}
-use Rattle.pagable_world.specs.Plain.{one, Among, times, if_there, is_shared_kind}
-use Rattle.pagable_world.specs.Kinds.{held, sharing, is_at, is_share, is_shared, is_handle, is_owner, is_owned_by, find_row, has_key}
-use Rattle.pagable_world.specs.World.{Core, Cell, greatest, row_at, type_at}
-use Rattle.pagable_world.specs.Calls.{with_handle, row_of, IsNext}
+use Rattle.pagable_world.specs.Plain.{one, Among, if_there, is_shared_kind}
+use Rattle.pagable_world.specs.Kinds.{held, sharing, is_at, is_share, is_shared, is_handle, is_owner, is_owned_by, has_key}
+use Rattle.pagable_world.specs.World.{Core, Cell, greatest}
+use Rattle.pagable_world.specs.Calls.{with_handle, row_of}
 use Rattle.pagable_world.specs.Pager.{OwnersAreThere, IsRootWhole, IsEntryWhole, IsWhole}
 use Rattle.pagable_tables.specs.Falling.{is_valued}
 use Rattle.pagable_tables.specs.Core.{MayHold, Suits}
@@ -49,7 +48,8 @@ abbrev pub type_in : Option Cell → Option ℕ
 type_in cell = if_there (λ (cell : Cell). Some cell.node_type) None cell
 
 -- Of a node that is there, or of a new one.
-module _ {w : Core} (whole : IsWhole w) (x : HandleRow) (cells : ℕ → Option Cell) (last : ℕ) (number : x.number.0 ≡ w.last.handle + 1) (left : w.last.handle < greatest) (more : w.last.node ≤ last) (few : last ≤ greatest)
+module _ {w : Core} (whole : IsWhole w) (x : HandleRow) (cells : ℕ → Option Cell) (last : ℕ) (number : x.number.0 ≡ w.last.handle + 1) (left : w.last.handle < greatest)
+    (more : w.last.node ≤ last) (few : last ≤ greatest)
     (there : is_some (cells x.node.0) ≡ true) (others : (n : ℕ) → n ≢ x.node.0 → cells n ≡ w.cells n) (numbered : (0 < x.node.0) × (x.node.0 ≤ last))
     (typed : (t : ℕ) → type_in (cells x.node.0) ≡ Some t → (type_in (w.cells x.node.0) ≡ Some t) ⊎ (w.last.node < x.node.0))
     (uniform : (is_shared x.mode ≡ false) × (sharing x.node.0 w.rows ≡ 0) ⊎ (is_shared x.mode ≡ true) × (sharing x.node.0 w.rows ≡ held x.node.0 w.rows) × (keyed_in (cells x.node.0) ≡ false))
@@ -125,7 +125,8 @@ module _ {w : Core} (whole : IsWhole w) (x : HandleRow) (cells : ℕ → Option 
   grown-owners =
       let o = whole.owners_there in
       record {
-        listed = λ q. let a = sum_by_push (λ h. one (is_handle q h && is_owned_by owners.List h)) w.rows x in let b = o.listed q in let c = not-list w x.owner holder in let d : one (is_handle q x && is_owned_by owners.List x) ≡ 0 = ap (λ b. one (is_handle q x && b)) c ∙ and-false (is_handle q x) in omega arith;
+        listed = λ q. let a = sum_by_push (λ h. one (is_handle q h && is_owned_by owners.List h)) w.rows x in let b = o.listed q in let c = not-list w x.owner holder in
+            let d : one (is_handle q x && is_owned_by owners.List x) ≡ 0 = ap (λ b. one (is_handle q x && b)) c ∙ and-false (is_handle q x) in omega arith;
         waiting = λ h among is. elim (among-both w.rows (x ∷ []) h among) [
           | inl old ↦ o.waiting h old is
           | inr new ↦ absurd (not-the-list w x.owner holder (ap (λ (y : HandleRow). y.owner) (sym (among-one x h new)) ∙ is))
@@ -224,7 +225,8 @@ module _ {w : Core} (whole : IsWhole w) (node : NodeNumber) (mode : Mode) (suits
   share-of : (b : Bool) → is_shared suits.row.mode ≡ b → one (is_share node.0 suits.row) ≡ one b
   share-of b is = ap (λ a. one (a && is_shared suits.row.mode)) at-node ∙ ap one is
 
-  suits-uniform : (b : Bool) → is_shared mode ≡ b → (is_shared mode ≡ false) × (sharing node.0 w.rows ≡ 0) ⊎ (is_shared mode ≡ true) × (sharing node.0 w.rows ≡ held node.0 w.rows) × (keyed_in (w.cells node.0) ≡ false)
+  suits-uniform : (b : Bool) → is_shared mode ≡ b → (is_shared mode ≡ false) × (sharing node.0 w.rows ≡ 0) ⊎ (is_shared mode ≡ true) × (sharing node.0 w.rows ≡ held node.0 w.rows)
+      × (keyed_in (w.cells node.0) ≡ false)
   suits-uniform false is = elim (whole.handles.uniform node.0) [
     | inl none ↦ inl (is, none)
     | inr all ↦
@@ -240,20 +242,22 @@ module _ {w : Core} (whole : IsWhole w) (node : NodeNumber) (mode : Mode) (suits
 
   pub beside : (owner : Owner) → MayHold w owner → w.last.handle < greatest → IsWhole (roomy (with_handle w node mode owner))
   beside owner holder left =
-      grown-whole whole (row_of (w.last.handle + 1) node mode owner) w.cells w.last.node refl left (omega arith) (whole.handles.within.1) suits-there (λ n other. refl) (whole.handles.nodes_numbered node.0 suits-there) (λ t is. inl is)
+      grown-whole whole (row_of (w.last.handle + 1) node mode owner) w.cells w.last.node refl left (omega arith) (whole.handles.within.1) suits-there (λ n other. refl)
+      (whole.handles.nodes_numbered node.0 suits-there) (λ t is. inl is)
       (suits-uniform (is_shared mode) refl) (λ kind e. sym suits.shared ∙ e.shares suits.row suits.there (ap (λ (k : NodeNumber). k.0) suits.at)) holder
 
-  pub beside-on : (owner : Owner) → GoesOn w (with_handle w node mode owner)
-  beside-on owner =
-      record {
-        cells = λ n is. is;
-        rows = λ n.
-            let x = row_of (w.last.handle + 1) node mode owner in
-            let a = sum_by_push (λ h. one (is_at n h)) w.rows x in
-            let b = sum_by_push (λ h. one (is_share n h)) w.rows x in
-            let c = share-le (node.0 == n) (is_shared mode) in
-            omega arith;
-      }
+-- no node has fewer handles by one that comes
+pub handle-on : (w : Core) (node : NodeNumber) (mode : Mode) (owner : Owner) → GoesOn w (with_handle w node mode owner)
+handle-on w node mode owner =
+    record {
+      cells = λ n is. is;
+      rows = λ n.
+          let x = row_of (w.last.handle + 1) node mode owner in
+          let a = sum_by_push (λ h. one (is_at n h)) w.rows x in
+          let b = sum_by_push (λ h. one (is_share n h)) w.rows x in
+          let c = share-le (node.0 == n) (is_shared mode) in
+          omega arith;
+    }
 
 -- a node with a handle that isn't Shared has none that is
 pub unshared-node : {w : Core} → IsWhole w → (row : HandleRow) → Among w.rows row → is_shared row.mode ≡ false → sharing row.node.0 w.rows ≡ 0

@@ -87,7 +87,8 @@ module _ {w : Core} (whole : IsWhole w) (node : NodeNumber) (key : ℕ) (unshare
         loads = record {
           numbered = whole.loads.numbered;
           owned = λ l load is. may-own w (with_key w node key) (λ v at. at) load.owner (whole.loads.owned l load is);
-          roots = λ l load n t k is root. let r = whole.loads.roots l load n t k is root in record { typed = λ type named. r.typed type (sym (kept type_in same-type n.0) ∙ named); begun = r.begun; given = r.given };
+          roots = λ l load n t k is root. let r = whole.loads.roots l load n t k is root in
+              record { typed = λ type named. r.typed type (sym (kept type_in same-type n.0) ∙ named); begun = r.begun; given = r.given };
         };
         cache = λ kind q n is. let e = whole.cache kind q n is in record { given = e.given; typed = λ t named. e.typed t (sym (kept type_in same-type n) ∙ named); shares = e.shares };
         workers_numbered = whole.workers_numbered;

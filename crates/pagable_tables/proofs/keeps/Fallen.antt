@@ -1,23 +1,21 @@
 -- The world is whole once handles have fallen.
-use Rattle.std.proofs.Common.{◌≡◌, ℕ, suc, zero, ◌+◌, ◌<◌, ◌≤◌, ◌==◌, ◌&&◌, Bool, true, false, not, List, [], ◌∷◌, ◌++◌, length, sum_by, filter, if◌then◌else◌, Option, Some, None, inl, inr, refl, ap, sym, subst, ◌∙◌, arith}
+use Rattle.std.proofs.Common.{◌≡◌, ℕ, suc, zero, ◌+◌, ◌<◌, ◌≤◌, ◌==◌, ◌&&◌, Bool, true, false, not, List, [], ◌∷◌, ◌++◌, length, filter, if◌then◌else◌, Option, Some, None, inl, inr, refl, ap, sym, subst, ◌∙◌, arith}
 use Rattle.std.specs.Prelude.{◌⊎◌, map, is_some, nat_lt, Result}
 use Rattle.std.proofs.lemmas.Bool.Decides.{nat_tests}
 use Rattle.std.proofs.lemmas.List.Kept.{AllPairs-filter}
 use Rattle.std.proofs.lemmas.List.Sums.{sum_by-append}
-use Rattle.pagable_model.specs.declared.data_key.OptionalDataKey.TheVariants as optional
 use Rattle.pagable_model.specs.declared.error.Error.{Error}
 use Rattle.pagable_model.specs.declared.numbers.HandleNumber.{HandleNumber}
 use Rattle.pagable_model.specs.declared.numbers.LoadNumber.{LoadNumber}
 use Rattle.pagable_model.specs.declared.numbers.NodeNumber.{NodeNumber}
 use Rattle.pagable_world.specs.declared.handles.HandleRow.{HandleRow}
-use Rattle.pagable_world.specs.declared.handles.Owner.{Owner}
 use Rattle.pagable_world.specs.declared.handles.Owner.TheVariants as owners
 use Rattle.pagable_world.specs.declared.rows.Mode.{Mode}
 use Rattle.pagable_world.specs.declared.rows.Mode.TheVariants as modes
-use Rattle.pagable_world.specs.Plain.{one, Among, times, if_there, is_shared_kind}
-use Rattle.pagable_world.specs.Kinds.{held, pins, sharing, is_at, is_pin, is_share, is_shared, is_loose, is_handle, is_owned_by, find_row, has_key}
-use Rattle.pagable_world.specs.World.{Core, Cell, greatest, type_at, Alike}
-use Rattle.pagable_world.specs.Cascade.{Falls, fallen, left_rows, IsWithin, AreNewEntries, MustList}
+use Rattle.pagable_world.specs.Plain.{one, Among, times, is_shared_kind}
+use Rattle.pagable_world.specs.Kinds.{held, pins, sharing, is_at, is_share, is_shared, is_loose, is_handle, is_owned_by}
+use Rattle.pagable_world.specs.World.{Core, Cell, greatest}
+use Rattle.pagable_world.specs.Cascade.{Falls, fallen, left_rows, IsWithin, AreNewEntries}
 use Rattle.pagable_world.specs.Pager.{IsHandleBefore, HandlesAreWhole, OwnersAreThere, LoadsAreWhole, IsRootWhole, IsEntryWhole, IsWhole}
 use Rattle.pagable_tables.specs.Core.{ArePlaced}
 use Rattle.pagable_tables.proofs.Left.{left-le, entries-none}
@@ -30,7 +28,8 @@ use Rattle.pagable_tables.proofs.keeps.Comes.{keyed_in, type_in}
 -- What is whole of a world before handles fall: all, but that owners of the given handles may have gone. And a cell that must be listed is there still, and unshared.
 pub record MayFall (before u : Core) (given : ℕ → Bool) : Type 0 where
   pub handles : HandlesAreWhole (roomy u)
-  pub listed : (q : ℕ) → (times (λ (h : HandleNumber). h.0 == q) u.list ≡ times (λ h. is_handle q h && is_owned_by owners.List h) u.rows) ⊎ ((given q ≡ true) × (times (λ (h : HandleNumber). h.0 == q) u.list ≡ 0))
+  pub listed : (q : ℕ) → (times (λ (h : HandleNumber). h.0 == q) u.list ≡ times (λ h. is_handle q h && is_owned_by owners.List h) u.rows)
+      ⊎ ((given q ≡ true) × (times (λ (h : HandleNumber). h.0 == q) u.list ≡ 0))
   pub waiting : (h : HandleRow) → Among u.rows h → h.owner ≡ owners.List → h.mode ≡ modes.LooseUnpinned
   pub loads_there : (h : HandleRow) (l : LoadNumber) → Among u.rows h → h.owner ≡ owners.Load l → (is_some (u.loads l.0) ≡ true) ⊎ (given h.number.0 ≡ true)
   pub workers_there : (h : HandleRow) (v : ℕ) → Among u.rows h → h.owner ≡ owners.Worker (record { 0 = v }) → u.workers v ≡ true
@@ -40,7 +39,8 @@ pub record MayFall (before u : Core) (given : ℕ → Bool) : Type 0 where
   pub shut : u.closed ≡ true → (u.list ≡ []) × ((kind key : ℕ) → u.cache kind key ≡ None)
   pub listing : (n : ℕ) → 0 < pins n before.rows → sharing n before.rows ≡ 0 → (is_some (u.cells n) ≡ true) × (sharing n u.rows ≡ 0)
 
-module _ {before u : Core} {given : ℕ → Bool} (may : MayFall before u given) (gone : ℕ → Bool) (entries : List HandleRow) (within : IsWithin u.rows given gone) (new : AreNewEntries u.last.handle entries)
+module _ {before u : Core} {given : ℕ → Bool} (may : MayFall before u given) (gone : ℕ → Bool) (entries : List HandleRow) (within : IsWithin u.rows given gone)
+    (new : AreNewEntries u.last.handle entries)
     (only : (n : ℕ) → 0 < held n entries → (0 < pins n before.rows) × (sharing n before.rows ≡ 0) × (u.closed ≡ false)) (few : u.last.handle + length entries ≤ greatest) where
   abbrev after : Core
   after = roomy (fallen u gone entries)
@@ -59,8 +59,9 @@ module _ {before u : Core} {given : ℕ → Bool} (may : MayFall before u given)
   is-entry h among = entry-is u.last.handle entries h new among
 
   -- what is true of each row that is left, and of each entry
-  each-row : (P : HandleRow → Type 0) → ((h : HandleRow) → Among u.rows h → gone h.number.0 ≡ false → P h) → ((h : HandleRow) → Among entries h → IsEntry u.last.handle (length entries) h → P h) → (h : HandleRow) → Among after.rows h → P h
-  each-row P old come h among = elim (among-both left entries h among) [ | inl a ↦ let b = was h a in old h b.0 b.1 | inr a ↦ come h a (is-entry h a) ]
+  each-row : (P : HandleRow → Type 0) → ((h : HandleRow) → Among u.rows h → gone h.number.0 ≡ false → P h) → ((h : HandleRow) → Among entries h → IsEntry u.last.handle (length entries) h → P h)
+      → (h : HandleRow) → Among after.rows h → P h
+  each-row P old come h among = elim (among-both left entries h among) [ inl a ↦ let b = was h a in old h b.0 b.1 | inr a ↦ come h a (is-entry h a) ]
 
   held-after : (n : ℕ) → held n after.rows ≡ held n left + held n entries
   held-after n = sum_by-append (λ h. one (is_at n h)) left entries
@@ -131,8 +132,10 @@ module _ {before u : Core} {given : ℕ → Bool} (may : MayFall before u given)
   after-handles =
       let h = may.handles in
       record {
-        ordered = ordered-entries u.last.handle left entries (λ x among. (h.numbered x (was x among).0).1) new (AllPairs-filter IsHandleBefore (λ (x : HandleRow). not (gone x.number.0)) u.rows h.ordered);
-        numbered = each-row (λ x. (0 < x.number.0) × (x.number.0 ≤ u.last.handle + length entries)) (λ x among left-over. let a = h.numbered x among in (a.0, omega arith)) (λ x among e. let a = e.above in let b = e.number in (omega arith, omega arith));
+        ordered = ordered-entries u.last.handle left entries (λ x among. (h.numbered x (was x among).0).1) new
+            (AllPairs-filter IsHandleBefore (λ (x : HandleRow). not (gone x.number.0)) u.rows h.ordered);
+        numbered = each-row (λ x. (0 < x.number.0) × (x.number.0 ≤ u.last.handle + length entries)) (λ x among left-over. let a = h.numbered x among in (a.0, omega arith))
+            (λ x among e. let a = e.above in let b = e.number in (omega arith, omega arith));
         nodes_numbered = λ n some. h.nodes_numbered n (there n (let a : nat_lt 0 (held n after.rows) ≡ true = sym (after-live n) ∙ some in grind (arith, nat_tests)));
         within = let (a, b, c) = h.within in (few, b, c);
         live = after-live;
@@ -160,12 +163,14 @@ module _ {before u : Core} {given : ℕ → Bool} (may : MayFall before u given)
   in-list q x is = grind (arith, nat_tests)
 
   still-listed : (q : ℕ) → times (λ (h : HandleNumber). h.0 == q) (filter (λ (h : HandleNumber). not (gone h.0)) u.list) ≡ times (lists q) left
-  still-listed q = at (gone q) refl (one-left (λ (h : HandleNumber). h.0) (λ h. h.0 == q) q (in-list q) gone (gone q) refl u.list) (one-left (λ (h : HandleRow). h.number.0) (lists q) q (lists-only q) gone (gone q) refl u.rows)
+  still-listed q = at (gone q) refl (one-left (λ (h : HandleNumber). h.0) (λ h. h.0 == q) q (in-list q) gone (gone q) refl u.list)
+      (one-left (λ (h : HandleRow). h.number.0) (lists q) q (lists-only q) gone (gone q) refl u.rows)
     where
-      at : (b : Bool) → gone q ≡ b → times (λ (h : HandleNumber). h.0 == q) (filter (λ (h : HandleNumber). not (gone h.0)) u.list) ≡ (if b then 0 else times (λ (h : HandleNumber). h.0 == q) u.list) → times (lists q) left ≡ (if b then 0 else times (lists q) u.rows)
+      at : (b : Bool) → gone q ≡ b → times (λ (h : HandleNumber). h.0 == q) (filter (λ (h : HandleNumber). not (gone h.0)) u.list) ≡
+          (if b then 0 else times (λ (h : HandleNumber). h.0 == q) u.list) → times (lists q) left ≡ (if b then 0 else times (lists q) u.rows)
           → times (λ (h : HandleNumber). h.0 == q) (filter (λ (h : HandleNumber). not (gone h.0)) u.list) ≡ times (lists q) left
       at true e a b = a ∙ sym b
-      at false e a b = a ∙ elim (may.listed q) [ | inl same ↦ same | inr (is, none) ↦ none ∙ sym (no-row is (times (lists q) u.rows) refl) ] ∙ sym b
+      at false e a b = a ∙ elim (may.listed q) [ inl same ↦ same | inr (is, none) ↦ none ∙ sym (no-row is (times (lists q) u.rows) refl) ] ∙ sym b
         where
           no-row : given q ≡ true → (k : ℕ) → times (lists q) u.rows ≡ k → times (lists q) u.rows ≡ 0
           no-row is zero some = some
@@ -191,13 +196,13 @@ module _ {before u : Core} {given : ℕ → Bool} (may : MayFall before u given)
             omega arith;
         waiting = each-row (λ h. h.owner ≡ owners.List → h.mode ≡ modes.LooseUnpinned) (λ h among left-over. may.waiting h among) (λ h among e is. e.mode);
         loads = λ h l among. each-row (λ x. x.owner ≡ owners.Load l → is_some (u.loads l.0) ≡ true)
-        (λ x old kept is. elim (may.loads_there x l old is) [
-          | inl some ↦ some
-          | inr gives ↦ let f : true ≡ false = sym (within-goes u.rows given gone x within old gives) ∙ kept in absurd (cc)
-        ])
-        (λ x come e is. let f : owners.List ≡ owners.Load l = sym e.owner ∙ is in absurd (cc)) h among;
+            (λ x old kept is. elim (may.loads_there x l old is) [
+              | inl some ↦ some
+              | inr gives ↦ let f : true ≡ false = sym (within-goes u.rows given gone x within old gives) ∙ kept in absurd (cc)
+            ])
+            (λ x come e is. let f : owners.List ≡ owners.Load l = sym e.owner ∙ is in absurd (cc)) h among;
         workers = λ h v among. each-row (λ x. x.owner ≡ owners.Worker (record { 0 = v }) → u.workers v ≡ true)
-        (λ x old kept. may.workers_there x v old) (λ x come e is. let f : owners.List ≡ owners.Worker (record { 0 = v }) = sym e.owner ∙ is in absurd (cc)) h among;
+            (λ x old kept. may.workers_there x v old) (λ x come e is. let f : owners.List ≡ owners.Worker (record { 0 = v }) = sym e.owner ∙ is in absurd (cc)) h among;
       }
 
   after-root : (node : NodeNumber) (t : ℕ) (h : HandleNumber) → IsRootWhole u node t h → IsRootWhole after node t h
@@ -267,7 +272,11 @@ module _ {before u : Core} {given : ℕ → Bool} (may : MayFall before u given)
         };
         cache = λ kind key n is. after-entry kind n (may.cache kind key n is);
         workers_numbered = may.workers_numbered;
-        shut = λ closed. let s = may.shut closed in (ap (λ (l : List HandleNumber). filter (λ (q : HandleNumber). not (gone q.0)) l ++ map (λ (h : HandleRow). h.number) entries) s.0 ∙ ap (map (λ (h : HandleRow). h.number)) (no-entry closed), s.1);
+        shut = λ closed. let s = may.shut closed in (
+          ap (λ (l : List HandleNumber). filter (λ (q : HandleNumber). not (gone q.0)) l ++ map (λ (h : HandleRow). h.number) entries) s.0
+              ∙ ap (map (λ (h : HandleRow). h.number)) (no-entry closed),
+          s.1,
+        );
       }
 
 pub falls-whole : {before u w' : Core} {given : ℕ → Bool} {r : Result (Unit {0}) Error} → MayFall before u given → Falls before u given r w' → ArePlaced w' → IsWhole w'

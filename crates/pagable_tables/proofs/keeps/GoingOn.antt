@@ -1,5 +1,5 @@
 -- What a call makes directly leaves nodes there, and those that aren't shared unshared.
-use Rattle.std.proofs.Common.{◌≡◌, ℕ, suc, zero, ◌+◌, ◌<◌, ◌≤◌, true, List, refl, ap, sym, ◌∙◌, inl, inr, arith}
+use Rattle.std.proofs.Common.{◌≡◌, ℕ, ◌+◌, ◌<◌, ◌≤◌, true, ◌∙◌, inl, inr, arith}
 use Rattle.std.specs.Prelude.{is_some, nat_lt}
 use Rattle.std.proofs.lemmas.Bool.Decides.{nat_tests}
 use Rattle.pagable_world.specs.Kinds.{held, pins, sharing}
@@ -24,9 +24,10 @@ pub changed-on : (w u : Core) → ((n : ℕ) → is_some (u.cells n) ≡ is_some
 changed-on w u cells many shared = record { cells = λ n is. cells n ∙ is; rows = λ n. let a = many n in let b = shared n in omega arith }
 
 -- a pinned node that isn't shared is there still, and unshared
-pub on-listing : {before u : Core} → IsWhole before → HandlesAreWhole (roomy u) → GoesOn before u → (n : ℕ) → 0 < pins n before.rows → sharing n before.rows ≡ 0 → (is_some (u.cells n) ≡ true) × (sharing n u.rows ≡ 0)
+pub on-listing : {before u : Core} → IsWhole before → HandlesAreWhole (roomy u) → GoesOn before u → (n : ℕ) → 0 < pins n before.rows → sharing n before.rows ≡ 0
+    → (is_some (u.cells n) ≡ true) × (sharing n u.rows ≡ 0)
 on-listing {before} {u} whole after on n pinned unshared =
     let a = pins-le-held n before.rows in
     let b : nat_lt 0 (held n before.rows) ≡ true = grind (arith, nat_tests) in
     let c = on.rows n in
-    (on.cells n (whole.handles.live n ∙ b), elim (after.uniform n) [ | inl none ↦ none | inr all ↦ absurd (omega arith) ])
+    (on.cells n (whole.handles.live n ∙ b), elim (after.uniform n) [ inl none ↦ none | inr all ↦ absurd (omega arith) ])

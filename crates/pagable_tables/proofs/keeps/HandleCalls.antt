@@ -1,5 +1,5 @@
 -- Calls by which a handle comes or is pinned keep the world whole.
-use Rattle.std.proofs.Common.{◌≡◌, ℕ, ◌<◌, Bool, true, false, Ok, Err, Some, refl, ap, sym, subst, ◌∙◌}
+use Rattle.std.proofs.Common.{◌≡◌, ◌<◌, true, false, Ok, Err, Some, refl, ap, sym, ◌∙◌}
 use Rattle.std.specs.Prelude.{Result}
 use Rattle.pagable_model.specs.declared.error.Error.{Error}
 use Rattle.pagable_model.specs.declared.numbers.HandleNumber.{HandleNumber}
@@ -9,22 +9,23 @@ use Rattle.pagable_world.specs.declared.handles.Owner.{Owner}
 use Rattle.pagable_world.specs.declared.handles.Owner.TheVariants as owners
 use Rattle.pagable_world.specs.declared.rows.Mode.{Mode}
 use Rattle.pagable_world.specs.declared.rows.Mode.TheVariants as modes
-use Rattle.pagable_world.specs.Plain.{Among}
 use Rattle.pagable_world.specs.Kinds.{is_shared, is_pinned, is_loose, is_owner, is_owned_by}
 use Rattle.pagable_world.specs.declared.answers.Pinning.{Pinning}
 use Rattle.pagable_world.specs.declared.answers.Pinning.TheVariants as pinnings
 use Rattle.pagable_world.specs.Refusals.{Owns}
 use Rattle.pagable_world.specs.LoadCalls.{with_pin}
-use Rattle.pagable_world.specs.World.{Core, Alike, row_at, greatest}
+use Rattle.pagable_world.specs.World.{Core, row_at, greatest}
 use Rattle.pagable_world.specs.Calls.{with_mode, CloneCall, LoosenCall, PinCall}
 use Rattle.pagable_world.specs.Pager.{IsWhole}
 use Rattle.pagable_tables.specs.Core.{ArePlaced, MayHold, Suits, Makes}
 use Rattle.pagable_tables.proofs.keeps.Rows.{found-among}
 use Rattle.pagable_tables.proofs.keeps.Told.{roomy, settles, alike-whole}
-use Rattle.pagable_tables.proofs.keeps.Turned.{moded-whole, moded-among}
-use Rattle.pagable_tables.proofs.keeps.Comes.{beside, not-list, not-the-list}
+use Rattle.pagable_tables.proofs.keeps.GoingOn.{GoesOn, then-on}
+use Rattle.pagable_tables.proofs.keeps.Turned.{moded-whole, moded-on, moded-among}
+use Rattle.pagable_tables.proofs.keeps.Comes.{beside, handle-on, not-list, not-the-list}
 
-pub makes-whole : {w w' : Core} (node : NodeNumber) (mode : Mode) (owner : Owner) (r : Result HandleNumber Error) → IsWhole w → Suits w node mode → MayHold w owner → Makes w node mode owner r w' → ArePlaced w' → IsWhole w'
+pub makes-whole : {w w' : Core} (node : NodeNumber) (mode : Mode) (owner : Owner) (r : Result HandleNumber Error) → IsWhole w → Suits w node mode → MayHold w owner → Makes w node mode owner r w'
+    → ArePlaced w' → IsWhole w'
 makes-whole node mode owner (Ok k) whole suits holder makes placed = settles (beside whole node mode suits owner holder makes.made.0.is_left) makes.made.1 placed
 makes-whole node mode owner (Err e) whole suits holder makes placed = alike-whole whole makes.refused.stays placed
 
@@ -41,7 +42,8 @@ owned-by-list : (row : HandleRow) → is_owned_by owners.List row ≡ false → 
 owned-by-list row other is = let f : true ≡ false = ap (λ (o : Owner). is_owned_by owners.List (record row { owner = o })) (sym is) ∙ other in absurd (cc)
 
 -- a handle that is loose or Pinned, and not the list's, is loose and pins
-pub pins-whole : {w : Core} (h : HandleNumber) (row : HandleRow) → IsWhole w → row_at w h ≡ Some row → is_shared row.mode ≡ false → is_owned_by owners.List row ≡ false → IsWhole (roomy (with_mode w h modes.LoosePinned))
+pub pins-whole : {w : Core} (h : HandleNumber) (row : HandleRow) → IsWhole w → row_at w h ≡ Some row → is_shared row.mode ≡ false → is_owned_by owners.List row ≡ false
+    → IsWhole (roomy (with_mode w h modes.LoosePinned))
 pins-whole h row whole live unshared other = moded-whole whole h row modes.LoosePinned live (sym unshared) (λ loose. refl) (λ is. absurd (owned-by-list row other is))
 
 pub is-pinned : (mode : Mode) → is_pinned mode ≡ true → mode ≡ modes.Pinned
@@ -75,11 +77,24 @@ loose-unshared modes.Pinned is = absurd (cc)
 loose-unshared modes.Shared is = absurd (cc)
 
 -- a loose handle of one who may hold is pinned, and a Pinned one is made
-pub pin-comes : {w : Core} (h : HandleNumber) (row : HandleRow) (me : Owner) → IsWhole w → MayHold w me → Owns w me h is_loose row → w.last.handle < greatest → IsWhole (roomy (with_pin w h row.node me))
+pub pin-comes : {w : Core} (h : HandleNumber) (row : HandleRow) (me : Owner) → IsWhole w → MayHold w me → Owns w me h is_loose row → w.last.handle < greatest
+    → IsWhole (roomy (with_pin w h row.node me))
 pin-comes {w} h row me whole holder owns left =
     let unshared = loose-unshared row.mode owns.as_asked in
-    let suits : Suits (with_mode w h modes.LoosePinned) row.node modes.Pinned = record { row = record row { mode = modes.LoosePinned }; there = moded-among whole h row modes.LoosePinned owns.live (sym unshared) (λ loose. refl) (λ is. absurd (not-the-list w me holder (sym owns.own ∙ is))); at = refl; shared = refl } in
-    beside (pins-whole h row whole owns.live unshared (ap (is_owner owners.List) owns.own ∙ not-list w me holder)) row.node modes.Pinned (record { row = suits.row; there = suits.there; at = refl; shared = refl }) me holder left
+    let suits : Suits (with_mode w h modes.LoosePinned) row.node modes.Pinned = record {
+      row = record row { mode = modes.LoosePinned };
+      there = moded-among whole h row modes.LoosePinned owns.live (sym unshared) (λ loose. refl) (λ is. absurd (not-the-list w me holder (sym owns.own ∙ is)));
+      at = refl;
+      shared = refl;
+    } in
+    beside (pins-whole h row whole owns.live unshared (ap (is_owner owners.List) owns.own ∙ not-list w me holder)) row.node modes.Pinned
+    (record { row = suits.row; there = suits.there; at = refl; shared = refl }) me holder left
+
+pub pin-on : {w : Core} (h : HandleNumber) (row : HandleRow) (me : Owner) → IsWhole w → MayHold w me → Owns w me h is_loose row → GoesOn w (with_pin w h row.node me)
+pin-on {w} h row me whole holder owns =
+    let unshared = loose-unshared row.mode owns.as_asked in
+    then-on (moded-on whole h row modes.LoosePinned owns.live (sym unshared) (λ loose. refl) (λ is. absurd (not-the-list w me holder (sym owns.own ∙ is))))
+    (handle-on (with_mode w h modes.LoosePinned) row.node modes.Pinned me)
 
 pub pin-whole : {w w' : Core} (me : Owner) (h : HandleNumber) (r : Result Pinning Error) → IsWhole w → MayHold w me → PinCall w me h r w' → ArePlaced w' → IsWhole w'
 pin-whole me h (Ok (pinnings.Pinned k)) whole holder call placed = let (row, owns, does) = call.pins in settles (pin-comes h row me whole holder owns does.1.is_left) does.2 placed

@@ -1,5 +1,5 @@
 -- Calls on loads keep the world whole.
-use Rattle.std.proofs.Common.{◌≡◌, ℕ, ◌<◌, ◌≤◌, ◌+◌, ◌==◌, Bool, true, false, Ok, Err, Option, Some, None, inl, inr, refl, ap, sym, subst, ◌∙◌, arith, if◌then◌else◌}
+use Rattle.std.proofs.Common.{◌≡◌, ℕ, ◌<◌, ◌+◌, ◌==◌, Bool, true, false, Ok, Err, Option, Some, None, inl, inr, refl, ap, sym, subst, ◌∙◌, arith, if◌then◌else◌}
 use Rattle.std.specs.Prelude.{◌⊎◌, Result, is_some}
 use Rattle.std.proofs.lemmas.Bool.Decides.{nat_tests}
 use Rattle.pagable_model.specs.declared.error.Error.{Error}
@@ -9,10 +9,19 @@ use Rattle.pagable_world.specs.declared.answers.Beginning.{Beginning}
 use Rattle.pagable_world.specs.declared.answers.Beginning.TheVariants as beginnings
 use Rattle.pagable_world.specs.declared.handles.Owner.{Owner}
 use Rattle.pagable_world.specs.Plain.{updated}
-use Rattle.pagable_world.specs.World.{Core, OpenLoad, Root, of_cell, of_key, greatest}
-use Rattle.pagable_world.specs.LoadCalls.{with_load, BeginKeyCall}
+use Rattle.pagable_world.specs.declared.handles.HandleRow.{HandleRow}
+use Rattle.pagable_world.specs.declared.handles.Owner.TheVariants as owners
+use Rattle.pagable_world.specs.declared.rows.Mode.TheVariants as modes
+use Rattle.pagable_world.specs.Kinds.{is_loose}
+use Rattle.pagable_world.specs.World.{Core, Cell, OpenLoad, Root, of_cell, of_key, greatest, type_at}
+use Rattle.pagable_world.specs.Refusals.{Owns}
+use Rattle.pagable_world.specs.Calls.{with_handle}
+use Rattle.pagable_world.specs.LoadCalls.{with_load, IsNextLoad, BeginCall, BeginKeyCall}
 use Rattle.pagable_world.specs.Pager.{IsWhole, MayOwnLoad, IsRootWhole}
-use Rattle.pagable_tables.specs.Core.{ArePlaced}
+use Rattle.pagable_tables.specs.Core.{ArePlaced, MayHold}
+use Rattle.pagable_tables.proofs.keeps.Rows.{found-among}
+use Rattle.pagable_tables.proofs.keeps.Comes.{type_in, beside}
+use Rattle.pagable_tables.proofs.keeps.HandleCalls.{loose-unshared}
 use Rattle.pagable_tables.proofs.keeps.Told.{roomy, roomy-whole, settles, alike-whole, may-own}
 
 -- ---- one load more
@@ -39,14 +48,24 @@ some-value : {X : Type 0} (o : Option X) → is_some o ≡ true → (x : X) × (
 some-value (Some x) is = (x, refl)
 some-value None is = absurd (cc)
 
-pub loaded-whole : {w : Core} (key : ℕ) (root : Root) (me : Owner) → IsWhole w → MayOwnLoad w me → w.last.load < greatest → ((node : NodeNumber) (t : ℕ) (h : HandleNumber) → root ≡ of_cell node t h → IsRootWhole w node t h) → IsWhole (with_load w key root me)
+pub loaded-whole : {w : Core} (key : ℕ) (root : Root) (me : Owner) → IsWhole w → MayOwnLoad w me → w.last.load < greatest
+    → ((node : NodeNumber) (t : ℕ) (h : HandleNumber) → root ≡ of_cell node t h → IsRootWhole w node t h) → IsWhole (with_load w key root me)
 loaded-whole {w} key root me whole may left good =
     let h = whole.handles in
     let o = whole.owners_there in
     let new : OpenLoad = record { owner = me; key = key; root = root } in
     let after = with_load w key root me in
     record {
-      handles = record { ordered = h.ordered; numbered = h.numbered; nodes_numbered = h.nodes_numbered; within = let (a, b, c) = h.within in (a, b, omega arith); live = h.live; uniform = h.uniform; unkeyed = h.unkeyed; places = h.places };
+      handles = record {
+        ordered = h.ordered;
+        numbered = h.numbered;
+        nodes_numbered = h.nodes_numbered;
+        within = let (a, b, c) = h.within in (a, b, omega arith);
+        live = h.live;
+        uniform = h.uniform;
+        unkeyed = h.unkeyed;
+        places = h.places;
+      };
       owners_there = record { listed = o.listed; waiting = o.waiting; loads = λ x l among is. some-updated (w.last.load + 1) new w.loads l.0 (o.loads x l among is); workers = o.workers };
       loads = record {
         numbered = λ l some. let found = some-value (updated (w.last.load + 1) (Some new) w.loads l) some in elim (at-updated (w.last.load + 1) new w.loads l found.0 found.1) [
@@ -76,3 +95,48 @@ begin-key-whole {w} me key (Ok (beginnings.Load l k)) whole may call placed =
     settles (loaded-whole {w = roomy w} key of_key me (roomy-whole whole) (may-own w (roomy w) (λ v at. at) me may) next.is_left (λ node t h is. absurd (cc))) leaves placed
 begin-key-whole me key (Ok beginnings.InMemory) whole may call placed = absurd call.begins
 begin-key-whole me key (Err e) whole may call placed = alike-whole whole call.refused.stays placed
+
+-- who may own a load may hold
+pub may-hold : (w : Core) (o : Owner) → MayOwnLoad w o → MayHold w o
+may-hold w owners.Caller may = tt
+may-hold w (owners.Worker v) may = may
+may-hold w (owners.Value n) may = absurd may
+may-hold w owners.List may = absurd may
+may-hold w (owners.Load l) may = absurd may
+
+pub begin-whole : {w w' : Core} (me : Owner) (h : HandleNumber) (r : Result Beginning Error) → IsWhole w → MayOwnLoad w me → BeginCall w me h r w' → ArePlaced w' → IsWhole w'
+begin-whole {w} {w'} me h (Ok (beginnings.Load l key)) whole may call placed =
+    let (row, owns, begins) = call.begins in
+    let (away, keyed, next, left, rest) = begins in
+    let (t, typed, leaves) = rest in
+    settles (begun row owns next left t typed key) leaves placed
+  where
+    begun : (row : HandleRow) → Owns w me h is_loose row → IsNextLoad l w → w.last.handle < greatest → (t : ℕ) → type_at w row.node.0 ≡ Some t → (key : ℕ)
+        → IsWhole (roomy (with_load (with_handle w row.node modes.LooseUnpinned (owners.Load l)) key (of_cell row.node t h) me))
+    begun row owns next left t typed key =
+        let found = found-among h.0 w.rows row owns.live in
+        let root : IsRootWhole (roomy w) row.node t h = record {
+          typed = λ type is. let e : Some type ≡ Some t = sym is ∙ typed in cc;
+          begun = λ x is. let e : Some row ≡ Some x = sym owns.live ∙ is in let same : row ≡ x = cc in
+              (ap (λ (y : HandleRow). y.node) (sym same), ap (λ (y : HandleRow). is_loose y.mode) (sym same) ∙ owns.as_asked);
+          given = let a = (whole.handles.numbered row found.0).1 in let b = found.1 in (omega arith, (whole.handles.nodes_numbered row.node.0 (some-typed (w.cells row.node.0) typed)).1);
+        } in
+        beside (loaded-whole {w = roomy w} key (of_cell row.node t h) me (roomy-whole whole) (may-own w (roomy w) (λ v at. at) me may) next.is_left
+        (λ node t2 k is. named row t root node t2 k is)) row.node modes.LooseUnpinned
+        (record { row = row; there = found.0; at = refl; shared = loose-unshared row.mode owns.as_asked }) (owners.Load l)
+        (ap (λ n. is_some (updated (w.last.load + 1) (Some (record { owner = me; key = key; root = of_cell row.node t h })) w.loads n)) next.above
+        ∙ ap is_some (is-updated (w.last.load + 1) (Some (record { owner = me; key = key; root = of_cell row.node t h })) w.loads)) left
+      where
+        some-typed : {t : ℕ} (cell : Option Cell) → type_in cell ≡ Some t → is_some cell ≡ true
+        some-typed (Some cell) is = refl
+        some-typed None is = absurd (cc)
+
+        named : (row : HandleRow) (t : ℕ) → IsRootWhole (roomy w) row.node t h → (node : NodeNumber) (t2 : ℕ) (k : HandleNumber) → of_cell row.node t h ≡ of_cell node t2 k
+            → IsRootWhole (roomy w) node t2 k
+        named row t root node t2 k is =
+            let a : row.node ≡ node = cc in
+            let b : t ≡ t2 = cc in
+            let c : h ≡ k = cc in
+            subst (λ x. IsRootWhole (roomy w) x t2 k) a (subst (λ x. IsRootWhole (roomy w) row.node x k) b (subst (λ x. IsRootWhole (roomy w) row.node t x) c root))
+begin-whole me h (Ok beginnings.InMemory) whole may call placed = let (row, owns, begins) = call.begins in alike-whole whole begins.1 placed
+begin-whole me h (Err e) whole may call placed = alike-whole whole call.refused.stays placed

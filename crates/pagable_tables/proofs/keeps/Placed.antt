@@ -1,5 +1,5 @@
 -- What the tables tell is in its places, since no vector is longer than its capacity.
-use Rattle.std.proofs.Common.{◌≤◌, length, arith, []}
+use Rattle.std.proofs.Common.{arith, []}
 use Rattle.pagable_tables.specs.declared.tables.Tables.{Tables}
 use Rattle.pagable_world.specs.Pager as pager
 use Rattle.pagable_tables.specs.Falling.{IsFalling, owns_nothing}

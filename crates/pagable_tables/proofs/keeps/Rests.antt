@@ -1,6 +1,6 @@
 -- What is left of rows and list as handles go, and the entries that come.
-use Rattle.std.proofs.Common.{◌≡◌, ℕ, suc, zero, ◌+◌, ◌<◌, ◌≤◌, ◌==◌, ◌&&◌, Bool, true, false, not, List, [], ◌∷◌, ◌++◌, length, sum_by, filter, if◌then◌else◌, Option, Some, None, get_or, inl, inr, refl, ap, sym, subst, ◌∙◌, arith}
-use Rattle.std.specs.Prelude.{◌⊎◌, map}
+use Rattle.std.proofs.Common.{◌≡◌, ℕ, suc, zero, ◌+◌, ◌<◌, ◌≤◌, ◌==◌, ◌&&◌, Bool, true, false, not, List, [], ◌∷◌, ◌++◌, length, filter, if◌then◌else◌, Option, Some, None, inl, inr, refl, ap, sym, subst, ◌∙◌, arith}
+use Rattle.std.specs.Prelude.{map}
 use Rattle.std.specs.List.{AllPairs}
 use Rattle.std.proofs.lemmas.Bool.Decides.{nat_tests}
 use Rattle.std.proofs.lemmas.List.{append_assoc}
@@ -12,10 +12,10 @@ use Rattle.pagable_world.specs.declared.handles.Owner.TheVariants as owners
 use Rattle.pagable_world.specs.declared.rows.Mode.TheVariants as modes
 use Rattle.pagable_world.specs.Plain.{one, Among, times}
 use Rattle.pagable_world.specs.Kinds.{find_row, is_handle, is_owned_by}
-use Rattle.pagable_world.specs.Cascade.{AreNewEntries, left_rows, IsWithin}
+use Rattle.pagable_world.specs.Cascade.{AreNewEntries, IsWithin}
 use Rattle.pagable_world.specs.Pager.{IsHandleBefore}
 use Rattle.pagable_tables.proofs.Alive.{none-found}
-use Rattle.pagable_tables.proofs.keeps.Rows.{among-both, among-one, at-most-sum, counted, found-among, once, ordered-push}
+use Rattle.pagable_tables.proofs.keeps.Rows.{among-both, among-one, at-most-sum, found-among, once, ordered-push}
 
 -- a row that stands there is found
 pub found-so : (q : ℕ) (rows : List HandleRow) (row : HandleRow) → AllPairs IsHandleBefore rows → Among rows row → row.number.0 ≡ q → find_row q rows ≡ Some row
@@ -37,7 +37,8 @@ pub left-both : {X : Type 0} (f keep : X → Bool) (xs : List X) → times f xs 
 left-both f keep [] = refl
 left-both {X} f keep (x ∷ xs) = at (keep x) (left-both f keep xs)
   where
-    at : (b : Bool) → times f xs ≡ times f (filter keep xs) + times f (filter (λ x. not (keep x)) xs) → times f (x ∷ xs) ≡ times f (if b then x ∷ filter keep xs else filter keep xs) + times f (if not b then x ∷ filter (λ x. not (keep x)) xs else filter (λ x. not (keep x)) xs)
+    at : (b : Bool) → times f xs ≡ times f (filter keep xs) + times f (filter (λ x. not (keep x)) xs)
+        → times f (x ∷ xs) ≡ times f (if b then x ∷ filter keep xs else filter keep xs) + times f (if not b then x ∷ filter (λ x. not (keep x)) xs else filter (λ x. not (keep x)) xs)
     at true rest = let a = sum_by-cons (λ y. one (f y)) x xs in let b = sum_by-cons (λ y. one (f y)) x (filter keep xs) in omega arith
     at false rest = let a = sum_by-cons (λ y. one (f y)) x xs in let b = sum_by-cons (λ y. one (f y)) x (filter (λ x. not (keep x)) xs) in omega arith
 
@@ -103,20 +104,23 @@ entry-is last (x ∷ xs) h new (suc i, is) =
     record { above = omega arith; number = omega arith; mode = r.mode; owner = r.owner }
 
 -- the list gets each entry
-pub entries-listed : (q last : ℕ) (entries : List HandleRow) → AreNewEntries last entries → times (λ (h : HandleNumber). h.0 == q) (map (λ (h : HandleRow). h.number) entries) ≡ times (λ h. is_handle q h && is_owned_by owners.List h) entries
+pub entries-listed : (q last : ℕ) (entries : List HandleRow) → AreNewEntries last entries
+    → times (λ (h : HandleNumber). h.0 == q) (map (λ (h : HandleRow). h.number) entries) ≡ times (λ h. is_handle q h && is_owned_by owners.List h) entries
 entries-listed q last [] new = refl
 entries-listed q last (x ∷ xs) new =
     let rest = entries-listed q (last + 1) xs new.3 in
     let a = sum_by-cons (λ (h : HandleNumber). one (h.0 == q)) x.number (map (λ (h : HandleRow). h.number) xs) in
     let b = sum_by-cons (λ h. one (is_handle q h && is_owned_by owners.List h)) x xs in
-    let c : one (is_handle q x) ≡ one (is_handle q x && is_owned_by owners.List x) = sym (ap (λ (o : Owner). one (is_handle q x && is_owned_by owners.List (record x { owner = o }))) new.2 ∙ and-true (is_handle q x)) in
+    let c : one (is_handle q x) ≡ one (is_handle q x && is_owned_by owners.List x) = sym
+    (ap (λ (o : Owner). one (is_handle q x && is_owned_by owners.List (record x { owner = o }))) new.2 ∙ and-true (is_handle q x)) in
     omega arith
   where
     and-true : (b : Bool) → one (b && true) ≡ one b
     and-true true = refl
     and-true false = refl
 
-pub ordered-entries : (last : ℕ) (rows entries : List HandleRow) → ((h : HandleRow) → Among rows h → h.number.0 ≤ last) → AreNewEntries last entries → AllPairs IsHandleBefore rows → AllPairs IsHandleBefore (rows ++ entries)
+pub ordered-entries : (last : ℕ) (rows entries : List HandleRow) → ((h : HandleRow) → Among rows h → h.number.0 ≤ last) → AreNewEntries last entries → AllPairs IsHandleBefore rows
+    → AllPairs IsHandleBefore (rows ++ entries)
 ordered-entries last rows [] few new ordered = subst (λ r. AllPairs IsHandleBefore r) (sym (append-none rows)) ordered
   where
     append-none : (xs : List HandleRow) → xs ++ [] ≡ xs
@@ -126,6 +130,10 @@ ordered-entries last rows (x ∷ xs) few new ordered =
     let n = new.0 in
     subst (λ r. AllPairs IsHandleBefore r) (append_assoc rows (x ∷ []) xs)
     (ordered-entries (last + 1) (rows ++ x ∷ []) xs
-    (λ h among. elim (among-both rows (x ∷ []) h among) [ | inl old ↦ let a = few h old in omega arith | inr new-one ↦ let a = among-one x h new-one in let b = ap (λ (y : HandleRow). y.number.0) a in omega arith ])
+    (λ h among. elim (among-both rows (x ∷ []) h among) [
+      | inl old ↦ let a = few h old in omega arith
+      | inr new-one ↦ let a = among-one x h new-one in
+          let b = ap (λ (y : HandleRow). y.number.0) a in omega arith
+    ])
     new.3
     (ordered-push rows x (λ h among. let a = few h among in omega arith) ordered))

@@ -1,15 +1,15 @@
 -- Rows, one by one and counted, as they come and change.
-use Rattle.std.proofs.Common.{◌≡◌, ℕ, suc, zero, ◌+◌, ◌<◌, ◌≤◌, ◌==◌, Bool, true, false, not, List, [], ◌∷◌, ◌++◌, length, sum_by, filter, cond, if◌then◌else◌, Option, Some, None, slice_get, get_or, inl, inr, refl, ap, sym, subst, ◌∙◌, arith}
+use Rattle.std.proofs.Common.{◌≡◌, ℕ, suc, zero, ◌<◌, ◌≤◌, ◌==◌, Bool, true, false, List, [], ◌∷◌, ◌++◌, sum_by, filter, if◌then◌else◌, Some, None, slice_get, get_or, inl, inr, refl, ap, sym, subst, ◌∙◌, arith}
 use Rattle.std.specs.Prelude.{◌⊎◌, map}
 use Rattle.std.specs.List.{AllPairs}
 use Rattle.std.proofs.lemmas.Bool.{cases_order}
 use Rattle.std.proofs.lemmas.Bool.Decides.{nat_tests}
 use Rattle.std.proofs.lemmas.List.{get_or-map, length-map}
-use Rattle.std.proofs.lemmas.List.Sums.{sum_by-cons, sum_by-append, sum_by-le-sum_by}
+use Rattle.std.proofs.lemmas.List.Sums.{sum_by-cons, sum_by-le-sum_by}
 use Rattle.std.proofs.lemmas.List.Quantifiers.{all_pairs_push}
 use Rattle.std.proofs.lemmas.Option.{get_or_from_slice_get, slice_get_within, slice_get-get_or}
 use Rattle.pagable_world.specs.declared.handles.HandleRow.{HandleRow}
-use Rattle.pagable_world.specs.Plain.{one, Among}
+use Rattle.pagable_world.specs.Plain.{Among}
 use Rattle.pagable_world.specs.Kinds.{find_row, is_handle}
 use Rattle.pagable_world.specs.Pager.{IsHandleBefore}
 
@@ -24,13 +24,18 @@ pub among-one : {X : Type 0} (x y : X) → Among (x ∷ []) y → y ≡ x
 among-one x y (zero, is) = let e : x ≡ y = cc in sym e
 among-one x y (suc i, is) = absurd (cc)
 
+pub among-last : {X : Type 0} (xs : List X) (x : X) → Among (xs ++ x ∷ []) x
+among-last [] x = (zero, refl)
+among-last (y ∷ ys) x = let a = among-last ys x in (suc a.0, a.1)
+
 -- the element of a changed list was one before
 pub among-map : {X : Type 0} (f : X → X) (xs : List X) (x : X) → Among (map f xs) x → (y : X) × Among xs y × (x ≡ f y)
 among-map f [] x a = absurd (cc)
 among-map f (y ∷ ys) x (zero, is) = let e : f y ≡ x = cc in (y, (zero, refl), sym e)
 among-map f (y ∷ ys) x (suc i, is) = let r = among-map f ys x (i, is) in (r.0, (suc r.1.0, r.1.1), r.2)
 
-among-cond : {X : Type 0} (test : X → Bool) (b : Bool) (y : X) (ys zs : List X) (x : X) → test y ≡ b → Among (if b then y ∷ ys else ys) x → (Among ys x → Among zs x × (test x ≡ true)) → Among (y ∷ zs) x × (test x ≡ true)
+among-cond : {X : Type 0} (test : X → Bool) (b : Bool) (y : X) (ys zs : List X) (x : X) → test y ≡ b → Among (if b then y ∷ ys else ys) x → (Among ys x → Among zs x × (test x ≡ true))
+    → Among (y ∷ zs) x × (test x ≡ true)
 among-cond test true y ys zs x so (zero, is) rest = let e : y ≡ x = cc in ((zero, is), ap test (sym e) ∙ so)
 among-cond test true y ys zs x so (suc i, is) rest = let a = rest (i, is) in ((suc a.0.0, a.0.1), a.1)
 among-cond test false y ys zs x so a rest = let b = rest a in ((suc b.0.0, b.0.1), b.1)
@@ -102,7 +107,11 @@ found-among q [] row found = absurd (cc)
 found-among q (h ∷ hs) row found = at (found-among q hs row) (is_handle q h) refl found
   where
     at : (find_row q hs ≡ Some row → Among hs row × (row.number.0 ≡ q)) → (b : Bool) → is_handle q h ≡ b → (if b then Some h else find_row q hs) ≡ Some row → Among (h ∷ hs) row × (row.number.0 ≡ q)
-    at rest true is found = let e : h ≡ row = cc in ((zero, ap (λ (x : HandleRow). Some x) e), let f : (row.number.0 == q) ≡ true = subst (λ (x : HandleRow). is_handle q x ≡ true) e is in grind (arith, nat_tests))
+    at rest true is found = let e : h ≡ row = cc in (
+      (zero, ap (λ (x : HandleRow). Some x) e),
+      let f : (row.number.0 == q) ≡ true = subst (λ (x : HandleRow). is_handle q x ≡ true) e is in
+          grind (arith, nat_tests),
+    )
     at rest false is found = let r = rest found in ((suc r.0.0, r.0.1), r.1)
 
 -- one row has a number
@@ -136,12 +145,14 @@ pub ordered-push : (rows : List HandleRow) (row : HandleRow) → ((h : HandleRow
 ordered-push rows row above ordered = all_pairs_push IsHandleBefore rows row ordered (λ k d lt. above (get_or rows k d) (k, slice_get-get_or rows k d lt))
 
 -- what is found of changed rows, and of rows with one more
-pub found-map : (to : HandleRow → HandleRow) → ((h : HandleRow) → (to h).number.0 ≡ h.number.0) → (q : ℕ) (rows : List HandleRow) (row : HandleRow) → find_row q (map to rows) ≡ Some row → (y : HandleRow) × (find_row q rows ≡ Some y) × (row ≡ to y)
+pub found-map : (to : HandleRow → HandleRow) → ((h : HandleRow) → (to h).number.0 ≡ h.number.0) → (q : ℕ) (rows : List HandleRow) (row : HandleRow) → find_row q (map to rows) ≡ Some row
+    → (y : HandleRow) × (find_row q rows ≡ Some y) × (row ≡ to y)
 unfolding find_row
 found-map to same q [] row found = absurd (cc)
 found-map to same q (h ∷ hs) row found = at (is_handle q h) (is_handle q (to h)) refl (ap (λ n. n == q) (same h)) (found-map to same q hs row) found
   where
-    at : (b d : Bool) → is_handle q h ≡ b → d ≡ is_handle q h → (find_row q (map to hs) ≡ Some row → (y : HandleRow) × (find_row q hs ≡ Some y) × (row ≡ to y)) → (if d then Some (to h) else find_row q (map to hs)) ≡ Some row
+    at : (b d : Bool) → is_handle q h ≡ b → d ≡ is_handle q h → (find_row q (map to hs) ≡ Some row → (y : HandleRow) × (find_row q hs ≡ Some y) × (row ≡ to y))
+        → (if d then Some (to h) else find_row q (map to hs)) ≡ Some row
         → (y : HandleRow) × ((if is_handle q h then Some h else find_row q hs) ≡ Some y) × (row ≡ to y)
     at true true e f rest found = let i : to h ≡ row = cc in (h, rw e refl, sym i)
     at false false e f rest found = let r = rest found in (r.0, rw e r.1, r.2)
@@ -157,12 +168,14 @@ found-push q [] x row found = at (is_handle q x) found
     at false found = absurd (cc)
 found-push q (h ∷ hs) x row found = at (is_handle q h) (found-push q hs x row) found
   where
-    at : (b : Bool) → (find_row q (hs ++ x ∷ []) ≡ Some row → (find_row q hs ≡ Some row) ⊎ (row ≡ x)) → (if b then Some h else find_row q (hs ++ x ∷ [])) ≡ Some row → ((if b then Some h else find_row q hs) ≡ Some row) ⊎ (row ≡ x)
+    at : (b : Bool) → (find_row q (hs ++ x ∷ []) ≡ Some row → (find_row q hs ≡ Some row) ⊎ (row ≡ x)) → (if b then Some h else find_row q (hs ++ x ∷ [])) ≡ Some row
+        → ((if b then Some h else find_row q hs) ≡ Some row) ⊎ (row ≡ x)
     at true rest found = inl found
     at false rest found = rest found
 
 -- what is counted of one number is counted of its row
-pub only-row : (f : HandleRow → ℕ) (rows : List HandleRow) (row : HandleRow) → AllPairs IsHandleBefore rows → Among rows row → ((x : HandleRow) → (x.number.0 == row.number.0) ≡ false → f x ≡ 0) → sum_by f rows ≡ f row
+pub only-row : (f : HandleRow → ℕ) (rows : List HandleRow) (row : HandleRow) → AllPairs IsHandleBefore rows → Among rows row → ((x : HandleRow) → (x.number.0 == row.number.0) ≡ false → f x ≡ 0)
+    → sum_by f rows ≡ f row
 only-row f [] row ordered among none = let a = among.1 in absurd (cc)
 only-row f (x ∷ xs) row ordered (zero, is) none =
     let e : x ≡ row = cc in

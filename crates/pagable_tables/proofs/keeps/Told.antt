@@ -1,16 +1,15 @@
 -- A world that is told alike stays whole, while rows and list are in their places.
-use Rattle.std.proofs.Common.{◌≡◌, ℕ, ◌≤◌, ◌==◌, ◌&&◌, Bool, true, [], length, Option, Some, None, refl, ap, sym, subst, ◌∙◌, arith}
+use Rattle.std.proofs.Common.{◌≡◌, ℕ, ◌==◌, ◌&&◌, Bool, true, length, Option, Some, None, refl, ap, sym, subst, ◌∙◌, arith}
 use Rattle.std.specs.Prelude.{◌⊎◌, is_some, nat_lt}
 use Rattle.std.specs.List.{AllPairs}
 use Rattle.pagable_model.specs.declared.data_key.OptionalDataKey.TheVariants as optional
 use Rattle.pagable_model.specs.declared.numbers.HandleNumber.{HandleNumber}
 use Rattle.pagable_model.specs.declared.numbers.NodeNumber.{NodeNumber}
-use Rattle.pagable_world.specs.declared.handles.HandleRow.{HandleRow}
 use Rattle.pagable_world.specs.declared.handles.Owner.{Owner}
 use Rattle.pagable_world.specs.Plain.{Among, SameAt, times, if_there}
 use Rattle.pagable_world.specs.declared.handles.Owner.TheVariants as owners
 use Rattle.pagable_world.specs.Kinds.{held, sharing, has_key, find_row, is_handle, is_owned_by}
-use Rattle.pagable_world.specs.World.{Core, Cell, OpenLoad, of_cell, Last, Alike, type_at}
+use Rattle.pagable_world.specs.World.{Core, Cell, Last, Alike}
 use Rattle.pagable_world.specs.Pager.{IsHandleBefore, HandlesAreWhole, OwnersAreThere, LoadsAreWhole, MayOwnLoad, IsRootWhole, IsEntryWhole, IsWhole}
 use Rattle.pagable_tables.specs.Core.{ArePlaced}
 
@@ -32,7 +31,8 @@ type_in cell = if_there (λ (cell : Cell). Some cell.node_type) None cell
 abbrev keyed_in : Option Cell → Bool
 keyed_in cell = has_key (if_there (λ (cell : Cell). cell.key) optional.None cell)
 
-module _ {m w' : Core} (whole : IsWhole m) (rows : w'.rows ≡ m.rows) (cells : SameAt m.cells w'.cells) (list : w'.list ≡ m.list) (cache : (kind key n : ℕ) → w'.cache kind key ≡ Some n → m.cache kind key ≡ Some n)
+module _ {m w' : Core} (whole : IsWhole m) (rows : w'.rows ≡ m.rows) (cells : SameAt m.cells w'.cells) (list : w'.list ≡ m.list)
+    (cache : (kind key n : ℕ) → w'.cache kind key ≡ Some n → m.cache kind key ≡ Some n)
     (closed : w'.closed ≡ m.closed) (loads : SameAt m.loads w'.loads) (workers : SameAt m.workers w'.workers) (last : w'.last ≡ m.last) (placed : ArePlaced w') where
   told-handles : HandlesAreWhole w'
   told-handles =

@@ -1,26 +1,24 @@
 -- Rows that change, each under its own number and of its own node.
-use Rattle.std.proofs.Common.{◌≡◌, ℕ, ◌≤◌, ◌+◌, ◌==◌, ◌&&◌, Bool, true, false, if◌then◌else◌, List, [], length, Option, Some, None, refl, ap, sym, subst, ◌∙◌, arith, sum_by}
+use Rattle.std.proofs.Common.{◌≡◌, ℕ, ◌==◌, ◌&&◌, Bool, true, false, if◌then◌else◌, List, [], Some, refl, ap, sym, subst, ◌∙◌, arith}
 use Rattle.std.specs.Prelude.{◌⊎◌, is_some, nat_lt, map}
 use Rattle.std.proofs.lemmas.Bool.Decides.{nat_tests}
 use Rattle.pagable_model.specs.declared.numbers.HandleNumber.{HandleNumber}
-use Rattle.pagable_model.specs.declared.numbers.LoadNumber.{LoadNumber}
 use Rattle.pagable_model.specs.declared.numbers.NodeNumber.{NodeNumber}
 use Rattle.pagable_world.specs.declared.handles.HandleRow.{HandleRow}
-use Rattle.pagable_world.specs.declared.handles.Owner.{Owner}
 use Rattle.pagable_world.specs.declared.handles.Owner.TheVariants as owners
 use Rattle.pagable_world.specs.declared.rows.Mode.{Mode}
 use Rattle.pagable_world.specs.declared.rows.Mode.TheVariants as modes
-use Rattle.pagable_world.specs.Plain.{one, Among, times}
-use Rattle.pagable_world.specs.Kinds.{held, sharing, is_at, is_share, is_shared, is_loose, is_handle, is_owner, is_owned_by, find_row}
+use Rattle.pagable_world.specs.Plain.{one, Among}
+use Rattle.pagable_world.specs.Kinds.{held, sharing, is_at, is_share, is_shared, is_loose, is_handle, is_owned_by}
 use Rattle.pagable_world.specs.World.{Core, row_at}
-use Rattle.pagable_world.specs.Calls.{with_mode, moved}
+use Rattle.pagable_world.specs.Calls.{with_mode}
 use Rattle.pagable_world.specs.Pager.{OwnersAreThere, IsRootWhole, IsEntryWhole, IsWhole}
-use Rattle.pagable_tables.specs.Core.{MayHold}
 use Rattle.pagable_tables.proofs.keeps.Rows.{among-map, among-to, sum-map, found-among, found-map, once, ordered-map}
 use Rattle.pagable_tables.proofs.keeps.Told.{roomy, may-own}
 use Rattle.pagable_tables.proofs.keeps.GoingOn.{GoesOn, changed-on}
 
-module _ {w : Core} (whole : IsWhole w) (to : HandleRow → HandleRow) (list : List HandleNumber) (number : (h : HandleRow) → (to h).number.0 ≡ h.number.0) (node : (h : HandleRow) → (to h).node ≡ h.node)
+module _ {w : Core} (whole : IsWhole w) (to : HandleRow → HandleRow) (list : List HandleNumber) (number : (h : HandleRow) → (to h).number.0 ≡ h.number.0)
+    (node : (h : HandleRow) → (to h).node ≡ h.node)
     (shared : (h : HandleRow) → Among w.rows h → is_shared (to h).mode ≡ is_shared h.mode) (loose : (h : HandleRow) → Among w.rows h → is_loose h.mode ≡ true → is_loose (to h).mode ≡ true) where
   abbrev turned : Core
   turned = roomy (record w { rows = map to w.rows; list = list })
@@ -29,7 +27,8 @@ module _ {w : Core} (whole : IsWhole w) (to : HandleRow → HandleRow) (list : L
   same-held n = sum-map (λ h. one (is_at n h)) (λ h. one (is_at n h)) to w.rows (λ h among. ap (λ (k : NodeNumber). one (k.0 == n)) (node h))
 
   pub same-sharing : (n : ℕ) → sharing n turned.rows ≡ sharing n w.rows
-  same-sharing n = sum-map (λ h. one (is_share n h)) (λ h. one (is_share n h)) to w.rows (λ h among. ap (λ (k : NodeNumber). one (k.0 == n && is_shared (to h).mode)) (node h) ∙ ap (λ b. one (h.node.0 == n && b)) (shared h among))
+  same-sharing n = sum-map (λ h. one (is_share n h)) (λ h. one (is_share n h)) to w.rows
+      (λ h among. ap (λ (k : NodeNumber). one (k.0 == n && is_shared (to h).mode)) (node h) ∙ ap (λ b. one (h.node.0 == n && b)) (shared h among))
 
   turned-root : (n : NodeNumber) (t : ℕ) (h : HandleNumber) → IsRootWhole w n t h → IsRootWhole turned n t h
   turned-root n t h r =
@@ -49,7 +48,8 @@ module _ {w : Core} (whole : IsWhole w) (to : HandleRow → HandleRow) (list : L
         typed = e.typed;
         shares = λ h among at.
             let old = among-map to w.rows h among in
-            ap (λ (x : HandleRow). is_shared x.mode) old.2 ∙ shared old.0 old.1 ∙ e.shares old.0 old.1 (ap (λ (k : NodeNumber). k.0) (sym (node old.0) ∙ ap (λ (x : HandleRow). x.node) (sym old.2)) ∙ at);
+            ap (λ (x : HandleRow). is_shared x.mode) old.2 ∙ shared old.0 old.1
+            ∙ e.shares old.0 old.1 (ap (λ (k : NodeNumber). k.0) (sym (node old.0) ∙ ap (λ (x : HandleRow). x.node) (sym old.2)) ∙ at);
       }
 
   pub turned-whole : OwnersAreThere turned → (w.closed ≡ true → list ≡ []) → IsWhole turned
@@ -58,7 +58,8 @@ module _ {w : Core} (whole : IsWhole w) (to : HandleRow → HandleRow) (list : L
       record {
         handles = record {
           ordered = ordered-map to w.rows number h.ordered;
-          numbered = λ x among. let old = among-map to w.rows x among in let a = h.numbered old.0 old.1 in let e = ap (λ (x : HandleRow). x.number.0) old.2 in let f = number old.0 in (omega arith, omega arith);
+          numbered = λ x among. let old = among-map to w.rows x among in let a = h.numbered old.0 old.1 in let e = ap (λ (x : HandleRow). x.number.0) old.2 in let f = number old.0 in
+              (omega arith, omega arith);
           nodes_numbered = h.nodes_numbered;
           within = h.within;
           live = λ n. h.live n ∙ ap (nat_lt 0) (sym (same-held n));
@@ -79,7 +80,8 @@ module _ {w : Core} (whole : IsWhole w) (to : HandleRow → HandleRow) (list : L
 
 -- ---- another mode
 
-module _ {w : Core} (whole : IsWhole w) (h : HandleNumber) (row : HandleRow) (mode : Mode) (live : row_at w h ≡ Some row) (shared : is_shared mode ≡ is_shared row.mode) (loose : is_loose row.mode ≡ true → is_loose mode ≡ true)
+module _ {w : Core} (whole : IsWhole w) (h : HandleNumber) (row : HandleRow) (mode : Mode) (live : row_at w h ≡ Some row) (shared : is_shared mode ≡ is_shared row.mode)
+    (loose : is_loose row.mode ≡ true → is_loose mode ≡ true)
     (waits : row.owner ≡ owners.List → mode ≡ modes.LooseUnpinned) where
   abbrev to-mode : HandleRow → HandleRow
   to-mode x = if is_handle h.0 x then record x { mode = mode } else x
@@ -105,9 +107,11 @@ module _ {w : Core} (whole : IsWhole w) (h : HandleNumber) (row : HandleRow) (mo
             ap (λ (y : HandleRow). y.mode) old.2 ∙ each (λ y. y.owner ≡ owners.List → y.mode ≡ modes.LooseUnpinned) old.0
             (λ e own. waits (sym (ap (λ (y : HandleRow). y.owner) (the-row old.0 old.1 e)) ∙ own)) (λ e own. o.waiting old.0 old.1 own) (sym (ap (λ (y : HandleRow). y.owner) old.2) ∙ is);
         loads = λ x l among is. let old = among-map to-mode w.rows x among in
-            each (λ y. y.owner ≡ owners.Load l → is_some (w.loads l.0) ≡ true) old.0 (λ e own. o.loads old.0 l old.1 own) (λ e own. o.loads old.0 l old.1 own) (sym (ap (λ (y : HandleRow). y.owner) old.2) ∙ is);
+            each (λ y. y.owner ≡ owners.Load l → is_some (w.loads l.0) ≡ true) old.0 (λ e own. o.loads old.0 l old.1 own) (λ e own. o.loads old.0 l old.1 own)
+            (sym (ap (λ (y : HandleRow). y.owner) old.2) ∙ is);
         workers = λ x v among is. let old = among-map to-mode w.rows x among in
-            each (λ y. y.owner ≡ owners.Worker (record { 0 = v }) → w.workers v ≡ true) old.0 (λ e own. o.workers old.0 v old.1 own) (λ e own. o.workers old.0 v old.1 own) (sym (ap (λ (y : HandleRow). y.owner) old.2) ∙ is);
+            each (λ y. y.owner ≡ owners.Worker (record { 0 = v }) → w.workers v ≡ true) old.0 (λ e own. o.workers old.0 v old.1 own) (λ e own. o.workers old.0 v old.1 own)
+            (sym (ap (λ (y : HandleRow). y.owner) old.2) ∙ is);
       }
 
   mode-number : (x : HandleRow) → (to-mode x).number.0 ≡ x.number.0

@@ -39,7 +39,9 @@ returns-clause-begun c stored closed failures =
 
 pub returns-clause-whole : goal.returns-clause-whole
 returns-clause-whole c =
-    whole-so c.requires.whole.steady (begin-key-whole c.args.me c.args.key (Ok (beginnings.Load (record { 0 = c.args.t.now.last_load + 1 }) c.args.key)) c.requires.whole.core c.requires.owner (returns-clause-begun c (λ key. None) false 0))
+    whole-so c.requires.whole.steady (begin-key-whole c.args.me c.args.key (Ok (beginnings.Load (record { 0 = c.args.t.now.last_load + 1 }) c.args.key)) c.requires.whole.core c.requires.owner
+    (returns-clause-begun c (λ key. None) false 0))
 
 pub returns-in_default-clause-whole : goal.returns-in_default-clause-whole
-returns-in_default-clause-whole c = whole-so c.requires.whole.steady (told-whole c.requires.whole.core refl (λ n. refl) refl (λ kind key n is. is) refl (λ l. ap (option_map load_in) (c.in_default.ensures.err l)) (λ v. refl) refl)
+returns-in_default-clause-whole c = whole-so c.requires.whole.steady
+    (told-whole c.requires.whole.core refl (λ n. refl) refl (λ kind key n is. is) refl (λ l. ap (option_map load_in) (c.in_default.ensures.err l)) (λ v. refl) refl)

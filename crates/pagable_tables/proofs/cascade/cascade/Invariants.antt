@@ -9,6 +9,7 @@ abbrev pub invariant-fall : goal.invariant-fall
 invariant-fall l =
     ((stack : List ℕ) × IsFalling l.t stack owns_nothing × (2 * valued (live l.t.handles.places.items) + length stack ≤ l.left))
     × ((before w : Core) (given : ℕ → Bool) → SoFar before w given l.lists l.initial.t → SoFar before w given l.lists l.t)
+    × (length (live l.t.handles.places.items) ≤ length (live l.initial.t.handles.places.items))
 
 abbrev pub decreases-fall : goal.decreases-fall
 decreases-fall l = l.left

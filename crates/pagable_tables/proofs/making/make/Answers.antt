@@ -99,5 +99,9 @@ returns-in_default-push-clause-whole c =
     let w = c.requires.whole in
     let rows = c.in_default-push.ensures.err in
     whole-so
-    (record { sound = c.push.ensures.sound; next = c.in_default-push.ensures.err_next; fits = rows-told (counts_at t.nodes) (refs_at t.nodes) (live t.handles.places.items) (live c.push.new.handles.places.items) t.top rows w.steady.fits })
+    (record {
+      sound = c.push.ensures.sound;
+      next = c.in_default-push.ensures.err_next;
+      fits = rows-told (counts_at t.nodes) (refs_at t.nodes) (live t.handles.places.items) (live c.push.new.handles.places.items) t.top rows w.steady.fits;
+    })
     (told-whole w.core rows (λ n. refl) refl (λ kind key n is. is) refl (λ l. refl) (λ v. refl) refl)

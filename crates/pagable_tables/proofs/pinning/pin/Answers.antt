@@ -1,4 +1,4 @@
-use Rattle.std.proofs.Common.{◌≡◌, ◌∙◌, ap, subst, false, true, inl, inr, rules}
+use Rattle.std.proofs.Common.{◌≡◌, ◌∙◌, ap, subst, false, true, inl, inr, arith, rules}
 use Rattle.pagable_world.specs.Kinds.{is_loose}
 use Rattle.pagable_world.specs.Plain.{if_there}
 use Rattle.pagable_world.specs.World.{Alike, is_here}
@@ -14,7 +14,7 @@ use Rattle.pagable_tables.proofs.pinning.pin.Goals as goal
 pub returns-in-Err-clause-pinned : goal.returns-in-Err-clause-pinned
 returns-in-Err-clause-pinned c stored closed failures =
     let w = core_of c.args.t.now stored closed failures in
-    let why = handle-first w c.args.me c.args.handle is_loose c.in-Err.e _ (c.in-Err.ensures.fault stored closed failures is_loose) (spent-late w.last.handle _) in
+    let why = handle-first w c.args.me c.args.handle is_loose c.in-Err.e _ (c.in-Err.ensures.fault stored closed failures is_loose) (λ f so. let a = spent-late w.last.handle _ f so in omega arith) in
     record { pins = tt; refused = record { why = inl why; stays = still _ } }
 
 pub returns-in-Ok-pin_here-clause-pinned : goal.returns-in-Ok-pin_here-clause-pinned
@@ -34,7 +34,8 @@ returns-in-Err-pin_here-clause-pinned c stored closed failures =
     let row = c.in-Ok.at.row in
     let here : is_here w row.node.0 ≡ true = search rules in
     let so : is_handle_here w c.args.handle ≡ true = ap (if_there (λ (row : HandleRow). is_here w row.node.0) false) c.in-Ok.ensures.found ∙ here in
-    let none = no-fault w c.args.me c.args.handle is_loose row c.in-Ok.ensures.found c.in-Ok.ensures.owner (search rules) in
+    let owns : Owns w c.args.me c.args.handle is_loose row = record { live = c.in-Ok.ensures.found; own = owner-same c.args.me row.owner c.in-Ok.ensures.owner; as_asked = search rules } in
+    let none = no-fault w c.args.me c.args.handle is_loose row owns in
     let m = (c.in-Err-pin_here.ensures.pinned stored closed failures).refused in
     let cause : pin_fault w c.args.me c.args.handle ≡ spent w.last.handle =
     ap (λ f. earlier f (where_so (is_handle_here w c.args.handle) (spent w.last.handle))) none ∙ ap (λ b. where_so b (spent w.last.handle)) so in

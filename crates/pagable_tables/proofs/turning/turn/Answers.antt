@@ -74,4 +74,5 @@ returns-clause-whole c =
       next = c.set.ensures.next (t.last_handle + 1) w.steady.next;
       fits = turn-fits at at' refs refs' rows rows' t.top x y w.steady.fits is c.set.ensures.sums here e.others e.refs;
     })
-    (settles (pins-whole x.number x w.core (row-live t.handles.places.items c.args.at.place x w.steady.sound.ordered c.requires.place) c.requires.unshared c.requires.unlisted) (returns-clause-turned c (λ key. None) false 0))
+    (settles (pins-whole x.number x w.core (row-live t.handles.places.items c.args.at.place x w.steady.sound.ordered c.requires.place) c.requires.unshared c.requires.unlisted)
+    (returns-clause-turned c (λ key. None) false 0))

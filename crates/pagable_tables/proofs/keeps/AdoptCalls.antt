@@ -1,0 +1,116 @@
+-- Calls by which a load goes on keep the world whole.
+use Rattle.std.proofs.Common.{◌≡◌, ℕ, ◌+◌, ◌<◌, ◌==◌, ◌%◌, Bool, true, false, if◌then◌else◌, List, [], Ok, Err, Some, None, inl, inr, refl, ap, sym, ◌∙◌, arith}
+use Rattle.std.specs.Prelude.{Result, is_some}
+use Rattle.std.proofs.lemmas.Bool.Decides.{nat_tests}
+use Rattle.pagable_model.specs.declared.data_key.OptionalDataKey.{OptionalDataKey}
+use Rattle.pagable_model.specs.declared.data_key.OptionalDataKey.TheVariants as optional
+use Rattle.pagable_model.specs.declared.error.Error.{Error}
+use Rattle.pagable_model.specs.declared.numbers.ArcRef.{ArcRef}
+use Rattle.pagable_model.specs.declared.numbers.HandleNumber.{HandleNumber}
+use Rattle.pagable_model.specs.declared.numbers.Kind.{Kind}
+use Rattle.pagable_model.specs.declared.numbers.LoadNumber.{LoadNumber}
+use Rattle.pagable_world.specs.declared.calls.Want.{Want}
+use Rattle.pagable_world.specs.declared.calls.Want.TheVariants as wants
+use Rattle.pagable_world.specs.declared.handles.Owner.{Owner}
+use Rattle.pagable_world.specs.declared.handles.Owner.TheVariants as owners
+use Rattle.pagable_world.specs.Plain.{Blob, type_of, is_loose_kind}
+use Rattle.pagable_world.specs.Kinds.{is_shared, mode_of, has_key}
+use Rattle.pagable_world.specs.World.{Core, greatest}
+use Rattle.pagable_world.specs.Refusals.{references_fault, OwnsLoad}
+use Rattle.pagable_world.specs.Calls.{row_of, next_node, with_cached, FetchCall, is_named_by}
+use Rattle.pagable_world.specs.LoadCalls.{AskCall, Given, from_cache, from_store, GetsKnown, adopted, first_key, LazyCall, AdoptCall}
+use Rattle.pagable_world.specs.Pager.{IsWhole, IsEntryWhole}
+use Rattle.pagable_tables.specs.Core.{ArePlaced, MayHold}
+use Rattle.pagable_tables.proofs.keeps.Rows.{among-last}
+use Rattle.pagable_tables.proofs.keeps.Told.{roomy, settles, told-whole, alike-whole}
+use Rattle.pagable_tables.proofs.keeps.Comes.{type_in, handle-on}
+use Rattle.pagable_tables.proofs.keeps.Fallen.{may-fall, falls-whole}
+use Rattle.pagable_tables.proofs.keeps.CacheCalls.{mode-shared, known-whole, cached-whole, shared-alike}
+use Rattle.pagable_tables.proofs.keeps.BirthCalls.{born, born-whole, cell-new, no-references, moved-world}
+
+-- an open load may hold
+load-holds : {w : Core} {me : Owner} {l : LoadNumber} (load : _) → OwnsLoad w me l load → MayHold w (owners.Load l)
+load-holds load owns = ap is_some owns.stands_open
+
+fetch-whole : {w w' : Core} (key : ℕ) (r : Result Blob Error) → IsWhole w → FetchCall w key r w' → ArePlaced w' → IsWhole w'
+fetch-whole key r whole call placed = let a = call.asked.leaves in told-whole whole a.rows a.cells a.list a.cache.only a.closed a.loads a.workers a.last placed
+
+gets-whole : {w w' : Core} (l : LoadNumber) (kind : Kind) (key : ℕ) (k : HandleNumber) → IsWhole w → MayHold w (owners.Load l) → GetsKnown w l kind key k w' → ArePlaced w' → IsWhole w'
+gets-whole l kind key k whole holder gets placed = settles (known-whole kind key gets.n (owners.Load l) whole gets.known holder gets.next.is_left) gets.leaves placed
+
+pub ask-whole : {w w' : Core} (me : Owner) (l : LoadNumber) (want : Want) (r : Result Given Error) → IsWhole w → AskCall w me l want r w' → ArePlaced w' → IsWhole w'
+ask-whole me l wants.Root (Ok (from_store blob)) whole call placed = let (load, owns, asks) = call.gives in fetch-whole load.key (Ok blob) whole asks placed
+ask-whole me l wants.Root (Ok (from_cache k)) whole call placed = absurd call.gives.2
+ask-whole me l (wants.Nested kind key) (Ok (from_cache k)) whole call placed = let (load, owns, asks) = call.gives in gets-whole l kind key k whole (load-holds load owns) asks placed
+ask-whole me l (wants.Nested kind key) (Ok (from_store blob)) whole call placed = let (load, owns, asks) = call.gives in fetch-whole key (Ok blob) whole asks.1 placed
+ask-whole me l wants.Root (Err e) whole call placed = elim call.refused [
+  | inl refused ↦ alike-whole whole refused.stays placed
+  | inr (load, owns, asks) ↦ fetch-whole load.key
+      (Err e) whole asks placed
+]
+ask-whole me l (wants.Nested kind key) (Err e) whole call placed = elim call.refused [
+  | inl refused ↦ alike-whole whole refused.stays placed
+  | inr (load, owns, asks) ↦ fetch-whole key
+      (Err e) whole asks.1 placed
+]
+
+-- ---- a node that was read
+
+module _ {w : Core} (whole : IsWhole w) (l : LoadNumber) (kind : Kind) (key : ℕ) (own : OptionalDataKey) (refs : List ArcRef) (holder : MayHold w (owners.Load l))
+    (good : references_fault w (owners.Load l) [] refs ≡ None)
+    (node_left : w.last.node < greatest) (left : w.last.handle < greatest) (unkeyed : is_shared (mode_of kind.0) ≡ true → has_key own ≡ false) where
+  abbrev now : Core
+  now = born whole (type_of kind.0) own refs (mode_of kind.0) (owners.Load l) (owners.Load l) refl good holder node_left left unkeyed
+
+  now-whole : IsWhole (roomy now)
+  now-whole = born-whole whole (type_of kind.0) own refs (mode_of kind.0) (owners.Load l) (owners.Load l) refl good holder node_left left unkeyed
+
+  new-entry : IsEntryWhole (roomy now) kind.0 (w.last.node + 1)
+  new-entry =
+      record {
+        given = omega arith;
+        typed = λ t is. let e : Some t ≡ Some (type_of kind.0) = sym is
+            ∙ ap type_in (cell-new whole (type_of kind.0) own refs (mode_of kind.0) (owners.Load l) (owners.Load l) refl good holder node_left left unkeyed) in cc;
+        shares = λ h among at.
+            shared-alike now-whole h (row_of (w.last.handle + 1) (next_node w) (mode_of kind.0) (owners.Load l)) among
+            (among-last (moved-world whole (type_of kind.0) own refs (mode_of kind.0) (owners.Load l) (owners.Load l) refl good holder node_left left unkeyed).rows _) at
+            ∙ mode-shared kind.0;
+      }
+
+  pub adopted-whole : IsWhole (roomy (adopted w l kind key own refs))
+  adopted-whole = at w.closed refl
+    where
+      at : (b : Bool) → w.closed ≡ b → IsWhole (roomy (if b then now else with_cached now kind key (next_node w)))
+      at true e = now-whole
+      at false e = cached-whole {w = roomy now} kind key (next_node w) now-whole e new-entry
+
+loose-plain : (kind : ℕ) → is_loose_kind kind ≡ true → is_shared (mode_of kind) ≡ true → ⊥
+loose-plain kind loose shared = let a : (kind % 3 == 1) ≡ true = loose in let b : (kind % 3 == 0) ≡ true = sym (mode-shared kind) ∙ shared in let c : kind % 3 ≡ 1 = grind (arith, nat_tests) in
+    let d : kind % 3 ≡ 0 = grind (arith, nat_tests) in absurd (omega arith)
+
+pub lazy-whole : {w w' : Core} (me : Owner) (l : LoadNumber) (kind : Kind) (key : ℕ) (r : Result HandleNumber Error) → IsWhole w → LazyCall w me l kind key r w' → ArePlaced w' → IsWhole w'
+lazy-whole {w} me l kind key (Ok k) whole call placed = let (load, owns, loose, makes) = call.makes in elim makes [
+  | inl gets ↦ gets-whole l kind key k whole (load-holds load owns) gets placed
+  | inr (none, node_left, next, leaves) ↦ settles (adopted-whole whole l kind key (optional.Some key) [] (load-holds load owns) (no-references w (owners.Load l)) node_left next.is_left
+      (λ shared. absurd (loose-plain kind.0 loose shared))) leaves placed
+]
+lazy-whole me l kind key (Err e) whole call placed = alike-whole whole call.refused.stays placed
+
+shared-keyless : (kind key : ℕ) → is_shared (mode_of kind) ≡ true → has_key (first_key kind key) ≡ false
+shared-keyless kind key shared =
+    let b : (kind % 3 == 0) ≡ true = sym (mode-shared kind) ∙ shared in
+    let c : (kind % 3 == 2) ≡ false = grind (arith, nat_tests) in
+    ap (λ t. has_key (if t then optional.Some key else optional.None)) c
+
+pub adopt-whole : {N : Type 0} {w w' : Core} (me : Owner) (l : LoadNumber) (kind : Kind) (key : ℕ) (x : N) (node_type : ℕ) (refs : List ArcRef) (r : Result HandleNumber (Error × N)) → IsWhole w
+    → AdoptCall w me l kind key x node_type refs r w' → ArePlaced w' → IsWhole w'
+adopt-whole {N} {w} me l kind key x node_type refs (Ok k) whole call placed =
+    let a = call.adopts in
+    elim a.makes [
+      | inl (n, is, falls) ↦
+          falls-whole (may-fall (is_named_by refs) whole (known-whole kind key n (owners.Load l) whole is (load-holds a.load a.owned) a.next.is_left)
+          (handle-on w (record { 0 = n }) (mode_of kind.0) (owners.Load l))) falls.falls placed
+      | inr (none, node_left, leaves) ↦
+          settles (adopted-whole whole l kind key (first_key kind.0 key) refs (load-holds a.load a.owned) a.good node_left a.next.is_left (shared-keyless kind.0 key)) leaves placed
+    ]
+adopt-whole me l kind key x node_type refs (Err e) whole call placed = alike-whole whole call.refused.1.stays placed

@@ -1,0 +1,8 @@
+use Rattle.pagable_world.specs.Kinds.{fits_mode}
+use Rattle.pagable_tables.specs.Core.{core_of}
+use Rattle.pagable_tables.proofs.Offers.{offer-first}
+use Rattle.pagable_tables.proofs.known.offered.Goals as goal
+
+pub returns-in-Err-clause-fault : goal.returns-in-Err-clause-fault
+returns-in-Err-clause-fault c stored closed failures key =
+    offer-first (core_of c.args.t.now stored closed failures) c.args.me c.args.kind key c.args.handle c.in-Err.e (c.in-Err.ensures.fault stored closed failures (fits_mode c.args.kind.0))
