@@ -1,23 +1,24 @@
 -- Where handles begin to be given up: nothing has gone so far.
-use Rattle.std.proofs.Common.{◌≡◌, ℕ, ◌+◌, ◌≤◌, ◌&&◌, Bool, false, not, List, [], ◌∷◌, length, refl, ap, sym, ◌∙◌, subst, arith, inl, inr, Option, None}
+use Rattle.std.proofs.Common.{◌≡◌, ℕ, ◌+◌, ◌≤◌, ◌&&◌, Bool, false, not, List, [], ◌∷◌, length, refl, ap, sym, ◌∙◌, subst, arith, inl, inr, Option, None, true}
 use Rattle.std.proofs.lemmas.Bool.Decides.{nat_tests}
 use Rattle.std.proofs.lemmas.List.{append-nil}
 use Rattle.std.proofs.lemmas.List.Sums.{sum_by-cons}
 use Rattle.pagable_model.specs.declared.error.Error.{Error}
+use Rattle.pagable_model.specs.declared.numbers.ArcRef.{ArcRef}
 use Rattle.pagable_world.specs.declared.handles.HandleRow.{HandleRow}
-use Rattle.pagable_world.specs.declared.handles.Owner.{Owner}
-use Rattle.pagable_world.specs.declared.handles.Owner.TheVariants as owners
 use Rattle.pagable_world.specs.Plain.{Blob, one, times}
-use Rattle.pagable_world.specs.Kinds.{is_at, is_share, is_handle, is_owner, owner_value, held, sharing}
+use Rattle.pagable_world.specs.Kinds.{is_at, is_share, held, sharing}
 use Rattle.pagable_world.specs.World.{Core, greatest, HasRoom}
 use Rattle.pagable_world.specs.Cascade.{IsWithin, MustList, TellsListing, nobody}
 use Rattle.pagable_tables.specs.declared.tables.Tables.{Tables}
+use Rattle.pagable_tables.specs.declared.rows.Counts.{Counts}
 use Rattle.pagable_tables.specs.declared.holdings.Holdings.{Holdings}
 use Rattle.pagable_tables.specs.Live.{live}
-use Rattle.pagable_tables.specs.ByNumber.{counts_at}
-use Rattle.pagable_tables.specs.Falling.{IsFalling, cell_in, is_valued, owns, owns_nothing}
+use Rattle.pagable_tables.specs.ByNumber.{counts_at, refs_at}
+use Rattle.pagable_tables.specs.Falling.{Fits, IsFalling, cell_in, is_valued, owns, owns_nothing}
 use Rattle.pagable_tables.specs.Onward.{with_tables, told_by, is_plain_pin, Begins, SoFar}
 use Rattle.pagable_tables.specs.Core.{core_of, IsWhole}
+use Rattle.pagable_tables.proofs.Coming.{owned-by-none}
 use Rattle.pagable_tables.proofs.Left.{left-all, all-kept}
 
 -- why a cell isn't listed is told aside
@@ -25,28 +26,20 @@ pub aside : (t : Holdings) (u : Option Error) (stack : List ℕ) (extra : ℕ �
 aside t u stack extra w = record { sound = w.sound; next = w.next; fits = w.fits }
 
 -- a handle that no value owns weighs nothing there
-pub unowned : (t : Holdings) (x : HandleRow) (stack : List ℕ) → is_valued x.owner ≡ false → IsFalling t stack owns_nothing → IsFalling t stack (owns x)
-unowned t x stack plain w =
+pub fits-unowned : (at : ℕ → Option Counts) (refs : ℕ → List ArcRef) (rows : List HandleRow) (top : ℕ) (stack : List ℕ) (x : HandleRow) → is_valued x.owner ≡ false → Fits at refs rows top stack owns_nothing → Fits at refs rows top stack (owns x)
+fits-unowned at refs rows top stack x plain fits =
     record {
-      sound = w.sound;
-      next = w.next;
-      fits = record {
-        pinned = w.fits.pinned;
-        holding = w.fits.holding;
-        owned = λ n q. let a = w.fits.owned n q in let b = none n q x.owner plain in omega arith;
-        chain = w.fits.chain;
-        marked = w.fits.marked;
-        right = w.fits.right;
-        from_one = w.fits.from_one;
-      };
+      pinned = fits.pinned;
+      holding = fits.holding;
+      owned = λ n q. let a = fits.owned n q in let b = owned-by-none n q x plain in omega arith;
+      chain = fits.chain;
+      marked = fits.marked;
+      right = fits.right;
+      from_one = fits.from_one;
     }
-  where
-    none : (n q : ℕ) (o : Owner) → is_valued o ≡ false → one (is_handle q x && is_owner (owner_value n) o) ≡ 0
-    none n q owners.Caller e = grind (arith, nat_tests)
-    none n q (owners.Value m) e = absurd (cc)
-    none n q owners.List e = grind (arith, nat_tests)
-    none n q (owners.Load l) e = grind (arith, nat_tests)
-    none n q (owners.Worker v) e = grind (arith, nat_tests)
+
+pub unowned : (t : Holdings) (x : HandleRow) (stack : List ℕ) → is_valued x.owner ≡ false → IsFalling t stack owns_nothing → IsFalling t stack (owns x)
+unowned t x stack plain w = record { sound = w.sound; next = w.next; fits = fits-unowned (counts_at t.nodes) (refs_at t.nodes) (live t.handles.places.items) t.top stack x plain w.fits }
 
 share-plain : (n : ℕ) (rows : List HandleRow) → sharing n rows + times (is_plain_pin n) rows ≤ held n rows
 share-plain n [] = omega arith
@@ -72,12 +65,12 @@ begins t stored closed lists failures w e =
       listed = w.core.owners_there.listed;
     }
 
-none-within : (s : ℕ → Bool) (rows : List HandleRow) → IsWithin rows nobody s
+pub none-within : (s : ℕ → Bool) (rows : List HandleRow) → IsWithin rows nobody s
 none-within s [] = refl
 none-within s (x ∷ xs) = let a = sum_by-cons (λ h. one (nobody h.number.0 && not (s h.number.0))) x xs in let b = none-within s xs in omega arith
 
 -- nothing has gone so far
-pub begun : (before w : Core) (lists : Bool) (t : Holdings) → Begins before w lists → live t.handles.places.items ≡ w.rows → t.list.items ≡ w.list → t.last_handle ≡ w.last.handle → t.last_handle ≤ greatest → HasRoom w.places (with_tables w t).places
+abbrev pub begun : (before w : Core) (lists : Bool) (t : Holdings) → Begins before w lists → live t.handles.places.items ≡ w.rows → t.list.items ≡ w.list → t.last_handle ≡ w.last.handle → t.last_handle ≤ greatest → HasRoom w.places (with_tables w t).places
     → ((n : ℕ) → cell_in (counts_at t.nodes n) ≡ w.cells n) → t.unlisted ≡ None → ((n : ℕ) → MustList before w (with_tables w t) n → ⊥) → SoFar before w nobody lists t
 begun before w lists t begins rows list last within places cells told none =
     record {
@@ -99,7 +92,12 @@ begun before w lists t begins rows list last within places cells told none =
     }
 
 -- nothing has gone of a whole world
-pub begun-whole : (t : Tables) (stored : ℕ → Option Blob) (closed lists : Bool) (failures : ℕ) → IsWhole t → lists ≡ not closed → SoFar (core_of t stored closed failures) (core_of t stored closed failures) nobody lists (record t.holdings { unlisted = None })
+abbrev pub begun-whole : (t : Tables) (stored : ℕ → Option Blob) (closed lists : Bool) (failures : ℕ) → IsWhole t → lists ≡ not closed → SoFar (core_of t stored closed failures) (core_of t stored closed failures) nobody lists (record t.holdings { unlisted = None })
 begun-whole t stored closed lists failures w e =
     begun (core_of t stored closed failures) (core_of t stored closed failures) lists (record t.holdings { unlisted = None }) (begins t stored closed lists failures w e) refl refl refl w.core.handles.within.0 (record { handles = omega arith; entries = omega arith }) (λ n. refl) refl
     (λ n must. let a = must.pinned in let b = must.unpinned in absurd (omega arith))
+
+-- the storage can be open or closed as it is listed or not
+pub not-closed : (lists : Bool) → lists ≡ not (not lists)
+not-closed true = refl
+not-closed false = refl

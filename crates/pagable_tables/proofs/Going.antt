@@ -21,7 +21,7 @@ use Rattle.pagable_tables.specs.Falling.{pins_in, entry, entries_of, is_listing,
 use Rattle.pagable_tables.specs.Onward.{with_tables, told_by, SoFar}
 use Rattle.pagable_tables.proofs.Left.{and_one, kept-more, times-left, entries-more}
 use Rattle.pagable_tables.proofs.Leaving.{leaves-sums}
-use Rattle.pagable_tables.proofs.Listings.{entry-pins}
+use Rattle.pagable_tables.proofs.Wanted.{entry-pins}
 use Rattle.pagable_tables.proofs.NoEntry.{of_list, none-listed, none-entered}
 use Rattle.pagable_tables.proofs.RowsMore.{rows-more}
 use Rattle.pagable_tables.proofs.Telling.{only-more, tells-more, refusal-now}
@@ -50,19 +50,19 @@ list-kept gone q rows list listed none =
     less : gone q ≡ false → (h : HandleRow) → one (of_list q h) ≤ one (of_list q h && not (gone h.number.0))
     less e h = elim (cases_Bool (h.number.0 == q)) [ inl is ↦ (let a : h.number.0 ≡ q = grind (arith, nat_tests) in let b : gone h.number.0 ≡ false = ap gone a ∙ e in grind (arith, nat_tests)) | inr other ↦ grind (arith, nat_tests) ]
 
-entry-number : (listed : Bool) (k : ℕ) (node : NodeNumber) → map (λ (h : HandleRow). h.number) (entries_of listed k node) ≡ (if listed then record { 0 = k } ∷ [] else [])
+pub entry-number : (listed : Bool) (k : ℕ) (node : NodeNumber) → map (λ (h : HandleRow). h.number) (entries_of listed k node) ≡ (if listed then record { 0 = k } ∷ [] else [])
 entry-number true k node = refl
 entry-number false k node = refl
 
-new-more : (last : ℕ) (entries : List HandleRow) (listed : Bool) (k : ℕ) (node : NodeNumber) → AreNewEntries last entries → k ≡ last + length entries + 1 → AreNewEntries last (entries ++ entries_of listed k node)
+pub new-more : (last : ℕ) (entries : List HandleRow) (listed : Bool) (k : ℕ) (node : NodeNumber) → AreNewEntries last entries → k ≡ last + length entries + 1 → AreNewEntries last (entries ++ entries_of listed k node)
 new-more last entries true k node new is = entries-more last entries (entry k node) new is refl refl
 new-more last entries false k node new is = subst (AreNewEntries last) (sym (append-nil entries)) new
 
-long-one : (listed : Bool) (k : ℕ) (node : NodeNumber) → length (entries_of listed k node) ≡ one listed
+pub long-one : (listed : Bool) (k : ℕ) (node : NodeNumber) → length (entries_of listed k node) ≡ one listed
 long-one true k node = refl
 long-one false k node = refl
 
-within-more : (listed : Bool) (last : ℕ) → last ≤ greatest → (listed ≡ true → last < greatest) → last + one listed ≤ greatest
+pub within-more : (listed : Bool) (last : ℕ) → last ≤ greatest → (listed ≡ true → last < greatest) → last + one listed ≤ greatest
 within-more true last within left = let a = left refl in omega arith
 within-more false last within left = omega arith
 

@@ -17,7 +17,7 @@ mod Owned
 mod Listed
 mod Opened
 mod Recalled
-mod Listings
+mod Wanted
 mod Telling
 mod Going
 mod Next
@@ -27,3 +27,12 @@ pub mod keeps
 mod Fewer
 mod Pins
 mod Offers
+mod Regiven
+mod Lowered
+mod Dropped
+mod Asked
+mod Unpinning
+mod KeyPut
+mod Seen
+mod Handed
+mod KeySet

@@ -22,7 +22,7 @@ use Rattle.pagable_tables.proofs.LeastMore.{least-more, none-comes}
 use Rattle.pagable_tables.proofs.Going.{one-goes}
 
 -- one handle more on both sides, or on the right
-within-less : (a b c d : ℕ → Bool) (rows : List HandleRow) → ((r : ℕ) → one (a r && not (b r)) ≤ one (c r && not (d r))) → IsWithin rows c d → IsWithin rows a b
+pub within-less : (a b c d : ℕ → Bool) (rows : List HandleRow) → ((r : ℕ) → one (a r && not (b r)) ≤ one (c r && not (d r))) → IsWithin rows c d → IsWithin rows a b
 within-less a b c d rows less is =
     let e = sum_by-le-sum_by (λ h. one (a h.number.0 && not (b h.number.0))) (λ h. one (c h.number.0 && not (d h.number.0))) rows (λ h. less h.number.0) in
     omega arith

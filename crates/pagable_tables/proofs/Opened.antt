@@ -8,13 +8,15 @@ use Rattle.pagable_model.specs.declared.error.Error.{Error}
 use Rattle.pagable_model.specs.declared.error.Error.TheVariants as errors
 use Rattle.pagable_model.specs.declared.data_key.OptionalDataKey.TheVariants as optional
 use Rattle.pagable_model.specs.declared.numbers.HandleNumber.{HandleNumber}
+use Rattle.pagable_model.specs.declared.numbers.LoadNumber.{LoadNumber}
 use Rattle.pagable_world.specs.declared.handles.HandleRow.{HandleRow}
 use Rattle.pagable_world.specs.declared.handles.Owner.{Owner}
+use Rattle.pagable_world.specs.declared.handles.Owner.TheVariants as owners
 use Rattle.pagable_world.specs.declared.rows.Mode.{Mode}
 use Rattle.pagable_world.specs.Plain.{if_there}
 use Rattle.pagable_world.specs.Kinds.{is_owner, is_loose, is_in_memory, pins}
-use Rattle.pagable_world.specs.World.{Core, Cell, greatest, row_at}
-use Rattle.pagable_world.specs.Refusals.{rank, earlier, where_so, refused_if, spent, handle_fault}
+use Rattle.pagable_world.specs.World.{Core, Cell, OpenLoad, greatest, row_at}
+use Rattle.pagable_world.specs.Refusals.{rank, earlier, where_so, refused_if, spent, handle_fault, load_fault, OwnsLoad}
 use Rattle.pagable_tables.specs.declared.rows.Counts.{Counts}
 use Rattle.pagable_tables.specs.declared.rows.LoadRow.{LoadRow}
 use Rattle.pagable_tables.specs.Falling.{pins_in, cell_in, key_in}
@@ -81,3 +83,42 @@ pub here-told : (at : ℕ → Option Counts) (rows : List HandleRow) (n : ℕ) (
 here-told at rows n c pinned is =
     ap (λ p. is_in_memory p (if_there (λ (cell : Cell). cell.key) optional.None (cell_in (at n)))) (sym pinned)
     ∙ ap (λ o. is_in_memory (pins_in o) (if_there (λ (cell : Cell). cell.key) optional.None (cell_in o))) is
+
+-- of two causes the first is told unless the other comes before it
+pub earlier-first : (a x : Option Error) (e : Error) → a ≡ Some e → ((f : Error) → x ≡ Some f → rank e ≤ rank f) → earlier a x ≡ Some e
+earlier-first a None e is late = ap (λ a. earlier a None) is ∙ refl
+earlier-first a (Some f) e is late = ap (λ a. earlier a (Some f)) is ∙ (let le = late f refl in let h : nat_lt (rank f) (rank e) ≡ false = grind (arith, nat_tests) in rw h refl)
+
+-- the causes of a load come before those of modes, kinds and numbers
+pub load-low : (w : Core) (me : Owner) (l : LoadNumber) (e : Error) → load_fault w me l ≡ Some e → rank e ≤ 1
+load-low w me l e is = split (w.loads l.0) is
+  where
+    fault : (own : Bool) → refused_if own errors.NotYours ≡ Some e → rank e ≤ 1
+    fault true is = let a : rank errors.NotYours ≡ rank e = ap (if_there rank 0) is in omega arith
+    fault false is = absurd (cc)
+
+    split : (o : Option OpenLoad) → if_there (λ (load : OpenLoad). refused_if (not (is_owner me load.owner)) errors.NotYours) (Some errors.NoSuchHandle) o ≡ Some e → rank e ≤ 1
+    split None is = let a : rank errors.NoSuchHandle ≡ rank e = ap (if_there rank 0) is in omega arith
+    split (Some load) is = fault (not (is_owner me load.owner)) is
+
+pub same-owner : (o : Owner) → is_owner o o ≡ true
+same-owner owners.Caller = refl
+same-owner (owners.Value n) = grind (arith, nat_tests)
+same-owner owners.List = refl
+same-owner (owners.Load l) = grind (arith, nat_tests)
+same-owner (owners.Worker v) = grind (arith, nat_tests)
+
+pub no-load-fault : (w : Core) (me : Owner) (l : LoadNumber) (load : OpenLoad) → OwnsLoad w me l load → load_fault w me l ≡ None
+no-load-fault w me l load own =
+    ap (if_there (λ (load : OpenLoad). refused_if (not (is_owner me load.owner)) errors.NotYours) (Some errors.NoSuchHandle)) own.stands_open
+    ∙ ap (λ o. refused_if (not (is_owner me o)) errors.NotYours) own.own
+    ∙ ap (λ b. refused_if (not b) errors.NotYours) (same-owner me)
+
+-- a cause of numbers, where it is asked
+pub number-late : (so : Bool) (last : ℕ) (f : Error) → where_so so (spent last) ≡ Some f → 4 ≤ rank f
+number-late false last f is = absurd (cc)
+number-late true last f is = split (nat_le greatest last) is
+  where
+    split : (b : Bool) → refused_if b errors.NumbersSpent ≡ Some f → 4 ≤ rank f
+    split true is = let a : rank errors.NumbersSpent ≡ rank f = ap (if_there rank 0) is in omega arith
+    split false is = absurd (cc)

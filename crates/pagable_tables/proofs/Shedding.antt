@@ -5,7 +5,7 @@ use Rattle.std.proofs.lemmas.Bool.Decides.{nat_tests}
 use Rattle.pagable_tables.specs.declared.rows.Counts.{Counts}
 use Rattle.pagable_tables.specs.declared.holdings.Holdings.{Holdings}
 use Rattle.pagable_tables.specs.ByNumber.{counts_at}
-use Rattle.pagable_tables.specs.Falling.{IsFalling, ValueStays, falls_in, has_value, owns_nothing}
+use Rattle.pagable_tables.specs.Falling.{IsFalling, ValueStays, Sheds, falls_in, has_value, owns_nothing}
 
 -- the value that a node had is there or gone, and it is there exactly where the node has it, unless the node falls
 abbrev pub Lasting : {X : Type 0} → Option Counts → Option X → Option X → Type 0
@@ -19,11 +19,25 @@ lasts-on false o o' old now now' is stays gone l =
       λ falls. let s = stays refl falls in ap is_some is ∙ l.1 s.0 ∙ sym s.1,
     )
 
-left-by : {X : Type 0} (b : Bool) (old now : Option X) → ((now ≡ old) ⊎ (now ≡ None)) → is_some now ≡ b → now ≡ (if b then old else None)
-left-by true old now (inl eq) some = eq
-left-by true old now (inr eq) some = absurd (let f = sym (ap is_some eq) ∙ some in cc)
-left-by false old None which some = refl
-left-by false old (Some x) which some = absurd (cc)
+-- nothing falls
+pub none-falls-in : (t : Holdings) → IsFalling t [] owns_nothing → (n : ℕ) → falls_in (counts_at t.nodes n) ≡ false
+none-falls-in t w n = let m = w.fits.marked n in grind (arith, nat_tests)
 
-pub is-left : {X : Type 0} (t : Holdings) (n : ℕ) (old now : Option X) → IsFalling t [] owns_nothing → Lasting (counts_at t.nodes n) old now → now ≡ (if has_value (counts_at t.nodes n) then old else None)
-is-left t n old now w l = left-by (has_value (counts_at t.nodes n)) old now l.0 (l.1 (let m = w.fits.marked n in grind (arith, nat_tests)))
+module _ {X : Type 0} where
+  -- nothing has happened
+  pub sheds-still : (t : Holdings) (values : ℕ → Option X) → IsFalling t [] owns_nothing → Sheds (counts_at t.nodes) values (counts_at t.nodes) values
+  sheds-still t values w = record { left = λ kept n. (inl refl, kept n (none-falls-in t w n)) }
+
+  -- one after another
+  pub sheds-then : {at at1 at2 : ℕ → Option Counts} {old mid new : ℕ → Option X} → Sheds at old at1 mid → Sheds at1 mid at2 new → Sheds at old at2 new
+  sheds-then {old = old} {mid} {new} a b =
+      record {
+        left = λ kept n.
+            let l = a.left kept in
+            let m = b.left (λ k falls. (l k).1) n in
+            (elim m.0 [ inl eq ↦ elim (l n).0 [ inl e ↦ inl (eq ∙ e) | inr e ↦ inr (eq ∙ e) ] | inr eq ↦ inr eq ], m.1);
+      }
+
+  -- what takes no value comes first
+  pub stays-first : {at at1 at2 : ℕ → Option Counts} {old new : ℕ → Option X} → ((n : ℕ) → ValueStays (at n) (at1 n)) → Sheds at1 old at2 new → Sheds at old at2 new
+  stays-first stays b = record { left = λ kept. b.left (λ k falls. let s = stays k falls in kept k s.0 ∙ sym s.1) }

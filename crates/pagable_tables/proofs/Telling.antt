@@ -18,7 +18,7 @@ use Rattle.pagable_tables.specs.ByNumber.{counts_at}
 use Rattle.pagable_tables.specs.Falling.{pins_in, entry, entries_of, is_listing, IsUnlisted, first_cause}
 use Rattle.pagable_tables.specs.Onward.{with_tables, told_by, SoFar}
 use Rattle.pagable_tables.proofs.Leaving.{with-entry}
-use Rattle.pagable_tables.proofs.Listings.{listing-is, must-now, must-before}
+use Rattle.pagable_tables.proofs.Wanted.{listing-is, must-now, must-before}
 
 -- a cause stays
 refusal-kept : (w : Core) (t new : Holdings) (e : Error) → IsListRefusal w (with_tables w t) e → t.last_handle ≤ new.last_handle → length t.list.items ≤ length new.list.items → IsListRefusal w (with_tables w new) e

@@ -16,3 +16,4 @@ pub mod CacheCalls
 pub mod LoadCalls
 pub mod AdoptCalls
 pub mod EndCalls
+pub mod Opened

@@ -251,9 +251,13 @@ pub record Steps (old : Holdings) (stack : List ℕ) (lists : Bool) (r : Option 
 abbrev pub AreKept : {X : Type 0} → (ℕ → Option Counts) → (ℕ → Option X) → Type 0
 AreKept at values = (n : ℕ) → falls_in (at n) ≡ false → is_some (values n) ≡ has_value (at n)
 
--- of the values that there were, those that are kept
+-- of the values that there were, each is there or gone, and it is there exactly where its node has it
 abbrev pub AreLeft : {X : Type 0} → (ℕ → Option Counts) → (ℕ → Option X) → (ℕ → Option X) → Type 0
-AreLeft at old new = (n : ℕ) → new n ≡ (if has_value (at n) then old n else None)
+AreLeft at old new = (n : ℕ) → ((new n ≡ old n) ⊎ (new n ≡ None)) × (is_some (new n) ≡ has_value (at n))
+
+-- values go with their nodes, where each was kept at first
+pub record Sheds {X : Type 0} (at : ℕ → Option Counts) (old : ℕ → Option X) (at' : ℕ → Option Counts) (new : ℕ → Option X) : Type 0 where
+  pub left : AreKept at old → AreLeft at' old new
 
 -- whether it is this node
 abbrev pub is_node : Option NodeNumber → ℕ → Bool

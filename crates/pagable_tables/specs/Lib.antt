@@ -4,4 +4,9 @@ pub mod Falling
 pub mod Onward
 pub mod Core
 pub mod Owning
+pub mod Lowering
+pub mod Later
+pub mod Asking
+pub mod Keyed
+pub mod Named
 pub mod Offering

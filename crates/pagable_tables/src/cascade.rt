@@ -1,10 +1,10 @@
 //! What follows when handles are given up, to its end.
 
-ghost use Rattle.std.specs.Prelude.{◌≡◌, ◌≢◌, ℕ, ◌+◌, ◌*◌, ◌≤◌, [], List, length, Bool, if◌then◌else◌, nat_eq, None};
+ghost use Rattle.std.specs.Prelude.{◌≡◌, ◌≢◌, ℕ, ◌+◌, ◌*◌, ◌≤◌, [], List, length, Bool, if◌then◌else◌, nat_eq, None, Option};
 ghost use Rattle.pagable_tables.specs.Live.{live, AreSound};
 ghost use Rattle.indexmap.specs.IndexMap.{get};
 ghost use Rattle.pagable_tables.specs.ByNumber.{counts_at};
-ghost use Rattle.pagable_tables.specs.Falling.{IsFalling, owns_nothing, AreKept, AreLeft, is_node};
+ghost use Rattle.pagable_tables.specs.Falling.{IsFalling, owns_nothing, Sheds, is_node};
 ghost use Rattle.pagable_tables.specs.Onward.{with_tables, told_by, SoFar};
 ghost use Rattle.pagable_world.specs.World.{Core};
 ghost use Rattle.pagable_world.specs.Cascade.{Falls};
@@ -13,7 +13,7 @@ use crate::handles::Handles;
 use crate::holdings;
 use crate::holdings::Holdings;
 use indexmap::IndexMap;
-use pagable_model::NodeNumber;
+use pagable_model::{Error, NodeNumber};
 use std::sync::Arc;
 
 /// Twice the number of live handles, and one: so many steps are enough once a handle was given up.
@@ -35,13 +35,12 @@ fn let_go<N: Drop>(values: &mut IndexMap<u64, Arc<N>>, done: Option<NodeNumber>)
 
 /// Gives up all that fallen values referred to, and so on, to the end, and lets the values go. It takes no memory but for entries of the list.
 pub fn cascade<N: Drop>(t: &mut Holdings, values: &mut IndexMap<u64, Arc<N>>, lists: bool)
-    requires kept { AreKept (counts_at t.old.nodes) (get nat_eq values.old) }
     requires falling { (stack : List ℕ) × IsFalling t.old stack owns_nothing × (length stack ≤ 1) }
     ensures whole { IsFalling t.new [] owns_nothing }
     ensures fewer { length (live t.new.handles.places.items) ≤ length (live t.old.handles.places.items) }
     ensures so_far { (before w : Core) (given : ℕ → Bool) → SoFar before w given lists t.old → SoFar before w given lists t.new }
     ensures falls { (before w : Core) (given : ℕ → Bool) → SoFar before w given lists t.old → Falls before w given (told_by t.new.unlisted) (with_tables w t.new) }
-    ensures left { AreLeft (counts_at t.new.nodes) (get nat_eq values.old) (get nat_eq values.new) }
+    ensures sheds { Sheds (counts_at t.old.nodes) (get nat_eq values.old) (counts_at t.new.nodes) (get nat_eq values.new) }
 {
     let mut left = budget(&t.handles);
     'fall: while t.top != 0 {
@@ -49,4 +48,29 @@ pub fn cascade<N: Drop>(t: &mut Holdings, values: &mut IndexMap<u64, Arc<N>>, li
         let done = holdings::step(t, lists);
         let_go(values, done);
     }
+}
+
+/// What came of the listing since handles began to be given up.
+fn told(unlisted: Option<Error>) -> Result<(), Error>
+    ensures { result ≡ told_by unlisted }
+{
+    match unlisted {
+        None => Ok(()),
+        Some(e) => Err(e),
+    }
+}
+
+/// The same, and then what came of the listing: NumbersSpent or OutOfMemory where a cell that had to be listed isn't.
+pub fn fall<N: Drop>(
+    t: &mut Holdings,
+    values: &mut IndexMap<u64, Arc<N>>,
+    lists: bool,
+) -> Result<(), Error>
+    requires falling { (stack : List ℕ) × IsFalling t.old stack owns_nothing × (length stack ≤ 1) }
+    ensures steady { IsFalling t.new [] owns_nothing }
+    ensures falls { (before w : Core) (given : ℕ → Bool) → SoFar before w given lists t.old → Falls before w given result (with_tables w t.new) }
+    ensures sheds { Sheds (counts_at t.old.nodes) (get nat_eq values.old) (counts_at t.new.nodes) (get nat_eq values.new) }
+{
+    cascade(t, values, lists);
+    told(t.unlisted.take())
 }

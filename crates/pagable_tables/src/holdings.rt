@@ -84,7 +84,7 @@ fn enlist(t: &mut Holdings, node: NodeNumber) -> Result<(), Error>
 }
 
 /// The same where one is wanted; and whether it came. A cause is kept where it is the first.
-fn enlist_if(t: &mut Holdings, node: NodeNumber, wanted: bool) -> bool
+pub fn enlist_if(t: &mut Holdings, node: NodeNumber, wanted: bool) -> bool
     requires sound { AreSound t.old.handles }
     requires next { IsNext (t.old.last_handle + 1) t.old.handles.places.items }
     ensures { MayList t.old node wanted result t.new }
@@ -104,7 +104,7 @@ fn enlist_if(t: &mut Holdings, node: NodeNumber, wanted: bool) -> bool
 }
 
 /// Whether the last pin of a cell without a key goes with a handle of this mode, where cells are listed.
-fn wants_entry(counts: Counts, mode: Mode, lists: bool) -> bool
+pub fn wants_entry(counts: Counts, mode: Mode, lists: bool) -> bool
     ensures { result ≡ (lists && is_listing counts mode) }
 {
     match mode {
@@ -125,7 +125,7 @@ fn take_out(t: &mut Holdings, at: HandleAt, wanted: bool) -> bool
 }
 
 /// The counts of a node after a handle has left.
-fn counts_after(counts: Counts, pinning: bool, listed: bool, top: u64) -> Counts
+pub fn counts_after(counts: Counts, pinning: bool, listed: bool, top: u64) -> Counts
     requires pins { one pinning ≤ counts.pins }
     requires holds { 1 ≤ counts.holds }
     ensures { result ≡ after counts pinning listed top }
@@ -157,7 +157,7 @@ fn counts_after(counts: Counts, pinning: bool, listed: bool, top: u64) -> Counts
 }
 
 /// The first node that falls after that.
-fn top_after(before: bool, falls: bool, node: u64, top: u64) -> u64
+pub fn top_after(before: bool, falls: bool, node: u64, top: u64) -> u64
     ensures { result ≡ (if is_new before falls then node else top) }
 {
     if falls && !before { node } else { top }

@@ -15,14 +15,16 @@ ghost use Rattle.pagable_tables.specs.Live.{alive};
 ghost use Rattle.pagable_tables.specs.ByNumber.{load_at};
 ghost use Rattle.pagable_tables.specs.Falling.{key_in, IsFalling, owns_nothing};
 ghost use Rattle.pagable_tables.specs.Core.{core_of, IsWhole, load_in};
+ghost use Rattle.pagable_tables.specs.Asking.{AsksKnown};
 
 use crate::arriving::come;
 use crate::kinds::is_loose;
+use crate::known::cache_get;
 use crate::rows::{Counts, HandleAt, LoadRoot, LoadRow};
 use crate::tables::Tables;
 use crate::turning::{is_owner, own};
 use crate::{loads, nodes};
-use pagable_model::{DataKey, Error, HandleNumber, LoadNumber};
+use pagable_model::{DataKey, Error, HandleNumber, Kind, LoadNumber};
 use pagable_world::handles::Owner;
 use pagable_world::{Beginning, Mode};
 
@@ -119,4 +121,24 @@ pub fn load_begin(t: &mut Tables, me: Owner, handle: HandleNumber) -> Result<Beg
         Ok(load) => Ok(Beginning::Load(load, key)),
         Err(e) => Err(e),
     }
+}
+
+/// A handle of the load's, of the node that the cache gives for a kind and a key; or None where it gives none, and what stands under the key has to be read. It is
+/// refused where the load isn't an own open one, or where no number is left for that handle, or no place.
+pub fn load_known(
+    t: &mut Tables,
+    me: Owner,
+    load: LoadNumber,
+    kind: Kind,
+    key: DataKey,
+) -> Result<Option<HandleNumber>, Error>
+    requires { IsWhole t.old }
+    ensures asked { (stored : ℕ → Option Blob) (closed : Bool) (failures : ℕ) → AsksKnown (core_of t.old stored closed failures) me load kind key result (core_of t.new stored closed failures) }
+    ensures steady { IsFalling t.new.holdings [] owns_nothing }
+{
+    let _row = match load_row(t, me, load) {
+        Ok(row) => row,
+        Err(e) => return Err(e),
+    };
+    cache_get(t, Owner::Load(load), kind, key)
 }

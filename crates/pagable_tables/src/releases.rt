@@ -10,30 +10,20 @@ ghost use Rattle.pagable_world.specs.Cascade.{Falls, nobody, only_handle};
 ghost use Rattle.pagable_tables.specs.Live.{live, alive};
 ghost use Rattle.indexmap.specs.IndexMap.{get};
 ghost use Rattle.pagable_tables.specs.ByNumber.{counts_at};
-ghost use Rattle.pagable_tables.specs.Falling.{IsFalling, is_valued, owns_nothing, AreKept, AreLeft};
-ghost use Rattle.pagable_tables.specs.Onward.{with_tables, told_by, SoFar};
+ghost use Rattle.pagable_tables.specs.Falling.{IsFalling, is_valued, owns_nothing, Sheds};
+ghost use Rattle.pagable_tables.specs.Onward.{with_tables, SoFar};
 ghost use Rattle.pagable_tables.specs.Core.{core_of, IsWhole};
 
-use crate::cascade::cascade;
+use crate::cascade::fall;
 use crate::holdings;
 use crate::holdings::Holdings;
 use crate::rows::HandleAt;
 use crate::tables::Tables;
 use crate::turning::own;
-use pagable_model::{Error, HandleNumber};
 use indexmap::IndexMap;
+use pagable_model::{Error, HandleNumber};
 use pagable_world::handles::Owner;
 use std::sync::Arc;
-
-/// What came of the listing since handles began to be given up.
-pub fn told(unlisted: Option<Error>) -> Result<(), Error>
-    ensures { result ≡ told_by unlisted }
-{
-    match unlisted {
-        None => Ok(()),
-        Some(e) => Err(e),
-    }
-}
 
 /// The handle at this place is given up, with all that goes with it. NumbersSpent or OutOfMemory where a cell that had to be listed isn't.
 pub fn give_back<N: Drop>(
@@ -42,19 +32,17 @@ pub fn give_back<N: Drop>(
     at: HandleAt,
     lists: bool,
 ) -> Result<(), Error>
-    requires kept { AreKept (counts_at t.old.nodes) (get nat_eq values.old) }
     requires steady { IsFalling t.old [] owns_nothing }
     requires place { slice_get t.old.handles.places.items at.place ≡ Some (alive at.row) }
     requires plain { is_valued at.row.owner ≡ false }
     requires free { is_owner owners.List at.row.owner ≡ false }
     ensures steady { IsFalling t.new [] owns_nothing }
     ensures falls { (before w : Core) → SoFar before w nobody lists (record t.old { unlisted = None }) → length (live t.old.handles.places.items) ≤ length w.rows → Falls before w (only_handle at.row.number) result (with_tables w t.new) }
-    ensures left { AreLeft (counts_at t.new.nodes) (get nat_eq values.old) (get nat_eq values.new) }
+    ensures sheds { Sheds (counts_at t.old.nodes) (get nat_eq values.old) (counts_at t.new.nodes) (get nat_eq values.new) }
 {
     t.unlisted = None;
     holdings::give_up(t, at, lists);
-    cascade(t, values, lists);
-    told(t.unlisted.take())
+    fall(t, values, lists)
 }
 
 /// An own handle is given up, with all that goes with it. NumbersSpent or OutOfMemory where a cell that had to be listed isn't.
@@ -65,13 +53,12 @@ pub fn release<N: Drop>(
     handle: HandleNumber,
     lists: bool,
 ) -> Result<(), Error>
-    requires kept { AreKept (counts_at t.old.holdings.nodes) (get nat_eq values.old) }
     requires whole { IsWhole t.old }
     requires plain { is_valued me ≡ false }
     requires free { is_owner owners.List me ≡ false }
     ensures released { (stored : ℕ → Option Blob) (closed : Bool) (failures : ℕ) → lists ≡ not closed → ReleaseCall (core_of t.old stored closed failures) me handle result (core_of t.new stored closed failures) }
-    ensures steady { IsFalling t.new.holdings [] owns_nothing }
-    ensures left { AreLeft (counts_at t.new.holdings.nodes) (get nat_eq values.old) (get nat_eq values.new) }
+    ensures whole { IsWhole t.new }
+    ensures sheds { Sheds (counts_at t.old.holdings.nodes) (get nat_eq values.old) (counts_at t.new.holdings.nodes) (get nat_eq values.new) }
 {
     let at = match own(t, me, handle) {
         Ok(at) => at,

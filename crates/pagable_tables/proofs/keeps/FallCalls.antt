@@ -20,23 +20,23 @@ use Rattle.pagable_tables.proofs.keeps.Told.{roomy-whole, alike-whole, may-own}
 use Rattle.pagable_tables.proofs.keeps.GoingOn.{GoesOn, stays-on}
 use Rattle.pagable_tables.proofs.keeps.Turned.{moded-whole, moded-on}
 use Rattle.pagable_tables.proofs.keeps.Comes.{keyed_in, type_in, unshared-node}
-use Rattle.pagable_tables.proofs.keeps.Fallen.{may-fall, falls-whole}
+use Rattle.pagable_tables.proofs.keeps.Fallen.{may-fall}
+use Rattle.pagable_tables.proofs.keeps.Opened.{opened, alike-opened, falls-opened}
 use Rattle.pagable_tables.proofs.keeps.HandleCalls.{loose-unshared}
 
-pub release-whole : {w w' : Core} (me : Owner) (h : HandleNumber) (r : Result (Unit {0}) Error) → IsWhole w → ReleaseCall w me h r w' → ArePlaced w' → IsWhole w'
+pub release-whole : {w w' : Core} (me : Owner) (h : HandleNumber) (r : Result (Unit {0}) Error) → IsWhole (opened w) → ReleaseCall w me h r w' → ArePlaced (opened w') → IsWhole (opened w')
 release-whole {w} me h r whole call placed = elim call.does [
-  | inl refused ↦ alike-whole whole refused.stays placed
-  | inr (row, owns, falls) ↦ falls-whole (may-fall (only_handle h) whole (roomy-whole whole) (stays-on w)) falls placed
+  | inl refused ↦ alike-whole whole (alike-opened refused.stays) placed
+  | inr (row, owns, falls) ↦ falls-opened (may-fall (only_handle h) whole (roomy-whole whole) (stays-on (opened w))) falls placed
 ]
 
-pub unpin-whole : {w w' : Core} (me : Owner) (h : HandleNumber) (r : Result (Unit {0}) Error) → IsWhole w → UnpinCall w me h r w' → ArePlaced w' → IsWhole w'
-unpin-whole {w} {w'} me h r whole call placed = elim call.does [
-  | inl refused ↦ alike-whole whole refused.stays placed
-  | inr (row, owns, inl stays) ↦ alike-whole whole stays.2 placed
+pub unpin-whole : {w w' : Core} (me : Owner) (h : HandleNumber) (r : Result (Unit {0}) Error) → IsWhole (opened w) → UnpinCall w me h r w' → ArePlaced (opened w') → IsWhole (opened w')
+unpin-whole me h r whole call placed = elim call.does [
+  | inl refused ↦ alike-whole whole (alike-opened refused.stays) placed
+  | inr (row, owns, inl stays) ↦ alike-whole whole (alike-opened stays.2) placed
   | inr (row, owns, inr (pinned, falls)) ↦
       let unshared : is_shared modes.LooseUnpinned ≡ is_shared row.mode = ap is_shared (sym pinned) in
-      falls-whole (may-fall nobody whole (moded-whole whole h row modes.LooseUnpinned owns.live unshared (λ loose. refl) (λ is. refl))
-      (moded-on whole h row modes.LooseUnpinned owns.live unshared (λ loose. refl) (λ is. refl))) falls placed
+      falls-opened (may-fall nobody whole (moded-whole whole h row modes.LooseUnpinned owns.live unshared (λ loose. refl) (λ is. refl)) (moded-on whole h row modes.LooseUnpinned owns.live unshared (λ loose. refl) (λ is. refl))) falls placed
 ]
 
 -- ---- a key
@@ -98,11 +98,11 @@ module _ {w : Core} (whole : IsWhole w) (node : NodeNumber) (key : ℕ) (unshare
   pub keyed-on : GoesOn w (with_key w node key)
   keyed-on = record { cells = λ n is. kept is_some same-there n ∙ is; rows = λ n. omega arith }
 
-pub set-key-whole : {w w' : Core} (me : Owner) (h : HandleNumber) (key : ℕ) (r : Result (Unit {0}) Error) → IsWhole w → SetKeyCall w me h key r w' → ArePlaced w' → IsWhole w'
+pub set-key-whole : {w w' : Core} (me : Owner) (h : HandleNumber) (key : ℕ) (r : Result (Unit {0}) Error) → IsWhole (opened w) → SetKeyCall w me h key r w' → ArePlaced (opened w') → IsWhole (opened w')
 set-key-whole {w} me h key r whole call placed = elim call.does [
-  | inl refused ↦ alike-whole whole refused.stays placed
-  | inr (row, owns, inl stays) ↦ alike-whole whole stays.2 placed
+  | inl refused ↦ alike-whole whole (alike-opened refused.stays) placed
+  | inr (row, owns, inl stays) ↦ alike-whole whole (alike-opened stays.2) placed
   | inr (row, owns, inr (loose, falls)) ↦
       let unshared = unshared-node whole row (found-among h.0 w.rows row owns.live).0 (loose-unshared row.mode loose) in
-      falls-whole (may-fall nobody whole (roomy-whole (keyed-whole whole row.node key unshared)) (keyed-on whole row.node key unshared)) falls placed
+      falls-opened (may-fall nobody whole (roomy-whole (keyed-whole whole row.node key unshared)) (keyed-on whole row.node key unshared)) falls placed
 ]

@@ -4,7 +4,7 @@ use Rattle.std.proofs.lemmas.Bool.Decides.{nat_tests}
 use Rattle.pagable_model.specs.declared.numbers.NodeNumber.{NodeNumber}
 use Rattle.pagable_tables.specs.Live.{live}
 use Rattle.pagable_tables.specs.Falling.{Steps, has_value, is_node}
-use Rattle.pagable_tables.proofs.Shedding.{lasts-on, is-left}
+use Rattle.pagable_tables.proofs.Shedding.{lasts-on, none-falls-in}
 use Rattle.pagable_tables.specs.ByNumber.{counts_at}
 use Rattle.pagable_tables.proofs.Standing.{valued-le, none-falls, one-falls}
 use Rattle.pagable_tables.proofs.Ended.{ended}
@@ -30,7 +30,7 @@ fall-init g c =
     let v = valued-le (live c.args.t.now.handles.places.items) in
     let b = c.budget-left.ensures in
     let few = w.2 in
-    ((w.0, w.1, omega arith), λ before w given f. f, λ n. (inl refl, c.requires.kept n), omega arith)
+    ((w.0, w.1, omega arith), λ before w given f. f, λ kept n. (inl refl, kept n), omega arith)
 
 pub overflow_sub-left : goal.overflow_sub-left
 overflow_sub-left g c =
@@ -47,7 +47,7 @@ fall-preserved g c =
     let few = i.2 in
     let fewer = steps-fewer c.fall.t c.step-done.new.t i.0 c.args.lists c.step-done.result s in
     let so-far = c.fall.invariant.3 in
-    ((s.rest, s.falling, omega arith), λ before w given f. steps-on before w given c.args.lists c.fall.t c.step-done.new.t i.0 c.step-done.result (c.fall.invariant.1 before w given f) i.1 c.fall-test.true s, λ n. lasts-on (is_node c.step-done.result n) (counts_at c.fall.t.nodes n) (counts_at c.step-done.new.t.nodes n) _ _ _ (c.let_go.ensures n) (λ other. s.values n (not-node c.step-done.result n other)) (gone-node (λ m. has_value (counts_at c.step-done.new.t.nodes m)) c.step-done.result n s.gone) (c.fall.invariant.2 n), omega arith)
+    ((s.rest, s.falling, omega arith), λ before w given f. steps-on before w given c.args.lists c.fall.t c.step-done.new.t i.0 c.step-done.result (c.fall.invariant.1 before w given f) i.1 c.fall-test.true s, λ kept n. lasts-on (is_node c.step-done.result n) (counts_at c.fall.t.nodes n) (counts_at c.step-done.new.t.nodes n) _ _ _ (c.let_go.ensures n) (λ other. s.values n (not-node c.step-done.result n other)) (gone-node (λ m. has_value (counts_at c.step-done.new.t.nodes m)) c.step-done.result n s.gone) (c.fall.invariant.2 kept n), omega arith)
 
 pub returns-clause-whole : goal.returns-clause-whole
 returns-clause-whole g c = let w = c.fall.invariant.0 in none-falls c.fall.t w.0 w.1 (omega arith)
@@ -57,5 +57,5 @@ returns-clause-falls g c before w given so-far =
     let i = c.fall.invariant.0 in
     ended before w given c.args.lists c.fall.t (c.fall.invariant.1 before w given so-far) (none-falls c.fall.t i.0 i.1 (omega arith))
 
-pub returns-clause-left : goal.returns-clause-left
-returns-clause-left g c n = let w = c.fall.invariant.0 in is-left c.fall.t n _ _ (none-falls c.fall.t w.0 w.1 (omega arith)) (c.fall.invariant.2 n)
+pub returns-clause-sheds : goal.returns-clause-sheds
+returns-clause-sheds g c = let w = c.fall.invariant.0 in record { left = λ kept n. let l = c.fall.invariant.2 kept n in (l.0, l.1 (none-falls-in c.fall.t (none-falls c.fall.t w.0 w.1 (omega arith)) n)) }

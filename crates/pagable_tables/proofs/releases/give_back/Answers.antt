@@ -1,21 +1,22 @@
-use Rattle.std.proofs.Common.{[], ap, sym, ◌∙◌, subst, arith, None}
-use Rattle.pagable_world.specs.Cascade.{Falls, nobody, only_handle}
+use Rattle.std.proofs.Common.{[], arith, None}
+use Rattle.pagable_world.specs.Cascade.{nobody, only_handle}
 use Rattle.pagable_tables.specs.Falling.{GivesUp, owns_nothing}
-use Rattle.pagable_tables.specs.Onward.{with_tables, told_by, SoFar}
+use Rattle.pagable_tables.specs.Onward.{SoFar}
 use Rattle.pagable_tables.specs.declared.holdings.Holdings.{Holdings}
 use Rattle.pagable_tables.proofs.Begun.{aside, unowned}
 use Rattle.pagable_tables.proofs.Next.{gives-on}
+use Rattle.pagable_tables.proofs.Shedding.{stays-first}
 use Rattle.pagable_tables.proofs.releases.give_back.Goals as goal
 
 pub give_up-requires-clause-falling : goal.give_up-requires-clause-falling
 give_up-requires-clause-falling g c = ([], unowned (record c.args.t.now { unlisted = None }) c.args.at.row [] c.requires.plain (aside c.args.t.now None [] owns_nothing c.requires.steady))
 
-pub cascade-requires-clause-falling : goal.cascade-requires-clause-falling
-cascade-requires-clause-falling g c =
+pub fall-requires : goal.fall-requires
+fall-requires g c =
     let t : Holdings = record c.args.t.now { unlisted = None } in
     let e : GivesUp t [] c.args.at.row c.args.lists c.give_up.new.t = c.give_up.ensures [] (unowned t c.args.at.row [] c.requires.plain (aside c.args.t.now None [] owns_nothing c.requires.steady)) in
     let long = e.long in
-    (e.more, e.falling, omega arith)
+    record { falling = (e.more, e.falling, omega arith) }
 
 pub returns-clause-falls : goal.returns-clause-falls
 returns-clause-falls g c before w f few =
@@ -23,11 +24,10 @@ returns-clause-falls g c before w f few =
     let x = c.args.at.row in
     let e : GivesUp t [] x c.args.lists c.give_up.new.t = c.give_up.ensures [] (unowned t x [] c.requires.plain (aside c.args.t.now None [] owns_nothing c.requires.steady)) in
     let so-far : SoFar before w (only_handle x.number) c.args.lists c.give_up.new.t = gives-on before w nobody c.args.lists t c.give_up.new.t [] x f c.requires.steady.fits.pinned c.requires.free few e in
-    subst (λ r. Falls before w (only_handle x.number) r (with_tables w c.cascade.new.t)) (sym (c.told.ensures ∙ ap told_by c.take.ensures.value)) (c.cascade.ensures.falls before w (only_handle x.number) so-far)
+    c.fall.ensures.falls before w (only_handle x.number) so-far
 
-pub cascade-requires-clause-kept : goal.cascade-requires-clause-kept
-cascade-requires-clause-kept g c n falls =
+pub returns-clause-sheds : goal.returns-clause-sheds
+returns-clause-sheds g c =
     let t : Holdings = record c.args.t.now { unlisted = None } in
     let e : GivesUp t [] c.args.at.row c.args.lists c.give_up.new.t = c.give_up.ensures [] (unowned t c.args.at.row [] c.requires.plain (aside c.args.t.now None [] owns_nothing c.requires.steady)) in
-    let s = e.values n falls in
-    c.requires.kept n s.0 ∙ sym s.1
+    stays-first e.values c.fall.ensures.sheds

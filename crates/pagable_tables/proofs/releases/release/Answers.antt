@@ -1,10 +1,12 @@
-use Rattle.std.proofs.Common.{refl, subst, arith, inl, inr}
+use Rattle.std.proofs.Common.{not, None, refl, subst, arith, inl, inr}
 use Rattle.pagable_world.specs.Kinds.{any_mode}
 use Rattle.pagable_world.specs.Cascade.{Falls, only_handle}
 use Rattle.pagable_tables.specs.Core.{core_of}
-use Rattle.pagable_tables.proofs.Begun.{begun-whole}
+use Rattle.pagable_tables.proofs.Begun.{begun-whole, not-closed}
+use Rattle.pagable_tables.proofs.keeps.FallCalls.{release-whole}
+use Rattle.pagable_tables.proofs.keeps.Placed.{whole-so}
 use Rattle.pagable_tables.proofs.Worlds.{still, owner-same}
-use Rattle.pagable_tables.proofs.Shedding.{is-left}
+use Rattle.pagable_tables.proofs.Shedding.{sheds-still}
 use Rattle.pagable_tables.proofs.releases.release.Goals as goal
 
 pub returns-in-Err-clause-released : goal.returns-in-Err-clause-released
@@ -22,5 +24,9 @@ returns-clause-released g c stored closed failures e =
       );
     }
 
-pub returns-in-Err-clause-left : goal.returns-in-Err-clause-left
-returns-in-Err-clause-left g c n = is-left c.args.t.now.holdings n _ _ c.requires.whole.steady (inl refl, c.requires.kept n)
+pub returns-clause-whole : goal.returns-clause-whole
+returns-clause-whole g c =
+    whole-so c.give_back.ensures.steady (release-whole c.args.me c.args.handle c.give_back.result c.requires.whole.core (returns-clause-released g c (λ key. None) (not c.args.lists) 0 (not-closed c.args.lists)))
+
+pub returns-in-Err-clause-sheds : goal.returns-in-Err-clause-sheds
+returns-in-Err-clause-sheds g c = sheds-still c.args.t.now.holdings _ c.requires.whole.steady

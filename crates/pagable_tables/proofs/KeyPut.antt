@@ -1,0 +1,86 @@
+-- A node gets a key: handles and nodes fit again.
+use Rattle.std.proofs.Common.{◌≡◌, ℕ, ◌+◌, ◌<◌, ◌==◌, ◌&&◌, ◌||◌, Bool, true, false, if◌then◌else◌, List, [], ◌∷◌, refl, ap, sym, ◌∙◌, subst, arith, inl, inr, Option, Some, None, zero, suc}
+use Rattle.std.specs.Prelude.{◌≢◌, nat_lt, not}
+use Rattle.std.proofs.lemmas.Bool.{cases_eq}
+use Rattle.std.proofs.lemmas.Bool.Decides.{nat_tests}
+use Rattle.std.proofs.lemmas.List.Sums.{sum_by-cons}
+use Rattle.pagable_model.specs.declared.data_key.OptionalDataKey.TheVariants as optional
+use Rattle.pagable_model.specs.declared.numbers.ArcRef.{ArcRef}
+use Rattle.pagable_world.specs.declared.handles.HandleRow.{HandleRow}
+use Rattle.pagable_world.specs.Plain.{one, updated, if_there}
+use Rattle.pagable_world.specs.World.{Cell}
+use Rattle.pagable_tables.specs.declared.rows.Counts.{Counts}
+use Rattle.pagable_tables.specs.Falling.{Fits, Chain, Right, is_right, is_bare, is_new, pins_in, holds_in, falls_in, next_in, key_in, cell_in, often, named, owns_nothing}
+use Rattle.pagable_tables.specs.Keyed.{keyed, GetsKey}
+use Rattle.pagable_tables.proofs.Coming.{is-free}
+use Rattle.pagable_tables.proofs.Lowered.{updated-here, updated-other}
+
+keyed-right : (w bare : Bool) (p h : ℕ) (k key : ℕ) → w ≡ false → 0 < key → (if w then h == 0 || (p == 0 && nat_lt 0 k) else nat_lt 0 h && (nat_lt 0 p || not (nat_lt 0 k) || bare)) ≡ true
+    → (if p == 0 then h == 0 || (p == 0 && nat_lt 0 key) else nat_lt 0 h && (nat_lt 0 p || not (nat_lt 0 key) || bare)) ≡ true
+keyed-right true bare p h k key e some r = absurd (cc)
+keyed-right false bare zero h k key e some r = grind (arith, nat_tests)
+keyed-right false bare (suc p) h k key e some r = grind (arith, nat_tests)
+
+key-some : (key : ℕ) → 0 < key → key_in key ≡ optional.Some key
+key-some zero some = absurd (omega arith)
+key-some (suc n) some = refl
+
+pub key-top : (b : Bool) (n top : ℕ) → (if is_new false b then n else top) ≡ (if b then n else top)
+key-top true n top = refl
+key-top false n top = refl
+
+module _ (at at' : ℕ → Option Counts) (refs refs' : ℕ → List ArcRef) (rows : List HandleRow) (top n : ℕ) (c : Counts) (key : ℕ) (fits : Fits at refs rows top [] owns_nothing) (is : at n ≡ Some c) (some : 0 < key)
+    (here : at' n ≡ Some (keyed c key top)) (others : (m : ℕ) → m ≢ n → at' m ≡ at m) (same : (m : ℕ) → refs' m ≡ refs m) where
+  -- what is told of the counts but by the key and the fall
+  told : {X : Type 0} (f : Option Counts → X) → f (Some (keyed c key top)) ≡ f (Some c) → (m : ℕ) → f (at' m) ≡ f (at m)
+  told f e m = elim (cases_eq m n) [ inl eq ↦ ap (λ k. f (at' k)) eq ∙ ap f here ∙ e ∙ sym (ap f is) ∙ sym (ap (λ k. f (at k)) eq) | inr other ↦ ap f (others m other) ]
+
+  real : 0 ≢ n
+  real z = absurd (let a : at 0 ≡ Some c = ap at z ∙ is in cc (a, fits.from_one))
+
+  key-chain : (b : Bool) → (c.pins == 0) ≡ b → Chain at' (if b then n else top) (if b then n ∷ [] else [])
+  key-chain true e = (refl, ap next_in here ∙ ap (λ b. if b then top else c.next) e ∙ fits.chain)
+  key-chain false e = fits.chain
+
+  key-marked : (b : Bool) → (c.pins == 0) ≡ b → (m : ℕ) → often m (if b then n ∷ [] else []) ≡ one (falls_in (at' m))
+  key-marked true e m = elim (cases_eq m n) [
+    | inl eq ↦
+        let a : falls_in (at' n) ≡ true = ap falls_in here ∙ e in
+        let g : often n (n ∷ []) ≡ one (falls_in (at' n)) = let a = sum_by-cons (λ y. one (y == n)) n [] in grind (arith, nat_tests) in
+        subst (λ k. often k (n ∷ []) ≡ one (falls_in (at' k))) (sym eq) g
+    | inr other ↦ let a = sum_by-cons (λ y. one (y == m)) n [] in let b = fits.marked m in let d = ap (λ o. one (falls_in o)) (others m other) in grind (arith, nat_tests)
+  ]
+  key-marked false e m = elim (cases_eq m n) [
+    | inl eq ↦ sym (ap (λ k. one (falls_in (at' k))) eq ∙ ap (λ o. one (falls_in o)) here ∙ ap one e)
+    | inr other ↦ fits.marked m ∙ sym (ap (λ o. one (falls_in o)) (others m other))
+  ]
+
+  key-right : (m : ℕ) → Right (at' m) (refs' m)
+  key-right m = elim (cases_eq m n) [
+    | inl eq ↦
+        let old : is_right c (is_bare (refs n)) ≡ true = subst (λ o. Right o (refs n)) is (fits.right n) in
+        let new : Right (Some (keyed c key top)) (refs n) = keyed-right c.is_falling (is_bare (refs n)) c.pins c.holds c.key key (is-free at refs rows top n c fits is) some old in
+        subst (λ k. Right (at' k) (refs' k)) (sym eq) (subst (λ o. Right o (refs' n)) (sym here) (subst (λ r. Right (Some (keyed c key top)) r) (sym (same n)) new))
+    | inr other ↦ subst (λ o. Right o (refs' m)) (sym (others m other)) (subst (λ r. Right (at m) r) (sym (same m)) (fits.right m))
+  ]
+
+  pub key-fits : (b : Bool) → (c.pins == 0) ≡ b → Fits at' refs' rows (if b then n else top) (if b then n ∷ [] else []) owns_nothing
+  key-fits b e =
+      record {
+        pinned = λ m. told pins_in refl m ∙ fits.pinned m;
+        holding = λ m. told holds_in refl m ∙ fits.holding m;
+        owned = λ m q. ap (λ r. named q r + 0) (same m) ∙ fits.owned m q;
+        chain = key-chain b e;
+        marked = key-marked b e;
+        right = key-right;
+        from_one = others 0 real ∙ fits.from_one;
+      }
+
+  pub key-cells : GetsKey at at' n key
+  key-cells m = elim (cases_eq m n) [
+    | inl eq ↦
+        let g : cell_in (at' n) ≡ updated n (if_there (λ (cell : Cell). Some (record cell { key = optional.Some key })) None (cell_in (at n))) (λ k. cell_in (at k)) n =
+        ap cell_in here ∙ ap (λ k. Some (record { node_type = c.node_type; key = k })) (key-some key some) ∙ sym (updated-here n (if_there (λ (cell : Cell). Some (record cell { key = optional.Some key })) None (cell_in (at n))) (λ k. cell_in (at k)) ∙ ap (λ o. if_there (λ (cell : Cell). Some (record cell { key = optional.Some key })) None (cell_in o)) is) in
+        subst (λ k. cell_in (at' k) ≡ updated n (if_there (λ (cell : Cell). Some (record cell { key = optional.Some key })) None (cell_in (at n))) (λ k. cell_in (at k)) k) (sym eq) g
+    | inr other ↦ ap cell_in (others m other) ∙ sym (updated-other n (if_there (λ (cell : Cell). Some (record cell { key = optional.Some key })) None (cell_in (at n))) (λ k. cell_in (at k)) m other)
+  ]

@@ -1,0 +1,168 @@
+-- A handle has let its pin go and stays: what has gone and come so far.
+use Rattle.std.proofs.Common.{◌≡◌, ℕ, ◌+◌, ◌<◌, ◌≤◌, ◌&&◌, Bool, true, false, not, if◌then◌else◌, List, [], ◌∷◌, ◌++◌, length, filter, ap, sym, ◌∙◌, subst, arith, inl, inr, Option, Some, None, slice_get}
+use Rattle.std.specs.Prelude.{◌≢◌, Result, Ok, Err, vec_capacity}
+use Rattle.std.proofs.lemmas.Bool.{cases_Bool, and_parts}
+use Rattle.std.proofs.lemmas.Bool.Decides.{nat_tests}
+use Rattle.std.proofs.lemmas.List.{append-nil, length-append, length-map}
+use Rattle.pagable_model.specs.declared.error.Error.{Error}
+use Rattle.pagable_model.specs.declared.error.Error.TheVariants as errors
+use Rattle.pagable_model.specs.declared.numbers.HandleNumber.{HandleNumber}
+use Rattle.pagable_world.specs.declared.handles.HandleRow.{HandleRow}
+use Rattle.pagable_world.specs.declared.handles.Owner.TheVariants as owners
+use Rattle.pagable_world.specs.declared.rows.Mode.TheVariants as modes
+use Rattle.pagable_world.specs.Plain.{Blob, one, times}
+use Rattle.pagable_world.specs.Kinds.{is_pin, is_share, is_handle, is_owned_by, pins, sharing}
+use Rattle.pagable_world.specs.World.{Core, greatest}
+use Rattle.pagable_world.specs.Calls.{with_mode}
+use Rattle.pagable_world.specs.Cascade.{left_rows, MustList, TellsListing, IsListRefusal, nobody}
+use Rattle.pagable_tables.specs.declared.tables.Tables.{Tables}
+use Rattle.pagable_tables.specs.declared.holdings.Holdings.{Holdings}
+use Rattle.pagable_tables.specs.Live.{live, alive}
+use Rattle.pagable_tables.specs.Falling.{entries_of, is_listing, first_cause, IsUnlisted}
+use Rattle.pagable_tables.specs.Lowering.{unpinned, Lowers}
+use Rattle.pagable_tables.specs.Onward.{with_tables, told_by, is_plain_pin, Begins, SoFar}
+use Rattle.pagable_tables.specs.Core.{core_of, IsWhole}
+use Rattle.pagable_tables.proofs.Alive.{row-le-live}
+use Rattle.pagable_tables.proofs.Begun.{begun-whole, none-within}
+use Rattle.pagable_tables.proofs.Going.{entry-number, new-more, long-one, within-more, ones}
+use Rattle.pagable_tables.proofs.Left.{left-all, all-kept}
+use Rattle.pagable_tables.proofs.Leaving.{with-entry}
+use Rattle.pagable_tables.proofs.Wanted.{listing-is, entry-pins}
+use Rattle.pagable_tables.proofs.Telling.{only-more, tells-more, refusal-now}
+
+-- what must be listed and what is told of it, where only a mode differs
+must-moded : (before w : Core) (h : HandleNumber) (new : Holdings) (n : ℕ) → MustList before w (with_tables w new) n → MustList before (with_mode w h modes.LooseUnpinned) (with_tables (with_mode w h modes.LooseUnpinned) new) n
+must-moded before w h new n m = record { pinned = m.pinned; unpinned = m.unpinned; unkeyed = m.unkeyed; unshared = m.unshared; stands_open = m.stands_open }
+
+must-plain : (before w : Core) (h : HandleNumber) (new : Holdings) (n : ℕ) → MustList before (with_mode w h modes.LooseUnpinned) (with_tables (with_mode w h modes.LooseUnpinned) new) n → MustList before w (with_tables w new) n
+must-plain before w h new n m = record { pinned = m.pinned; unpinned = m.unpinned; unkeyed = m.unkeyed; unshared = m.unshared; stands_open = m.stands_open }
+
+refusal-moded : (w : Core) (h : HandleNumber) (new : Holdings) (e : Error) → IsListRefusal w (with_tables w new) e → IsListRefusal (with_mode w h modes.LooseUnpinned) (with_tables (with_mode w h modes.LooseUnpinned) new) e
+refusal-moded w h new errors.NumbersSpent r = r
+refusal-moded w h new errors.OutOfMemory r =
+    (elim r.0 [ inl rows ↦ inl (let a = length-map w.rows (λ row. if is_handle h.0 row then record row { mode = modes.LooseUnpinned } else row) in omega arith) | inr entries ↦ inr entries ], r.1)
+refusal-moded w h new _ r = absurd r
+
+tells-moded : (before w : Core) (h : HandleNumber) (entries : List HandleRow) (new : Holdings) (r : Result (Unit {0}) Error) → TellsListing before w entries r (with_tables w new) → TellsListing before (with_mode w h modes.LooseUnpinned) entries r (with_tables (with_mode w h modes.LooseUnpinned) new)
+tells-moded before w h entries new (Ok u) tells = record { all = λ n m. tells.all n (must-plain before w h new n m); not_all = tells.not_all }
+tells-moded before w h entries new (Err e) tells = record { all = tells.all; not_all = let a = tells.not_all in (a.0, must-moded before w h new a.0 a.1, a.2, refusal-moded w h new e a.3) }
+
+module _ (T : Tables) (stored : ℕ → Option Blob) (closed lists : Bool) (failures : ℕ) (whole : IsWhole T) (opened : lists ≡ not closed) (x : HandleRow) (place : ℕ) (at : slice_get T.holdings.handles.places.items place ≡ Some (alive x)) (new : Holdings) (l : Lowers (record T.holdings { unlisted = None }) x lists new) where
+  abbrev old : Core
+  old = core_of T stored closed failures
+
+  abbrev now : Core
+  now = with_mode old x.number modes.LooseUnpinned
+
+  abbrev t : Holdings
+  t = record T.holdings { unlisted = None }
+
+  abbrev f : SoFar old old nobody lists t
+  f = begun-whole T stored closed lists failures whole opened
+
+  begins : Begins old now lists
+  begins =
+      record {
+        open_storage = opened;
+        fewer = λ n. let a = l.sums (λ h. one (is_pin n h)) in let b = ap (pins n) l.rows in let z : one (is_pin n (unpinned x)) ≡ 0 = grind (arith, nat_tests) in omega arith;
+        shared = λ n. let a = l.sums (λ h. one (is_share n h)) in let b = ap (sharing n) l.rows in let z : one (is_share n (unpinned x)) ≡ 0 = grind (arith, nat_tests) in omega arith;
+        uniform = λ n. elim (f.begins.uniform n) [
+          | inl none ↦ inl none
+          | inr none ↦ inr (let a = l.sums (λ h. one (is_plain_pin n h)) in let b = ap (times (is_plain_pin n)) l.rows in let z : one (is_plain_pin n (unpinned x)) ≡ 0 = grind (arith, nat_tests) in omega arith)
+        ];
+        listed = λ q. f.begins.listed q ∙ (let a = l.sums (λ h. one (is_handle q h && is_owned_by owners.List h)) in let b = ap (times (λ h. is_handle q h && is_owned_by owners.List h)) l.rows in omega arith);
+      }
+
+  after-rows : live new.handles.places.items ≡ live l.between.handles.places.items
+  after-rows = ap (λ (h : Holdings). live h.handles.places.items) l.same
+
+  since : l.lowered.last_handle ≡ t.last_handle
+  since = ap (λ (h : Holdings). h.last_handle) l.handles
+
+  last : new.last_handle ≡ t.last_handle + one l.listed
+  last = let a : new.last_handle ≡ l.between.last_handle = ap (λ (h : Holdings). h.last_handle) l.same in let b = l.comes.comes.last in let d = since in omega arith
+
+  rows : live new.handles.places.items ≡ left_rows nobody now.rows ++ entries_of l.listed (t.last_handle + 1) x.node
+  rows =
+      after-rows ∙ l.comes.comes.rows ∙ ap (λ k. live l.lowered.handles.places.items ++ entries_of l.listed (k + 1) x.node) since ∙ ap (λ r. r ++ entries_of l.listed (t.last_handle + 1) x.node) (l.rows ∙ sym (left-all now.rows))
+
+  abbrev came : List HandleNumber
+  came = if l.listed then record { 0 = t.last_handle + 1 } ∷ [] else []
+
+  added : new.list.items ≡ t.list.items ++ came
+  added = ap (λ (h : Holdings). h.list.items) l.same ∙ l.comes.comes.list ∙ ap (λ (h : Holdings). h.list.items ++ (if l.listed then record { 0 = h.last_handle + 1 } ∷ [] else [])) l.handles
+
+  here : (p : HandleRow → Bool) → one (p x) ≤ times p (live t.handles.places.items)
+  here p = row-le-live (λ h. one (p h)) t.handles.places.items place x at
+
+  left : (n : ℕ) → pins n (live new.handles.places.items) + one (is_pin n x) ≡ pins n (live t.handles.places.items)
+  left n =
+      let a = l.sums (λ h. one (is_pin n h)) in
+      let b = ap (pins n) (after-rows ∙ l.comes.comes.rows) in
+      let d = with-entry (λ h. one (is_pin n h)) (live l.lowered.handles.places.items) l.listed (l.lowered.last_handle + 1) x.node in
+      let e = entry-pins l.listed (l.lowered.last_handle + 1) n x.node in
+      let z : one (is_pin n (unpinned x)) ≡ 0 = grind (arith, nat_tests) in
+      omega arith
+
+  long : length (live l.lowered.handles.places.items) ≡ length old.rows
+  long = let a = l.sums (λ h. 1) in let b = ones (live l.lowered.handles.places.items) in let d = ones (live t.handles.places.items) in omega arith
+
+  wanting : (e : Error) → l.listed ≡ false → IsUnlisted l.lowered e → IsListRefusal old (with_tables old new) e
+  wanting e none why =
+      let listed = ap one none in
+      let k = last in
+      let s = since in
+      let p = l.places in
+      let list : length l.lowered.list.items ≡ length t.list.items = ap (λ (h : Holdings). length h.list.items) l.handles in
+      let more = ap length added in
+      let longer = length-append t.list.items came in
+      let m = long in
+      refusal-now old l.lowered new e why (omega arith) (omega arith) (omega arith) (omega arith) (omega arith) (omega arith)
+
+  told : TellsListing old old (entries_of l.listed (t.last_handle + 1) x.node) (told_by new.unlisted) (with_tables old new)
+  told =
+      let unlisted : l.lowered.unlisted ≡ None = ap (λ (h : Holdings). h.unlisted) l.handles in
+      let kept : new.unlisted ≡ l.between.unlisted = ap (λ (h : Holdings). h.unlisted) l.same in
+      tells-more old old nobody lists t f x l.counts l.is (whole.steady.fits.pinned x.node.0) here new left l.listed (t.last_handle + 1) l.comes.only None new.unlisted l.lowered f.tells
+      (λ s. kept ∙ l.comes.told s ∙ unlisted)
+      (λ none wanted. let y = l.comes.why none wanted in (y.0, y.1, kept ∙ y.2 ∙ ap (λ u. first_cause u y.0) unlisted))
+      wanting
+      (let a = last in omega arith)
+      (let a = ap length added in let b = length-append t.list.items came in omega arith)
+
+  few : new.top ≢ 0 → length (live new.handles.places.items) ≤ length now.rows
+  few falls =
+      elim (cases_Bool l.listed) [
+        | inl listed ↦ let y = listing-is l.counts x.mode (and_parts lists (is_listing l.counts x.mode) (l.comes.only listed)).1 in let k = l.keyed falls in absurd (cc (y.3, k))
+        | inr none ↦
+            let a = ap length (after-rows ∙ l.comes.comes.rows) in
+            let b = ap (λ b. length (live l.lowered.handles.places.items ++ entries_of b (l.lowered.last_handle + 1) x.node)) none in
+            let d = ap length (append-nil (live l.lowered.handles.places.items)) in
+            let e = ap length l.rows in
+            omega arith
+      ]
+
+  pub lowered-on : SoFar old now nobody lists new
+  lowered-on =
+      record {
+        begins = begins;
+        gone = nobody;
+        entries = entries_of l.listed (t.last_handle + 1) x.node;
+        rows = rows;
+        list = added ∙ ap (λ r. r ++ came) (sym (all-kept T.holdings.list.items)) ∙ ap (λ r. filter (λ (q : HandleNumber). true) T.holdings.list.items ++ r) (sym (entry-number l.listed (t.last_handle + 1) x.node));
+        last = last ∙ ap (λ k. t.last_handle + k) (sym (long-one l.listed (t.last_handle + 1) x.node));
+        within = subst (λ k. k ≤ greatest) (sym last) (within-more l.listed t.last_handle whole.core.handles.within.0 (λ y. subst (λ k. k < greatest) since (l.comes.comes.left y)));
+        places =
+            let p = l.places in
+            let q = l.comes.comes.places in
+            let a = ap (λ (h : Holdings). vec_capacity h.handles.places) l.same in
+            let b = ap (λ (h : Holdings). vec_capacity h.list) l.same in
+            record { handles = omega arith; entries = omega arith };
+        cells = λ n there. (l.cells n there).1;
+        holds = none-within nobody now.rows;
+        least = λ s final bare has closed. none-within s now.rows;
+        new = new-more t.last_handle [] l.listed (t.last_handle + 1) x.node tt (omega arith);
+        only = λ n some. let o = only-more old old nobody lists t f x l.counts l.is (whole.steady.fits.pinned x.node.0) here new left l.listed (t.last_handle + 1) l.comes.only n some in (must-moded old old x.number new n o.0, o.1);
+        tells = tells-moded old old x.number (entries_of l.listed (t.last_handle + 1) x.node) new (told_by new.unlisted) told;
+        few = few;
+      }

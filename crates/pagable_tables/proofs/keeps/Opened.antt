@@ -1,0 +1,33 @@
+-- A world as it would be with the storage open: of it all is whole that is whole of tables, whether the storage was closed or not.
+use Rattle.std.proofs.Common.{ℕ, Bool, false, refl}
+use Rattle.std.specs.Prelude.{Result}
+use Rattle.pagable_model.specs.declared.error.Error.{Error}
+use Rattle.pagable_world.specs.World.{Core, Alike}
+use Rattle.pagable_world.specs.Cascade.{Falls}
+use Rattle.pagable_world.specs.Pager.{IsWhole}
+use Rattle.pagable_tables.specs.Core.{ArePlaced}
+use Rattle.pagable_tables.proofs.keeps.Told.{settles}
+use Rattle.pagable_tables.proofs.keeps.Fallen.{MayFall, fallen-whole}
+
+abbrev pub opened : Core → Core
+opened w = record w { closed = false }
+
+pub alike-opened : {w w' : Core} → Alike w w' → Alike (opened w) (opened w')
+alike-opened a =
+    record {
+      rows = a.rows;
+      cells = a.cells;
+      list = a.list;
+      cache = record { gives = a.cache.gives; only = a.cache.only };
+      stored = a.stored;
+      closed = refl;
+      failures = a.failures;
+      loads = a.loads;
+      workers = a.workers;
+      last = a.last;
+      places = a.places;
+    }
+
+-- what has fallen leaves it whole
+pub falls-opened : {before u w' : Core} {given : ℕ → Bool} {r : Result (Unit {0}) Error} → MayFall (opened before) (opened u) given → Falls before u given r w' → ArePlaced (opened w') → IsWhole (opened w')
+falls-opened may f placed = settles (fallen-whole may f.gone f.entries f.set.holds f.new (λ n some. let m = (f.only n some).0 in (m.pinned, m.unshared, refl)) f.within) (alike-opened f.leaves) placed

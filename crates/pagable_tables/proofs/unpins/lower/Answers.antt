@@ -1,0 +1,107 @@
+use Rattle.std.proofs.Common.{◌≡◌, ℕ, Bool, ◌+◌, ◌-◌, ◌≤◌, true, false, if◌then◌else◌, [], ◌∷◌, sum_by, refl, ap, sym, ◌∙◌, subst, arith, Some, None}
+use Rattle.std.specs.Prelude.{◌≢◌}
+use Rattle.std.proofs.Common.{inl, inr}
+use Rattle.std.proofs.lemmas.Bool.{cases_eq}
+use Rattle.std.proofs.lemmas.Bool.Decides.{nat_tests}
+use Rattle.pagable_world.specs.declared.handles.HandleRow.{HandleRow}
+use Rattle.pagable_world.specs.Plain.{one}
+use Rattle.pagable_world.specs.Kinds.{is_pinning}
+use Rattle.pagable_tables.specs.declared.rows.Counts.{Counts}
+use Rattle.pagable_tables.specs.Live.{live}
+use Rattle.pagable_tables.specs.ByNumber.{counts_at, refs_at}
+use Rattle.pagable_tables.specs.Falling.{Fits, pins_in, holds_in, after, is_new, is_fallen_by, owns_nothing, entry, has_value, falls_in, ValueStays, MayList}
+use Rattle.pagable_tables.specs.Lowering.{unpinned}
+use Rattle.pagable_tables.proofs.Alive.{length-live-le, changed-known, row-le-live}
+use Rattle.pagable_tables.proofs.Coming.{held-few}
+use Rattle.pagable_tables.proofs.Fitting.{new-top, long-if, pin_of, handle_of, pin-here, held-here}
+use Rattle.pagable_tables.proofs.Leaving.{with-entry}
+use Rattle.pagable_tables.proofs.Lowered.{lower-fits, lower-cells, keyed-then}
+use Rattle.pagable_tables.proofs.unpins.lower.Goals as goal
+
+-- no value goes at once
+lowered-value : (y : Counts) (listed : Bool) (top : ℕ) → 1 ≤ y.pins → ValueStays (Some y) (Some (after (record y { holds = y.holds + 1 }) true listed top))
+lowered-value y listed top some falls = let stood : y.is_falling ≡ false = grind (arith, nat_tests) in (stood, grind (arith, nat_tests))
+
+pub unreachable-requires : goal.unreachable-requires
+unreachable-requires c =
+    let n = c.args.at.row.node.0 in
+    let w = c.requires.steady.fits.holding n in
+    let a : counts_at c.args.t.now.nodes n ≡ None = sym c.counts_of.ensures ∙ c.in_default.is in
+    let b = ap holds_in a in
+    let l = row-le-live (handle_of n) c.args.t.now.handles.places.items c.args.at.place c.args.at.row c.requires.place in
+    let h = held-here c.args.at.row in
+    absurd (omega arith)
+
+pub overflow_add-more : goal.overflow_add-more
+overflow_add-more c =
+    let n = c.args.at.row.node.0 in
+    let rows = live c.args.t.now.handles.places.items in
+    let is : counts_at c.args.t.now.nodes n ≡ Some c.in-Some.counts = sym c.counts_of.ensures ∙ c.in-Some.is in
+    let a = ap holds_in is in
+    let b = c.requires.steady.fits.holding n in
+    let h = held-few n rows in
+    let d = length-live-le c.args.t.now.handles.places.items in
+    let k = c.places_taken.ensures.count in
+    let s = c.places_taken.ensures.small in
+    omega arith
+
+top-falls : (b : Bool) (n : ℕ) (top : ℕ) → top ≡ 0 → (if b then n else top) ≢ 0 → b ≡ true
+top-falls true n top z some = refl
+top-falls false n top z some = absurd (some z)
+
+pub returns : goal.returns
+returns c =
+    let old = c.args.t.now in
+    let x = c.args.at.row in
+    let n = x.node.0 in
+    let w = c.requires.steady in
+    let counts = c.in-Some.counts in
+    let listed = c.enlist_if-listed.result in
+    let mid = c.enlist_if-listed.new.t in
+    let e = c.enlist_if-listed.ensures.comes in
+    let is : counts_at old.nodes n ≡ Some counts = sym c.counts_of.ensures ∙ c.in-Some.is in
+    let more : Counts = record counts { holds = counts.holds + 1 } in
+    let nodes : mid.nodes ≡ old.nodes = e.nodes in
+    let kept : mid.top ≡ old.top = e.top in
+    let left : c.counts_after-left.result ≡ after more true listed old.top = c.counts_after-left.ensures ∙ ap (after more true listed) kept in
+    let b = is_fallen_by more true (counts.pins - 1) (if listed then counts.holds + 1 else counts.holds + 1 - 1) in
+    let at = counts_at old.nodes in
+    let at' = counts_at c.set_counts.new.nodes in
+    let refs = refs_at old.nodes in
+    let refs' = refs_at c.set_counts.new.nodes in
+    let rows = live old.handles.places.items in
+    let rows' = live mid.handles.places.items in
+    let here : at' n ≡ Some (after more true listed old.top) = c.set_counts.ensures.here ∙ ap Some left in
+    let others : (m : ℕ) → m ≢ n → at' m ≡ at m = λ m ne. c.set_counts.ensures.others m ne ∙ ap (λ s. counts_at s m) nodes in
+    let same : (m : ℕ) → refs' m ≡ refs m = λ m. c.set_counts.ensures.refs m ∙ ap (λ s. refs_at s m) nodes in
+    let some : 1 ≤ counts.pins = (let a = w.fits.pinned n in let d = ap pins_in is in let l = row-le-live (pin_of n) old.handles.places.items c.args.at.place x c.requires.place in let h = pin-here x in let p = ap (λ m. one (is_pinning m)) c.requires.pinned in omega arith) in
+    let held : 1 ≤ counts.holds = (let a = w.fits.holding n in let d = ap holds_in is in let l = row-le-live (handle_of n) old.handles.places.items c.args.at.place x c.requires.place in let h = held-here x in omega arith) in
+    let top : c.top_after-t.result ≡ (if b then n else old.top) = c.top_after-t.ensures ∙ ap (λ (l : Counts). if is_new counts.is_falling l.is_falling then n else mid.top) left ∙ ap (λ t. if is_new counts.is_falling (after more true listed old.top).is_falling then n else t) kept ∙ new-top more true listed old.top n b refl in
+    let sums : (f : HandleRow → ℕ) → sum_by f rows' + f x ≡ sum_by f rows + f (unpinned x) + (if listed then f (entry (old.last_handle + 1) x.node) else 0) =
+    λ f. let a = c.set.ensures.sums f in let d = ap (sum_by f) e.rows in let g = with-entry f (live c.set.new.handles.places.items) listed (old.last_handle + 1) x.node in omega arith in
+    record {
+      counts = counts;
+      is = is;
+      listed = listed;
+      lowered = record old { handles = c.set.new.handles };
+      rows = c.set.ensures.rows ∙ changed-known unpinned old.handles.places.items c.args.at.place x w.sound.ordered c.requires.place;
+      sums = c.set.ensures.sums;
+      places = record { handles = omega arith; entries = omega arith };
+      handles = refl;
+      between = mid;
+      comes = subst (λ k. MayList (record old { handles = c.set.new.handles }) x.node k listed mid) c.wants_entry-wanted.ensures c.enlist_if-listed.ensures;
+      same = refl;
+      cells = lower-cells at at' refs refs' rows rows' old.top x counts listed (old.last_handle + 1) w.fits is c.requires.pinned c.requires.plain sums here others same some;
+      values = λ m. elim (cases_eq m n) [
+        | inl eq ↦ subst (λ k. ValueStays (at k) (at' k)) (sym eq) (subst (λ o. ValueStays o (at' n)) (sym is) (subst (ValueStays (Some counts)) (sym here) (lowered-value counts listed old.top some)))
+        | inr ne ↦ λ falls. (ap falls_in (sym (others m ne)) ∙ falls, ap has_value (others m ne))
+      ];
+      keyed = λ falls. keyed-then counts listed held (top-falls b n old.top w.fits.chain (λ z. falls (top ∙ z)));
+      more = if b then n ∷ [] else [];
+      falling = record {
+        sound = e.sound;
+        next = e.next;
+        fits = subst (λ t. Fits at' refs' rows' t (if b then n ∷ [] else []) owns_nothing) (sym top) (lower-fits at at' refs refs' rows rows' old.top x counts listed (old.last_handle + 1) w.fits is c.requires.pinned c.requires.plain sums here others same some b refl);
+      };
+      long = long-if b n [];
+    }

@@ -1,0 +1,35 @@
+-- A handle lets its pin go and stays.
+use Rattle.std.specs.Prelude.{ℕ, ◌≡◌, ◌≢◌, ◌+◌, ◌≤◌, ◌&&◌, Bool, true, List, length, sum_by, Some, nat_lt}
+use Rattle.pagable_world.specs.declared.handles.HandleRow.{HandleRow}
+use Rattle.pagable_world.specs.declared.rows.Mode.TheVariants as modes
+use Rattle.pagable_world.specs.Plain.{changed}
+use Rattle.pagable_world.specs.Kinds.{is_handle}
+use Rattle.pagable_tables.specs.declared.rows.Counts.{Counts}
+use Rattle.pagable_tables.specs.declared.holdings.Holdings.{Holdings}
+use Rattle.pagable_tables.specs.Live.{live}
+use Rattle.pagable_tables.specs.ByNumber.{counts_at}
+use Rattle.pagable_tables.specs.Falling.{is_listing, owns_nothing, CellsStay, HasPlaces, MayList, IsFalling, ValueStays}
+
+-- the row of a loose handle without its pin
+abbrev pub unpinned : HandleRow → HandleRow
+unpinned x = record x { mode = modes.LooseUnpinned }
+
+-- The handle of the row x is unpinned, and then an entry for its node may come. The node falls if it has a key and that was its last pin.
+pub record Lowers (old : Holdings) (x : HandleRow) (lists : Bool) (new : Holdings) : Type 0 where
+  pub counts : Counts
+  pub is : counts_at old.nodes x.node.0 ≡ Some counts
+  pub listed : Bool
+  pub lowered : Holdings
+  pub rows : live lowered.handles.places.items ≡ changed (is_handle x.number.0) unpinned (live old.handles.places.items)
+  pub sums : (f : HandleRow → ℕ) → sum_by f (live lowered.handles.places.items) + f x ≡ sum_by f (live old.handles.places.items) + f (unpinned x)
+  pub places : HasPlaces old lowered
+  pub handles : lowered ≡ record old { handles = lowered.handles }
+  pub between : Holdings
+  pub comes : MayList lowered x.node (lists && is_listing counts x.mode) listed between
+  pub same : new ≡ record between { nodes = new.nodes; top = new.top }
+  pub cells : CellsStay (counts_at old.nodes) (counts_at new.nodes)
+  pub values : (n : ℕ) → ValueStays (counts_at old.nodes n) (counts_at new.nodes n)
+  pub keyed : new.top ≢ 0 → nat_lt 0 counts.key ≡ true
+  pub more : List ℕ
+  pub falling : IsFalling new more owns_nothing
+  pub long : length more ≤ 1
