@@ -7,12 +7,14 @@ use Rattle.pagable_model.specs.declared.error.Error.TheVariants as errors
 use Rattle.pagable_world.specs.declared.handles.HandleRow.{HandleRow}
 use Rattle.pagable_world.specs.declared.handles.Owner.TheVariants as owners
 use Rattle.pagable_world.specs.declared.handles.Owner.{Owner}
-use Rattle.pagable_world.specs.Plain.{Error, ArcRef, Kind, HandleNumber, LoadNumber, Among, is_in, one, times, if_there}
-use Rattle.pagable_world.specs.Kinds.{find_row, is_owner, is_owned_by, pins}
+use Rattle.pagable_world.specs.Plain.{Error, ArcRef, Kind, HandleNumber, LoadNumber, NodeNumber, Among, is_in, one, times, if_there}
+use Rattle.pagable_world.specs.Kinds.{find_row, is_owner, is_owned_by, owner_worker, is_at, pins}
 use Rattle.pagable_world.specs.World.{Core, Values, Alike, row_at, usable}
+use Rattle.pagable_world.specs.Cascade.{FallsAnyhow}
 use Rattle.pagable_world.specs.Refusals.{refused_if, named_fault}
 use Rattle.pagable_world.specs.Calls.{is_named_by, is_listed, UnpinCall, ReleaseCall, SetKeyCall, ScheduleCall, OfferCall, CloseCall}
 use Rattle.pagable_world.specs.LoadCalls.{is_owned_in, numbers_of, Adopts, EndCall, HandOverCall, DropCall, LoadCloses}
+use Rattle.pagable_world.specs.Workers.{is_workers_at, is_load_of, WorkerEnds}
 use Rattle.pagable_world.specs.Pager.{PagerState, IsWhole, WellFormed}
 use Rattle.pagable_laws.specs.TreeSteps.{AreGood}
 use Rattle.pagable_laws.proofs.Sums.{same-number, one-true, counted}
@@ -33,12 +35,18 @@ module _ {w : Core} (whole : IsWhole w) where
   not-loads : (l : LoadNumber) (o : Owner) → o ≡ owners.Load l → NotValues o
   not-loads l o is n own = not-load l n (sym is ∙ own)
 
+  -- handles whose rows pass a test that no value's passes
+  by-row : (test : HandleRow → Bool) → ((h : HandleRow) (n : NodeNumber) → h.owner ≡ owners.Value n → test h ≡ false) → AreFree w (λ q. if_there test false (find_row q w.rows))
+  by-row test none h among is n own =
+      let f : true ≡ false = sym is ∙ (ap (if_there test false) (found-whole whole.handles h among) ∙ none h n own) in
+      absurd (cc)
+
   -- what a load owns
   pub load-free : (l : LoadNumber) → AreFree w (is_owned_in w (owners.Load l))
-  load-free l h among is = not-loads l h.owner (same-owner (owners.Load l) h.owner (sym (ap (if_there (is_owned_by (owners.Load l)) false) (found-whole whole.handles h among)) ∙ is))
+  load-free l = by-row (is_owned_by (owners.Load l)) (λ h n own. ap (is_owner (owners.Load l)) own)
 
   -- what else is asked of it
-  pub both-free : (f g : ℕ → Bool) → AreFree w f → AreFree w (λ q. f q && g q)
+  both-free : (f g : ℕ → Bool) → AreFree w f → AreFree w (λ q. f q && g q)
   both-free f g free h among is = free h among (and_parts (f h.number.0) (g h.number.0) is).0
 
   -- what good references name
@@ -113,6 +121,17 @@ module _ {N E : Type 0} {v : Values N} {s s' : PagerState N E} (is : WellFormed 
 
   pub closed : {r : Result (Unit {0}) Error} → CloseCall s.core r s'.core → WellFormed v s'
   closed c = fell is (spares-keeps (spares-same refl (λ n. refl))) c.falls.falls (all-listed-free is.whole) left
+
+  -- a worker releases the node that it has walked
+  pub worker_released : (u n : ℕ) → FallsAnyhow s.core s.core (is_workers_at s.core u n) s'.core → WellFormed v s'
+  worker_released u n f =
+      fell is (spares-keeps still) f.falls (by-row is.whole (λ row. is_owned_by (owner_worker u) row && is_at n row) (λ h m own. ap (λ o. is_owner (owner_worker u) o && is_at n h) own)) left
+
+  -- a worker ends, and so do its loads
+  pub worker_ended : (u : ℕ) → WorkerEnds s.core u s'.core → WellFormed v s'
+  worker_ended u f =
+      let free = by-row is.whole (λ row. is_owner (owner_worker u) row.owner || is_load_of s.core u row.owner) (λ h m own. ap (λ o. is_owner (owner_worker u) o || is_load_of s.core u o) own) in
+      fell is (spares-keeps (spares-same refl (λ n. refl))) f.falls free left
 
   module _ {me : Owner} (none : NotValues me) where
     pub released : {h : HandleNumber} {r : Result (Unit {0}) Error} → ReleaseCall s.core me h r s'.core → WellFormed v s'
