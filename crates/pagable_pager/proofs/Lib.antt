@@ -4,3 +4,5 @@ pub mod Kept
 pub mod Sweeping
 pub mod Spared
 pub mod Stored
+pub mod Shed
+pub mod Shut

@@ -6,7 +6,7 @@ use Rattle.std.specs.declared.hash.FoldHasher.{FoldHasher}
 use Rattle.std.specs.declared.hash.BuildHasherDefault.{BuildHasherDefault}
 use Rattle.std.specs.HashMap.{HashMap, get}
 use Rattle.std.specs.Option.{option_map}
-use Rattle.std.specs.Prelude.{ℕ, ◌≡◌, Bool, List, Option, nat_eq}
+use Rattle.std.specs.Prelude.{ℕ, ◌≡◌, Bool, List, Option, Some, nat_eq}
 use Rattle.pagable_model.specs.declared.numbers.ArcRef.{ArcRef}
 use Rattle.pagable_world.specs.Plain.{Blob, Error, Meaning, Shape}
 use Rattle.pagable_world.specs.World.{Core, Values}
@@ -89,4 +89,10 @@ pub record OnlyTables {N S E : Type 0} (old new : PagerView N S E) : Type 0 wher
 pub record OnlyStorage {N S E : Type 0} (old new : PagerView N S E) : Type 0 where
   pub tables : new.tables ≡ old.tables
   pub values : new.values ≡ old.values
+  pub environment : new.environment ≡ old.environment
+
+-- storage and environment are the same, and each value that is there was there before
+pub record OnlyLess {N S E : Type 0} (old new : PagerView N S E) : Type 0 where
+  pub values : (n : ℕ) (x : N) → value_in new.values n ≡ Some x → value_in old.values n ≡ Some x
+  pub storage : new.storage ≡ old.storage
   pub environment : new.environment ≡ old.environment

@@ -9,6 +9,7 @@ pub mod handles;
 pub mod known;
 pub mod loads;
 pub mod places;
+pub mod releases;
 pub mod stores;
 
 use indexmap::IndexMap;

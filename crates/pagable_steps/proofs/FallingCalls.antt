@@ -89,10 +89,7 @@ module _ {w : Core} (whole : IsWhole w) where
 still : {w : Core} → Spares w w
 still = spares-same refl (λ n. refl)
 
-module _ {N E : Type 0} {v : Values N} {s s' : PagerState N E} (is : WellFormed v s)
-    (swept : Sweeps s.values s'.core s'.values) (counts : (n : ℕ) → s'.counts n ≡ pins n s'.core.rows) (whole : IsWhole s'.core) where
-  left : Leaves s.values s'
-  left = record { swept = swept; counted = counts; whole = whole }
+module _ {N E : Type 0} {v : Values N} {s s' : PagerState N E} (is : WellFormed v s) (left : Leaves s.values s') where
 
   stays : Alike s.core s'.core → WellFormed v s'
   stays a = stayed is (spares-alike a) left
