@@ -1,7 +1,8 @@
 //! The pager: values in memory, in step with tables of who holds them, over a storage of blobs.
 
-ghost use Rattle.std.specs.Prelude.{◌≡◌, [], IfOk, IfSome, IfNone};
-ghost use Rattle.pagable_world.specs.Calls.{Looks};
+ghost use Rattle.std.specs.Prelude.{◌≡◌};
+ghost use Rattle.std.specs.Option.{option_map};
+ghost use Rattle.pagable_world.specs.World.{seen_as};
 ghost use Rattle.pagable_world.specs.Pager.{IsNew, ValueCall, WellFormed};
 ghost use Rattle.pagable_pager.specs.View.{state_in, telling, spelling, values_of};
 
@@ -15,7 +16,9 @@ pub mod stores;
 use indexmap::IndexMap;
 use pagable_codec::{Env, NodeSet};
 use pagable_core::PagableStorage;
+use pagable_model::{Error, HandleNumber};
 use pagable_tables::tables::Tables;
+use pagable_tables::{lookups, start};
 use std::alloc::Global;
 use std::marker::Model;
 use std::sync::Arc;
@@ -56,6 +59,33 @@ impl<E: Env, S: PagableStorage<E>> Pager<E, S>
 where
     E::Node: NodeSet<E>,
 {
+    /// A pager of nothing, over a storage as it stands. It takes no memory.
+    pub fn new(alloc: Global, storage: S, env: E) -> Pager<E, S>
+        ensures empty { IsNew (state_in (telling S.stored S.is_closed S.failed) result) }
+        ensures storage { result.storage ≡ storage }
+        ensures environment { result.environment ≡ env }
+    {
+        Pager {
+            tables: start::new(alloc),
+            values: IndexMap::new(alloc),
+            storage,
+            env,
+        }
+    }
+
+    /// The value of a handle's node, where the handle pins it, and else None. Refused with NoSuchHandle.
+    pub fn value(&self, handle: HandleNumber) -> Result<Option<&E::Node>, Error>
+        ensures { ValueCall (state_in (telling S.stored S.is_closed S.failed) self.now) handle (seen_as (option_map (λ x. x.now)) result) }
+    {
+        let Some(node) = lookups::pinned_node(&self.tables, handle)? else {
+            return Ok(None);
+        };
+        match self.values.get(&node.0) {
+            Some(value) => Ok(Some(value.as_ref())),
+            None => unreachable!(),
+        }
+    }
+
     /// The environment.
     pub fn env(&self) -> &E
         ensures { result.now ≡ self.now.environment }

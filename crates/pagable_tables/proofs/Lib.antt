@@ -36,3 +36,4 @@ mod KeyPut
 mod Seen
 mod Handed
 mod KeySet
+mod Nothing
