@@ -27,6 +27,7 @@ use Rattle.pagable_laws.proofs.PinSteps.{pins-hold}
 use Rattle.pagable_laws.proofs.EventSteps.{does-feels}
 use Rattle.pagable_laws.proofs.ReadingStepsHeld.{event-held}
 use Rattle.pagable_laws.proofs.ReadingStepsGive.{reads-give}
+use Rattle.pagable_laws.proofs.KnownSteps.{ReadingsAsked, event-asked}
 
 module _ {N E B W : Type 0} (m : Seen N B W) (s s' : MachineState N E) (trees trees' : ℕ → Tree) (whole : IsMachineWhole m.values s') (stands : StandsFor m.values s' trees') where
   given-tree : (k : HandleNumber) → HasPin s'.pager.core k → GivesTree m.values s'.pager trees' k
@@ -49,10 +50,11 @@ pub record IsGoingOn {N E : Type 0} (v : Values N) (s : MachineState N E) (trees
   pub fits : WorkFits v s trees
   pub held : KeysHeld (world_of s)
   pub reads : ReadingsHeld (world_of s)
+  pub asked : ReadingsAsked v.types (world_of s)
 
 module _ {N E B W : Type 0} (m : Seen N B W) (lawful : IsLawful m.values) (readable : ReadsItsTypes m.values.types) where
   pub idle-goes : (s : MachineState N E) (trees : ℕ → Tree) → IsMachineWhole m.values s → IsIdle s → HoldsSettled m.values s.pager → StandsFor m.values s trees → IsGoingOn m.values s trees
-  idle-goes s trees whole idle settled stands = record { whole = whole; work = idle-stands s idle; settled = settled; stands = stands; given = λ reading is. absurd (none-reads reading is); fits = fits-at-first m.values s trees idle; held = held-at-first s idle; reads = λ reading is. absurd (none-reads reading is) }
+  idle-goes s trees whole idle settled stands = record { whole = whole; work = idle-stands s idle; settled = settled; stands = stands; given = λ reading is. absurd (none-reads reading is); fits = fits-at-first m.values s trees idle; held = held-at-first s idle; reads = λ reading is. absurd (none-reads reading is); asked = λ reading is. absurd (none-reads reading is) }
     where
       none-reads : (reading : Reading) → IsReadingOf s.work reading → ⊥
       none-reads reading (of_caller l is) = let f = idle.readings l in cc
@@ -79,7 +81,7 @@ module _ {N E B W : Type 0} (m : Seen N B W) (lawful : IsLawful m.values) (reada
       record {
         trees' = a.after;
         after = record { keeps = a.keeps; stands = a.stands; so = so };
-        on = record { whole = does.whole; work = turns-stand m turns on.work; settled = premised.settled; stands = a.stands; given = a.given; fits = fits; held = held; reads = event-held m.values on.reads x.event x.reply feels.core feels.feels };
+        on = record { whole = does.whole; work = turns-stand m turns on.work; settled = premised.settled; stands = a.stands; given = a.given; fits = fits; held = held; reads = event-held m.values on.reads x.event x.reply feels.core feels.feels; asked = event-asked m.values on.asked x.event x.reply feels.feels };
       }
 
   stay : (s : MachineState N E) (trees : ℕ → Tree) (moments : List (Moment N E B W)) → IsGoingOn m.values s trees → AreMoments m s moments → TreesAlong m (IsRight m.values) s trees moments
