@@ -1,5 +1,5 @@
 -- What a blob asks for that is a form of some value: one reference of the form after another, each as its own kind, and when all are got it is read.
-use Rattle.std.proofs.Common.{◌≡◌, ℕ, ◌+◌, ◌<◌, ◌==◌, true, List, [], ◌∷◌, ◌++◌, map, length, Option, Some, None, Result, Ok, Err, refl, sym, ap, subst, ◌∙◌, arith, append_assoc}
+use Rattle.std.proofs.Common.{◌≡◌, ℕ, ◌+◌, ◌<◌, ◌≤◌, ◌==◌, true, List, [], ◌∷◌, ◌++◌, map, length, Option, Some, None, Result, Ok, Err, refl, sym, ap, subst, ◌∙◌, arith, append_assoc}
 use Rattle.std.specs.Prelude.{slice_get}
 use Rattle.std.proofs.lemmas.Option.{slice_get-get_or}
 use Rattle.std.proofs.lemmas.List.{append-nil}
@@ -8,12 +8,13 @@ use Rattle.pagable_model.specs.declared.error.Error.TheVariants as errors
 use Rattle.pagable_model.specs.Steps.{◌>>=◌}
 use Rattle.pagable_model.specs.Meaning.{Meaning, rename}
 use Rattle.pagable_model.specs.Reading.{Rest, read, deepest}
+use Rattle.pagable_model.specs.References.{references_in}
 use Rattle.pagable_model.specs.Form.{Form}
 use Rattle.pagable_model.specs.Writing.{kind_of_arc}
 use Rattle.pagable_model.specs.Merkle.{blob_of}
 use Rattle.pagable_model.specs.Standing.{Answer, answer_at, handles_at}
 use Rattle.pagable_model.specs.Canonical.{IsReadable, Throughout}
-use Rattle.pagable_world.specs.Plain.{ArcRef, Kind, Blob, Shape, Types, is_eager}
+use Rattle.pagable_world.specs.Plain.{ArcRef, Kind, Blob, Shape, Types, is_eager, times}
 use Rattle.pagable_world.specs.World.{Frame}
 use Rattle.pagable_world.specs.Loads.{answer_of, answers_from, read_with, Next, reads, asks, next_by, next_of, next_in}
 use Rattle.pagable_laws.specs.FormLaws.{rest, at, LooksUp, no-references, more-references}
@@ -99,7 +100,7 @@ ok-of : {X Y R : Type 0} (f : X × R → Y × R) (r : Result (X × R) Error) (y 
 ok-of f (Ok x) y is = (x, refl)
 ok-of f (Err d) y is = absurd (cc)
 
--- A blob that is a form of a value of the type: its bytes, and a key for each reference.
+-- A blob that is a form of a value of the type, which names no handle twice: its bytes, and a key for each reference.
 pub record IsFormOf (types : Types) (t : ℕ) (blob : Blob) (refs : List ArcRef) : Type 0 where
   pub shape : Shape
   pub own : Meaning ArcRef
@@ -107,6 +108,7 @@ pub record IsFormOf (types : Types) (t : ℕ) (blob : Blob) (refs : List ArcRef)
   pub can : Throughout IsReadable types.parts shape
   pub form : Form ArcRef kind_of_arc types.parts deepest shape own blob.bytes refs
   pub as_many : length blob.keys ≡ length refs
+  pub once : (q : ℕ) → times (λ (r : ArcRef). r.handle.0 == q) (references_in own) ≤ 1
 
 module _ (types : Types) (t : ℕ) (blob : Blob) (refs : List ArcRef) (f : IsFormOf types t blob refs) where
   abbrev input : List ArcRef → Rest Answer
@@ -212,4 +214,17 @@ module _ (types : Types) (t : ℕ) (blob : Blob) (refs : List ArcRef) (f : IsFor
           asks-known (length m.done) q a.0 (ap (λ (rs : List ArcRef). slice_get rs (length m.done)) split ∙ at-place m.done q left) a.1 a.2
 
       by : Matches refs got → NextOf blob refs (next_of types t blob got)
+      by m = by-left m m.left m.split
+
+  -- where it is read, all were got
+  pub all-got : {got : List ArcRef} → GotAsked types t blob got → (own : Meaning ArcRef) → next_of types t blob got ≡ reads own → kinds_of got ≡ kinds_of refs
+  all-got {got} h own is = by (matches h)
+    where
+      by-left : (m : Matches refs got) (left : List ArcRef) → refs ≡ m.done ++ left → kinds_of got ≡ kinds_of refs
+      by-left m [] split = m.same ∙ ap kinds_of (sym (split ∙ append-nil m.done))
+      by-left m (q ∷ left) split =
+          let a = asks-next types t blob refs f got m.done q left split m.same in
+          absurd (let e : asks q.kind a.0 ≡ reads own = sym a.2 ∙ is in cc)
+
+      by : Matches refs got → kinds_of got ≡ kinds_of refs
       by m = by-left m m.left m.split

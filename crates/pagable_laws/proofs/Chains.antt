@@ -72,7 +72,7 @@ module _ {N E B W : Type 0} (m : Seen N B W) (lawful : IsLawful m.values) (reada
       let ready = keys-ready m.values s trees readable on.fits on.held in
       let a = keeps-trees m lawful readable s x.after trees x.event x.reply on.stands on.given on.settled on.whole does.whole ready premised.well does.moves feels in
       let turns = event-turns m (world_of s) (world_of x.after) on.work (λ v w there. (on.whole.walkings v w there).table.1) x.event x.reply does.step.happens in
-      let fits = fits-on m s x.after trees a.after (record { kept = feels.core.stored; last = feels.core.nodes; trees = a.keeps }) on.fits on.whole on.stands.pager on.settled readable on.work x.event x.reply turns does.writes in
+      let fits = fits-on m s x.after trees a.after (record { kept = feels.core.stored; last = feels.core.nodes; trees = a.keeps }) on.fits on.whole on.stands.pager on.settled readable lawful on.work x.event x.reply turns does.writes in
       let held = held-on m s x.after x.event x.reply turns on.whole premised.stays_open does on.held in
       let pins = pins-hold m (world_of s) (world_of x.after) x.event x.reply on.whole.pager.whole.handles does.step.happens in
       let keys = keys-right m s x.after trees a.after on.fits fits on.whole does.whole a.stands on.held held x.event x.reply does.step.happens in

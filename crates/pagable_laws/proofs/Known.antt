@@ -2,7 +2,7 @@
 use Rattle.std.proofs.Common.{◌≡◌, ℕ, zero, suc, ◌+◌, ◌<◌, ◌≤◌, Bool, true, false, List, [], ◌∷◌, length, Option, Some, None, refl, sym, ap, subst, ◌∙◌, inl, inr, if◌then◌else◌, arith}
 use Rattle.std.specs.Prelude.{slice_get}
 use Rattle.pagable_model.specs.Merkle.{blob_of}
-use Rattle.pagable_world.specs.Plain.{Error, ArcRef, Kind, Identity, Blob, Tree, Types, type_of, Among, is_eager, above, longest_path}
+use Rattle.pagable_world.specs.Plain.{Error, ArcRef, Kind, Identity, Blob, Meaning, Tree, Types, type_of, Among, is_eager, above, longest_path}
 use Rattle.pagable_world.specs.Kinds.{identity_of}
 use Rattle.pagable_world.specs.World.{Shelf, Outcome, published, Written, Frame, Values}
 use Rattle.pagable_world.specs.Loads.{Next, reads, asks, is_faulty, next_in, need_at, need_of, needs_nested, needs_lazy, is_broken}
@@ -16,7 +16,8 @@ use Rattle.pagable_laws.proofs.Trees.{same_some}
 use Rattle.pagable_laws.proofs.Fitting.{asked}
 use Rattle.pagable_laws.proofs.Heights.{AllLow}
 use Rattle.pagable_laws.proofs.HeightSteps.{HeightsIn}
-use Rattle.pagable_laws.proofs.Asking.{IsFormOf, GotAsked, FramesAsked, NextOf, asks-known, all-read, next-known}
+use Rattle.pagable_laws.proofs.Asking.{IsFormOf, GotAsked, FramesAsked, NextOf, asks-known, all-read, next-known, all-got}
+use Rattle.pagable_laws.proofs.ReadingStepsKinds.{kinds_of}
 
 as-many-keys : (shelf : Shelf) (rs : List ArcRef) (keys : List ℕ) → AreKeysOf shelf rs keys → length keys ≡ length rs
 as-many-keys shelf [] [] all = refl
@@ -70,7 +71,7 @@ module _ {N E : Type 0} (v : Values N) (s : MachineState N E) (trees : ℕ → T
       let there : v.types.nodes frame.node_type ≡ Some w.shape = ap v.types.nodes typed ∙ w.is in
       let same : blob_of written.bytes b.2.keys ≡ frame.blob = same_some _ _ (sym b.2.is_stored ∙ is) in
       let form : IsFormOf v.types frame.node_type (blob_of written.bytes b.2.keys) written.references =
-          record { shape = w.shape; own = w.own; is = there; can = readable frame.node_type w.shape there; form = w.form; as_many = as-many-keys shelf written.references b.2.keys b.2.known } in
+          record { shape = w.shape; own = w.own; is = there; can = readable frame.node_type w.shape there; form = w.form; as_many = as-many-keys shelf written.references b.2.keys b.2.known; once = w.once } in
       record {
         refs = written.references;
         form = subst (λ (x : Blob). IsFormOf v.types frame.node_type x written.references) same form;
@@ -154,6 +155,17 @@ module _ {N E : Type 0} (v : Values N) (s : MachineState N E) (trees : ℕ → T
       where
         within : (b h n limit : ℕ) → b + 1 ≤ h → h + n ≤ limit + 1 → limit ≤ longest_path → n ≤ longest_path
         within b h n limit le few small = omega arith
+
+    -- the innermost blob is a form of some value, and where it is read all of its references were got
+    pub record IsFormed (frame : Frame) (own : Meaning ArcRef) : Type 0 where
+      pub refs : List ArcRef
+      pub form : IsFormOf v.types frame.node_type frame.blob refs
+      pub kinds : kinds_of frame.got ≡ kinds_of refs
+
+    pub formed : (frame : Frame) (below : List Frame) → FramesFit v.types stored trees root_key root_type (frame ∷ below) → FramesAsked v.types (frame ∷ below) → (own : Meaning ArcRef) → next_in v.types frame ≡ reads own → IsFormed frame own
+    formed frame below fits got own is =
+        let t = top-known frame below fits got in
+        record { refs = t.known.refs; form = t.known.form; kinds = all-got v.types frame.node_type frame.blob t.known.refs t.known.form (first-asked frame below got) own is }
 
     -- nothing of it is refused as faulty
     pub not-broken : (frames : List Frame) → FramesFit v.types stored trees root_key root_type frames → FramesAsked v.types frames → (e : Error) → need_of v.types frames ≡ is_broken e → ⊥

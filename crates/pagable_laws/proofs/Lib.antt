@@ -106,3 +106,7 @@ mod Identities
 mod Known
 mod Sound
 mod Soundly
+mod Apart
+mod LoadsLive
+mod LoadsReady
+mod OnePiece

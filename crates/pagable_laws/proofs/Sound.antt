@@ -26,8 +26,9 @@ use Rattle.pagable_laws.proofs.Taking.{adopted-over}
 use Rattle.pagable_laws.proofs.Fitting.{first-typed}
 use Rattle.pagable_laws.proofs.HeightSteps.{HeightsIn}
 use Rattle.pagable_laws.proofs.ReadingStepsMachine.{reading-stands}
-use Rattle.pagable_laws.proofs.Asking.{FramesAsked}
-use Rattle.pagable_laws.proofs.Known.{root-there, needed, not-broken}
+use Rattle.pagable_laws.proofs.Asking.{IsFormOf, FramesAsked}
+use Rattle.pagable_laws.proofs.Known.{root-there, needed, not-broken, formed}
+use Rattle.pagable_laws.proofs.ReadingStepsKinds.{kinds_of}
 use Rattle.pagable_laws.proofs.KnownSteps.{ReadingsAsked, eager-nested}
 
 -- ---- refusals
@@ -109,10 +110,16 @@ same-type a b is = ap (λ x. not (x == b)) is ∙ ap not (self-number b)
 
 -- ---- the load
 
+-- the blob is a form of some value, and all of its references were got
+pub record IsForm {N : Type 0} (v : Values N) (frame : Frame) : Type 0 where
+  pub refs : List ArcRef
+  pub form : IsFormOf v.types frame.node_type frame.blob refs
+  pub kinds : kinds_of frame.got ≡ kinds_of refs
+
 -- Why it is refused: by chance, by a reference of what was read, or by the handle that began it.
 pub data Cause {N : Type 0} (v : Values N) (w : Core) (load : OpenLoad) (reading : Reading) (e : Error) : Type 0 where
   by-chance : IsOfChance e → Cause v w load reading e
-  by-references : (frame : Frame) (below : List Frame) (x : N) → reading.frames ≡ frame ∷ below → IsDecoded v frame x → references_fault w (owners.Load reading.load) [] (v.references x) ≡ Some e → Cause v w load reading e
+  by-references : (frame : Frame) (below : List Frame) (x : N) → reading.frames ≡ frame ∷ below → (decoded : IsDecoded v frame x) → IsForm v frame → references_fault w (owners.Load reading.load) [] (v.references x) ≡ Some e → Cause v w load reading e
   by-handle : (node : NodeNumber) (t : ℕ) (h : HandleNumber) → load.root ≡ of_cell node t h → handle_fault w owners.Caller h any_mode ≡ Some e → Cause v w load reading e
 
 module _ {N B W E : Type 0} (m : Seen N B W) (s : MachineState N E) (trees : ℕ → Tree) (whole : IsMachineWhole m.values s) (stands : StandsFor m.values s trees) (lawful : IsLawful m.values) (readable : ReadsItsTypes m.values.types)
@@ -205,6 +212,12 @@ module _ {N B W E : Type 0} (m : Seen N B W) (s : MachineState N E) (trees : ℕ
     front-lazy [] kind key is = absurd (cc)
     front-lazy (top ∷ below) kind key is = lazy-loose below (next_in v.types top) kind key is
 
+    form-of : (frame : Frame) (below : List Frame) → reading.frames ≡ frame ∷ below → (x : N) → IsDecoded v frame x → IsForm v frame
+    form-of frame below is x decoded =
+        let k = formed v s trees fit low readable out.t load.key reading.node_type out.i out.height out.known typed frame below (subst (λ fs. FramesFit v.types w.stored trees load.key reading.node_type fs) is is-read.fits)
+            (subst (λ fs. FramesAsked v.types fs) is is-read.asked) decoded.own decoded.read in
+        record { refs = k.refs; form = k.form; kinds = k.kinds }
+
     -- ---- asking
 
     vain-chance : (want : Want) (key : ℕ) (blob : Blob) (mid : Core) (e : Error) → w.stored key ≡ Some blob → (let r : Result Blob Error = Err e in FetchCall w key r mid) → IsOfChance e
@@ -274,7 +287,7 @@ module _ {N B W E : Type 0} (m : Seen N B W) (s : MachineState N E) (trees : ℕ
               | inr c ↦ elim (either (refused_if (not (v.node_type r.x == type_of n.top.kind.0)) errors.WrongKind) _ e c) [
                 | inl a ↦ absurd (never (not (v.node_type r.x == type_of n.top.kind.0)) errors.WrongKind e (same-type (v.node_type r.x) (type_of n.top.kind.0) (n.decoded.typed ∙ right.1)) a)
                 | inr d ↦ elim (either (references_fault w (owners.Load reading.load) [] (v.references r.x)) (node_fault w n.top.kind n.top.key) e d) [
-                  | inl a ↦ by-references n.top n.below r.x n.frames n.decoded a
+                  | inl a ↦ by-references n.top n.below r.x n.frames n.decoded (form-of n.top n.below n.frames r.x n.decoded) a
                   | inr f ↦ by-chance (node-chance w n.top.kind n.top.key e f)
                 ]
               ]
@@ -296,7 +309,7 @@ module _ {N B W E : Type 0} (m : Seen N B W) (s : MachineState N E) (trees : ℕ
           | inl a ↦ absurd (no-load-fault e a)
           | inr b ↦ elim (either (if_there (λ (x : OpenLoad). root_fault w owners.Caller (v.node_type r.x) x.root) None (w.loads reading.load.0)) (references_fault w (owners.Load reading.load) [] (v.references r.x)) e b) [
             | inl a ↦ by-chance (root-chance r a)
-            | inr f ↦ by-references r.reads_root.root [] r.x r.reads_root.frames r.reads_root.decoded f
+            | inr f ↦ by-references r.reads_root.root [] r.x r.reads_root.frames r.reads_root.decoded (form-of r.reads_root.root [] r.reads_root.frames r.x r.reads_root.decoded) f
           ]
         ]
       ]

@@ -86,7 +86,7 @@ module _ {N B W E : Type 0} (m : Seen N B W) (lawful : IsLawful m.values) (reada
   load-faultless : (event : Event N B W) (reply : EventReply N B W) → Happens m (world_of s) event reply (world_of s') → LoadIsFaultless s trees event reply s' trees'
   load-faultless (events.LoadStep l) (answers.LoadMoved (Ok reply)) is = λ load e open_load paged ended. elim (load-cause l reply is.moves load e open_load paged ended) [
     | by-chance chance ↦ inl chance
-    | by-references frame below x frames decoded fault ↦ inr (by-all s.pager.core _ [] (m.values.references x) e fault)
+    | by-references frame below x frames decoded form fault ↦ inr (by-all s.pager.core _ [] (m.values.references x) e fault)
     | by-handle node t h root fault ↦ inr (by-handle-row s.pager.core owners.Caller h any_mode e fault)
   ]
   load-faultless (events.LoadStep l) (answers.LoadMoved (Err e)) is = tt

@@ -3,6 +3,7 @@
 ghost use Rattle.pagable_world.specs.Headline.{HeadlineLaw};
 ghost use Rattle.pagable_world.specs.OneWorker.{OneIdentityLaw};
 ghost use Rattle.pagable_laws.specs.DeepLaws.{ShallowLaw, DeepClaimLaw, FaultlessLaw};
+ghost use Rattle.pagable_laws.specs.LoadLaws.{SoundLaw};
 
 use crate::world::SeenAs;
 
@@ -27,6 +28,12 @@ pub fn deep_claims_have_a_cause<N: SeenAs<B, W>, B, W, E>()
 #[tactic(auto, using(crate::proofs::Soundly::faultless_law))]
 pub fn loads_are_faultless<N: SeenAs<B, W>, B, W, E>()
     ensures { FaultlessLaw E N.seen }
+{}
+
+/// A load of a cell whose key a page-out set is refused by chance alone, where each load begins in the chain and is done in one piece.
+#[tactic(auto, using(crate::proofs::OnePiece::sound_law))]
+pub fn loads_are_sound<N: SeenAs<B, W>, B, W, E>()
+    ensures { SoundLaw E N.seen }
 {}
 
 /// Two references that are got through one cache, which reading alone fills, have one identity only if kind and key are the same, and then always while the node is held.
