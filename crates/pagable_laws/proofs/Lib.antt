@@ -110,3 +110,4 @@ mod Apart
 mod LoadsLive
 mod LoadsReady
 mod OnePiece
+mod DeepLoads

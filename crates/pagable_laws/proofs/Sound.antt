@@ -33,7 +33,7 @@ use Rattle.pagable_laws.proofs.KnownSteps.{ReadingsAsked, eager-nested}
 
 -- ---- refusals
 
-either : (a b : Option Error) (e : Error) → earlier a b ≡ Some e → (a ≡ Some e) ⊎ (b ≡ Some e)
+pub either : (a b : Option Error) (e : Error) → earlier a b ≡ Some e → (a ≡ Some e) ⊎ (b ≡ Some e)
 either None b e is = inr is
 either (Some x) None e is = inl is
 either (Some x) (Some y) e is = by (nat_lt (rank y) (rank x)) is

@@ -54,7 +54,7 @@ by-one w owner seen r e is = at (row_at w r.handle) is
     at None is = of-handles errors.NoSuchHandle e tt is
     at (Some row) is = by-row w r (not (is_owner owner row.owner) || is_in seen r.handle.0) row e is
 
-by-all : (w : Core) (owner : Owner) (seen : List ℕ) (rs : List ArcRef) (e : Error) → references_fault w owner seen rs ≡ Some e → IsOfHandles e
+pub by-all : (w : Core) (owner : Owner) (seen : List ℕ) (rs : List ArcRef) (e : Error) → references_fault w owner seen rs ≡ Some e → IsOfHandles e
 unfolding references_fault
 by-all w owner seen [] e is = absurd (cc)
 by-all w owner seen (r ∷ rs) e is = at (λ f. by-all w owner (r.handle.0 ∷ seen) rs e f) (reference_fault w owner seen r) refl is
@@ -63,7 +63,7 @@ by-all w owner seen (r ∷ rs) e is = at (λ f. by-all w owner (r.handle.0 ∷ s
     at later None first is = later is
     at later (Some f) first is = by-one w owner seen r e (first ∙ is)
 
-by-handle-row : (w : Core) (me : Owner) (h : HandleNumber) (fits : Mode → Bool) (e : Error) → handle_fault w me h fits ≡ Some e → IsOfHandles e
+pub by-handle-row : (w : Core) (me : Owner) (h : HandleNumber) (fits : Mode → Bool) (e : Error) → handle_fault w me h fits ≡ Some e → IsOfHandles e
 by-handle-row w me h fits e is = at (row_at w h) is
   where
     row : (HandleRow) → (a b : Bool) → (if a then Some errors.NotYours else refused_if b errors.WrongMode) ≡ Some e → IsOfHandles e

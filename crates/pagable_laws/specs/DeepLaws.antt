@@ -1,14 +1,16 @@
 -- The laws of paths that are too long and of values that have no form.
-use Rattle.std.specs.Prelude.{ℕ, ◌≡◌, ◌≢◌, ◌⊎◌, List, Some, Ok, Err}
+use Rattle.std.specs.Prelude.{ℕ, ◌≡◌, ◌≢◌, ◌⊎◌, List, ◌∷◌, Some, Ok, Err}
 use Rattle.pagable_model.specs.declared.error.Error.TheVariants as errors
 use Rattle.pagable_world.specs.declared.events.Event.TheVariants as events
 use Rattle.pagable_world.specs.declared.events.EventReply.TheVariants as answers
 use Rattle.pagable_world.specs.declared.events.LoadAnswer.TheVariants as ends
 use Rattle.pagable_world.specs.declared.events.Took.TheVariants as took
-use Rattle.pagable_world.specs.Plain.{Error, Identity, Tree}
-use Rattle.pagable_world.specs.World.{Shelf, Slot, Walking, OpenLoad, Seen, IsLawful}
+use Rattle.pagable_world.specs.Plain.{Error, ArcRef, HandleNumber, Identity, Tree}
+use Rattle.pagable_world.specs.World.{Shelf, Slot, Reading, Todo, to_load, Walking, OpenLoad, Values, Seen, IsLawful}
+use Rattle.pagable_world.specs.Events.{reading_at}
+use Rattle.pagable_world.specs.Order.{ReadsTooDeep}
 use Rattle.pagable_world.specs.Workers.{IsOpenSlot, ComesBack}
-use Rattle.pagable_world.specs.Pager.{MachineState, IsMachineWhole, IsIdle, StandsFor}
+use Rattle.pagable_world.specs.Pager.{MachineState, world_of, IsMachineWhole, IsIdle, StandsFor}
 use Rattle.pagable_world.specs.Runs.{ReadsItsTypes, HoldsSettled, Moment, AreMoments, Fact, TreesAlong}
 use Rattle.pagable_world.specs.OneWorker.{IsTooDeepTask, KeyIsShallow, IsOfChance, IsLoadOfPagedOut}
 
@@ -80,3 +82,33 @@ FaultlessLaw {N} {B} {W} E m =
     → ReadsItsTypes m.values.types
     → HoldsSettled m.values start.pager
     → TreesAlong m LoadIsFaultless start trees moments
+
+-- A load of the caller's or of a worker's is refused as too deep only where the reading of its key comes to a blob that lies too deep, or to one that enters a level too many.
+abbrev pub LoadIsDeep : {N E B W : Type 0} → Values N → Fact N E B W
+LoadIsDeep v s trees (events.LoadStep l) (answers.LoadMoved (Ok reply)) s' trees' =
+    (reading : Reading) (load : OpenLoad)
+    → reading_at (world_of s) l ≡ Some reading
+    → s.pager.core.loads l.0 ≡ Some load
+    → reply.ended ≡ Some (ends.Refused errors.TooDeep)
+    → ReadsTooDeep v.types s.pager.core.stored reading.node_type load.key
+LoadIsDeep v s trees (events.WorkerStep n) (answers.WorkerMoved (Ok reply)) s' trees' =
+    (walking : Walking) (r : ArcRef) (place : ℕ) (through : HandleNumber) (reading : Reading) (below : List Todo) (load : OpenLoad) (i : Identity)
+    → s.work.walkings n.0 ≡ Some walking
+    → walking.todo ≡ to_load r place through reading ∷ below
+    → s.pager.core.loads reading.load.0 ≡ Some load
+    → reply.took ≡ took.Pin i (Err errors.TooDeep)
+    → ReadsTooDeep v.types s.pager.core.stored reading.node_type load.key
+LoadIsDeep v s trees event reply s' trees' = Unit {0}
+
+-- So it is along every chain, however loads and workers take turns.
+abbrev pub DeepLoadLaw : {N B W : Type 0} → (E : Type 0) → Seen N B W → Type 0
+DeepLoadLaw {N} {B} {W} E m =
+    (start : MachineState N E) (moments : List (Moment N E B W)) (trees : ℕ → Tree)
+    → IsMachineWhole m.values start
+    → IsIdle start
+    → AreMoments m start moments
+    → StandsFor m.values start trees
+    → IsLawful m.values
+    → ReadsItsTypes m.values.types
+    → HoldsSettled m.values start.pager
+    → TreesAlong m (LoadIsDeep m.values) start trees moments
