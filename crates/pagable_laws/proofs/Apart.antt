@@ -1,6 +1,6 @@
 -- A value that was read of a form names no handle twice, where the handles that were got are apart. So nothing is to be said against its references, where each is good.
-use Rattle.std.proofs.Common.{◌≡◌, ℕ, zero, suc, ◌+◌, ◌≤◌, ◌<◌, ◌==◌, ◌||◌, Bool, true, false, List, [], ◌∷◌, ◌++◌, length, Option, Some, None, Result, Ok, Err, inl, inr, refl, sym, ap, subst, ◌∙◌, arith, if◌then◌else◌}
-use Rattle.std.specs.Prelude.{slice_get, sum_by, not}
+use Rattle.std.proofs.Common.{◌≡◌, ℕ, zero, suc, ◌+◌, ◌≤◌, ◌==◌, ◌||◌, Bool, true, false, List, [], ◌∷◌, length, Some, None, Result, Ok, Err, inr, refl, sym, ap, subst, ◌∙◌, arith, if◌then◌else◌}
+use Rattle.std.specs.Prelude.{slice_get, not}
 use Rattle.std.proofs.lemmas.List.{append-nil}
 use Rattle.std.proofs.lemmas.List.Sums.{sum_by-cons}
 use Rattle.pagable_model.specs.declared.error.Error.{Error}
@@ -13,9 +13,9 @@ use Rattle.pagable_model.specs.Standing.{Answer, answer_at, handles_at}
 use Rattle.pagable_world.specs.declared.handles.HandleRow.{HandleRow}
 use Rattle.pagable_world.specs.declared.handles.Owner.{Owner}
 use Rattle.pagable_world.specs.declared.handles.Owner.TheVariants as owners
-use Rattle.pagable_world.specs.Plain.{ArcRef, Blob, Types, type_of, Among, is_in, if_there, or_else, one, times}
-use Rattle.pagable_world.specs.Kinds.{is_owner, fits_mode}
-use Rattle.pagable_world.specs.World.{Core, row_at, type_at}
+use Rattle.pagable_world.specs.Plain.{ArcRef, Blob, Types, type_of, Among, is_in, if_there, one, times}
+use Rattle.pagable_world.specs.Kinds.{is_owner}
+use Rattle.pagable_world.specs.World.{Core, type_at}
 use Rattle.pagable_world.specs.Loads.{answer_of, answers_from, read_with, reads, next_of}
 use Rattle.pagable_world.specs.Refusals.{refused_if, is_type, row_fault, reference_fault, references_fault, IsReference}
 use Rattle.pagable_laws.specs.FormLaws.{rest, LooksUp, no-references, more-references}
@@ -181,7 +181,7 @@ module _ (w : Core) (owner : Owner) where
   fine seen (r ∷ rs) good new once =
       let first = fine-one seen r (good r (zero, refl)) (new r (zero, refl)) in
       let rest = fine (r.handle.0 ∷ seen) rs (λ q among. good q (suc among.0, among.1)) (λ q among. by q among (r.handle.0 == q.handle.0) refl)
-          (λ q. let a = once q in let b = sum_by-cons (λ (x : ArcRef). one (x.handle.0 == q)) r rs in omega (arith, a, b)) in
+      (λ q. let a = once q in let b = sum_by-cons (λ (x : ArcRef). one (x.handle.0 == q)) r rs in omega (arith, a, b)) in
       rw first rest
     where
       by : (q : ArcRef) → Among rs q → (b : Bool) → (r.handle.0 == q.handle.0) ≡ b → (r.handle.0 == q.handle.0) || is_in seen q.handle.0 ≡ false

@@ -11,7 +11,6 @@ use Rattle.pagable_model.specs.Reading.{Rest, read, deepest}
 use Rattle.pagable_model.specs.References.{references_in}
 use Rattle.pagable_model.specs.Form.{Form}
 use Rattle.pagable_model.specs.Writing.{kind_of_arc}
-use Rattle.pagable_model.specs.Merkle.{blob_of}
 use Rattle.pagable_model.specs.Standing.{Answer, answer_at, handles_at}
 use Rattle.pagable_model.specs.Canonical.{IsReadable, Throughout}
 use Rattle.pagable_world.specs.Plain.{ArcRef, Kind, Blob, Shape, Types, is_eager, times}

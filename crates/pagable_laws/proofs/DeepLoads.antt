@@ -1,5 +1,5 @@
 -- A load is refused as too deep only where the reading of its key comes to a blob that lies too deep, or to one that enters a level too many.
-use Rattle.std.proofs.Common.{◌≡◌, ℕ, ◌+◌, ◌<◌, ◌==◌, ◌||◌, Bool, true, false, List, [], ◌∷◌, length, Option, Some, None, Ok, Err, ◌⊎◌, inl, inr, if◌then◌else◌, refl, sym, ap, subst, ◌∙◌, arith}
+use Rattle.std.proofs.Common.{◌≡◌, ℕ, ◌+◌, ◌<◌, ◌==◌, ◌||◌, Bool, true, false, List, [], ◌∷◌, length, Option, Some, None, Ok, Err, inl, inr, if◌then◌else◌, refl, sym, ap, subst, ◌∙◌, arith}
 use Rattle.std.specs.Prelude.{not}
 use Rattle.pagable_model.specs.declared.error.Error.TheVariants as errors
 use Rattle.pagable_world.specs.declared.calls.Want.{Want}
@@ -7,26 +7,24 @@ use Rattle.pagable_world.specs.declared.calls.Want.TheVariants as wants
 use Rattle.pagable_world.specs.declared.handles.HandleRow.{HandleRow}
 use Rattle.pagable_world.specs.declared.handles.Owner.{Owner}
 use Rattle.pagable_world.specs.declared.handles.Owner.TheVariants as owners
-use Rattle.pagable_world.specs.declared.events.LoadAnswer.TheVariants as ends
 use Rattle.pagable_world.specs.declared.events.Took.TheVariants as took
 use Rattle.pagable_world.specs.declared.events.Took.{Took}
 use Rattle.pagable_world.specs.declared.events.Event.{Event}
 use Rattle.pagable_world.specs.declared.events.Event.TheVariants as events
 use Rattle.pagable_world.specs.declared.events.EventReply.{EventReply}
 use Rattle.pagable_world.specs.declared.events.EventReply.TheVariants as answers
-use Rattle.pagable_world.specs.Plain.{Error, ArcRef, Kind, HandleNumber, LoadNumber, Identity, Blob, Tree, Types, type_of, is_eager, is_in, is_loose_kind, longest_path, if_there}
+use Rattle.pagable_world.specs.Plain.{Error, Kind, HandleNumber, LoadNumber, Blob, Tree, Types, type_of, is_eager, is_in, is_loose_kind, longest_path, if_there}
 use Rattle.pagable_world.specs.Kinds.{any_mode, is_owner, owner_worker}
-use Rattle.pagable_world.specs.World.{Core, OpenLoad, Root, of_cell, of_key, Frame, Reading, Todo, to_load, Walking, Values, Seen, IsLawful, row_at}
-use Rattle.pagable_world.specs.Refusals.{earlier, where_so, refused_if, spent, load_fault, named_fault, references_fault, Refused}
+use Rattle.pagable_world.specs.World.{Core, OpenLoad, Root, of_cell, of_key, Frame, Reading, Todo, Walking, Seen, IsLawful, row_at}
+use Rattle.pagable_world.specs.Refusals.{earlier, where_so, refused_if, spent, load_fault, named_fault, Refused}
 use Rattle.pagable_world.specs.Calls.{birth_fault, is_usable}
-use Rattle.pagable_world.specs.LoadCalls.{AskCall, AsksInVain, node_fault, root_fault, cell_fault, is_owned_in, is_known, EndCall, HandOverCall}
-use Rattle.pagable_world.specs.Loads.{Next, reads, asks, is_faulty, next_in, need_at, need_of, needs_nested, needs_lazy, is_broken, RefusesBlob, RefusesNested, RefusesRoot, LoadIs, IsOfCell, IsOfKey, Fails, Does, handles_of}
+use Rattle.pagable_world.specs.LoadCalls.{AskCall, AsksInVain, node_fault, root_fault, cell_fault, is_owned_in, is_known}
+use Rattle.pagable_world.specs.Loads.{Next, reads, asks, is_faulty, next_in, need_at, need_of, needs_nested, needs_lazy, is_broken, RefusesBlob, RefusesNested, RefusesRoot, Fails, Does, handles_of}
 use Rattle.pagable_world.specs.Workers.{Site}
 use Rattle.pagable_world.specs.Workers as workers
-use Rattle.pagable_world.specs.Events.{reading_at, Happens}
+use Rattle.pagable_world.specs.Events.{Happens}
 use Rattle.pagable_world.specs.Order.{after_kinds, LeadsDown, is-there, goes-down, ReadsTooDeep}
-use Rattle.pagable_world.specs.Pager.{MachineState, world_of, IsMachineWhole, IsIdle, StandsFor, FramesFit, IsReadingOf, of_caller, of_worker}
-use Rattle.pagable_world.specs.Runs.{ReadsItsTypes}
+use Rattle.pagable_world.specs.Pager.{MachineState, world_of, FramesFit, IsReadingOf, of_caller, of_worker}
 use Rattle.pagable_laws.specs.DeepLaws.{LoadIsDeep, DeepLoadLaw}
 use Rattle.pagable_laws.proofs.Trees.{same_some}
 use Rattle.pagable_laws.proofs.Fitting.{asked}

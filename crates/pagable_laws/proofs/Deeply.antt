@@ -1,5 +1,5 @@
 -- No key is answered of what leads down too long a path, or to a value that has no form; and why a claim is too deep.
-use Rattle.std.proofs.Common.{◌≡◌, ℕ, ◌⊎◌, List, [], ◌∷◌, Some, Ok, Err, sym, ap, subst, ◌∙◌}
+use Rattle.std.proofs.Common.{◌≡◌, ℕ, ◌⊎◌, List, [], ◌∷◌, Some, Ok, Err, sym, subst, ◌∙◌}
 use Rattle.pagable_world.specs.Plain.{Identity, Tree}
 use Rattle.pagable_world.specs.declared.events.Event.{Event}
 use Rattle.pagable_world.specs.declared.events.Event.TheVariants as events

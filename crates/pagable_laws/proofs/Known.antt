@@ -1,10 +1,10 @@
 -- What a load reads of a key that a page-out has published: each blob is a form of a tree, asks for references whose keys are known, and lies within the path's limit.
-use Rattle.std.proofs.Common.{◌≡◌, ℕ, zero, suc, ◌+◌, ◌<◌, ◌≤◌, Bool, true, false, List, [], ◌∷◌, length, Option, Some, None, refl, sym, ap, subst, ◌∙◌, inl, inr, if◌then◌else◌, arith}
+use Rattle.std.proofs.Common.{◌≡◌, ℕ, zero, suc, ◌+◌, ◌≤◌, Bool, true, false, List, [], ◌∷◌, length, Option, Some, refl, sym, ap, subst, ◌∙◌, inl, inr, if◌then◌else◌, arith}
 use Rattle.std.specs.Prelude.{slice_get}
 use Rattle.pagable_model.specs.Merkle.{blob_of}
-use Rattle.pagable_world.specs.Plain.{Error, ArcRef, Kind, Identity, Blob, Meaning, Tree, Types, type_of, Among, is_eager, above, longest_path}
+use Rattle.pagable_world.specs.Plain.{Error, ArcRef, Kind, Identity, Blob, Meaning, Tree, type_of, is_eager, above, longest_path}
 use Rattle.pagable_world.specs.Kinds.{identity_of}
-use Rattle.pagable_world.specs.World.{Shelf, Outcome, published, Written, Frame, Values}
+use Rattle.pagable_world.specs.World.{Shelf, published, Written, Frame, Values}
 use Rattle.pagable_world.specs.Loads.{Next, reads, asks, is_faulty, next_in, need_at, need_of, needs_nested, needs_lazy, is_broken}
 use Rattle.pagable_world.specs.Workers.{IsPublished}
 use Rattle.pagable_world.specs.Pager.{MachineState, world_of, FramesFit}
@@ -71,7 +71,7 @@ module _ {N E : Type 0} (v : Values N) (s : MachineState N E) (trees : ℕ → T
       let there : v.types.nodes frame.node_type ≡ Some w.shape = ap v.types.nodes typed ∙ w.is in
       let same : blob_of written.bytes b.2.keys ≡ frame.blob = same_some _ _ (sym b.2.is_stored ∙ is) in
       let form : IsFormOf v.types frame.node_type (blob_of written.bytes b.2.keys) written.references =
-          record { shape = w.shape; own = w.own; is = there; can = readable frame.node_type w.shape there; form = w.form; as_many = as-many-keys shelf written.references b.2.keys b.2.known; once = w.once } in
+      record { shape = w.shape; own = w.own; is = there; can = readable frame.node_type w.shape there; form = w.form; as_many = as-many-keys shelf written.references b.2.keys b.2.known; once = w.once } in
       record {
         refs = written.references;
         form = subst (λ (x : Blob). IsFormOf v.types frame.node_type x written.references) same form;

@@ -1,5 +1,5 @@
 -- What a load has got goes on to be what its blobs asked for, whatever happens.
-use Rattle.std.proofs.Common.{◌≡◌, ℕ, Bool, true, false, List, [], ◌∷◌, ◌++◌, refl, sym, subst, inl, inr, if◌then◌else◌}
+use Rattle.std.proofs.Common.{◌≡◌, ℕ, Bool, true, false, List, [], ◌∷◌, refl, sym, subst, inl, inr, if◌then◌else◌}
 use Rattle.std.specs.Prelude.{Option, Some, None}
 use Rattle.pagable_world.specs.Plain.{Kind, Types, is_eager}
 use Rattle.pagable_world.specs.declared.handles.HandleRow.{HandleRow}

@@ -1,24 +1,21 @@
 -- What a load has got stays live and the load's own, each handle once, as long as the load makes its own steps; and so does the handle that began it.
-use Rattle.std.proofs.Common.{◌≡◌, ℕ, zero, suc, ◌+◌, ◌<◌, ◌≤◌, ◌==◌, ◌||◌, Bool, true, false, List, [], ◌∷◌, ◌++◌, Option, Some, None, Ok, ◌⊎◌, inl, inr, refl, sym, ap, subst, ◌∙◌, if◌then◌else◌, arith}
+use Rattle.std.proofs.Common.{◌≡◌, ℕ, zero, suc, ◌+◌, ◌<◌, ◌≤◌, ◌==◌, ◌||◌, Bool, true, false, List, [], ◌∷◌, ◌++◌, Some, inl, inr, refl, sym, ap, subst, ◌∙◌, if◌then◌else◌, arith}
 use Rattle.std.specs.Prelude.{slice_get, sum_by}
 use Rattle.std.proofs.lemmas.List.Sums.{sum_by-cons, sum_by_push}
-use Rattle.pagable_model.specs.declared.data_key.OptionalDataKey.TheVariants as optional
 use Rattle.pagable_world.specs.declared.handles.HandleRow.{HandleRow}
 use Rattle.pagable_world.specs.declared.handles.Owner.{Owner}
 use Rattle.pagable_world.specs.declared.handles.Owner.TheVariants as owners
 use Rattle.pagable_world.specs.declared.rows.Mode.{Mode}
 use Rattle.pagable_world.specs.Plain.{ArcRef, Kind, HandleNumber, LoadNumber, NodeNumber, OptionalDataKey, Among, type_of, one, times}
 use Rattle.pagable_world.specs.Kinds.{mode_of}
-use Rattle.pagable_world.specs.World.{Core, Last, OpenLoad, of_cell, Frame, Reading, Alike, Values, row_at}
-use Rattle.pagable_world.specs.Cascade.{FallsAnyhow}
-use Rattle.pagable_world.specs.Calls.{row_of, with_handle, with_node, with_known, next_node, moved, is_named_by, Asked}
+use Rattle.pagable_world.specs.World.{Core, Last, OpenLoad, of_cell, Frame, Alike, row_at}
+use Rattle.pagable_world.specs.Calls.{row_of, with_handle, with_node, next_node, is_named_by, Asked}
 use Rattle.pagable_world.specs.LoadCalls.{adopted, GetsKnown}
-use Rattle.pagable_world.specs.Loads.{with_got, ReadsNode, GetsRoot, GetsCached, GetsBlob, GetsLazy, MakesNode, GoesOn}
+use Rattle.pagable_world.specs.Loads.{with_got}
 use Rattle.pagable_world.specs.Pager.{HandlesAreWhole}
-use Rattle.pagable_laws.proofs.Trees.{same_some}
 use Rattle.pagable_laws.proofs.Sums.{self-number, same-number, at-most-sum, sum-zero}
 use Rattle.pagable_laws.proofs.Goes.{found-number, none-in-next}
-use Rattle.pagable_laws.proofs.Outlasting.{NotValues, Stands, AreUpTo, stands-alike, stands-changed, stands-more, stands-new, stands-fell, among-changed}
+use Rattle.pagable_laws.proofs.Outlasting.{Stands, AreUpTo, stands-alike, stands-changed, stands-more, stands-new, among-changed}
 use Rattle.pagable_laws.proofs.ReadingStepsRows.{cached-rows}
 use Rattle.pagable_laws.proofs.Fitting.{pushed}
 use Rattle.pagable_laws.proofs.Apart.{AreApart}

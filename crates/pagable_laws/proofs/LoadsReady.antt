@@ -1,16 +1,13 @@
 -- A load's own step leaves it ready: what it has got is its own, and the caller has the handle that began it.
-use Rattle.std.proofs.Common.{◌≡◌, ℕ, zero, suc, ◌+◌, ◌<◌, ◌≤◌, ◌==◌, false, List, [], ◌∷◌, Option, Some, None, Ok, inl, inr, refl, sym, ap, subst, ◌∙◌, arith}
-use Rattle.std.specs.Prelude.{slice_get}
-use Rattle.std.proofs.lemmas.List.Sums.{sum_by-cons}
+use Rattle.std.proofs.Common.{◌≡◌, ℕ, zero, suc, ◌+◌, ◌==◌, false, List, [], ◌∷◌, Some, inl, inr, refl, sym, ap, subst, ◌∙◌, arith}
 use Rattle.pagable_model.specs.declared.data_key.OptionalDataKey.TheVariants as optional
 use Rattle.pagable_world.specs.declared.handles.HandleRow.{HandleRow}
 use Rattle.pagable_world.specs.declared.handles.Owner.TheVariants as owners
 use Rattle.pagable_world.specs.Plain.{ArcRef, Kind, HandleNumber, LoadNumber, NodeNumber, Tree, Among, times, one}
 use Rattle.pagable_world.specs.Kinds.{find_row, mode_of}
 use Rattle.pagable_world.specs.World.{Core, OpenLoad, of_cell, Frame, Reading, Values, IsLawful, row_at}
-use Rattle.pagable_world.specs.Calls.{row_of, is_named_by}
-use Rattle.pagable_world.specs.Refusals.{references_fault}
-use Rattle.pagable_world.specs.Loads.{with_got, root_frame, nested_frame, ReadsNode, GoesOn, GetsLazy, MakesNode}
+use Rattle.pagable_world.specs.Calls.{is_named_by}
+use Rattle.pagable_world.specs.Loads.{with_got, root_frame, nested_frame, GoesOn, GetsLazy, MakesNode}
 use Rattle.pagable_world.specs.LoadCalls.{GetsKnown}
 use Rattle.pagable_world.specs.Pager.{HandlesAreWhole, FramesFit}
 use Rattle.pagable_world.specs.Runs.{ReadsItsTypes}
@@ -22,7 +19,7 @@ use Rattle.pagable_laws.proofs.GoodReferences.{good}
 use Rattle.pagable_laws.proofs.Outlasting.{NotValues, Stands, stands-whole, stands-alike, stands-fell}
 use Rattle.pagable_laws.proofs.Fitting.{first-fits}
 use Rattle.pagable_laws.proofs.Decoding.{decodes}
-use Rattle.pagable_laws.proofs.LoadsLive.{GotOnce, AllBelow, times_got, got-cons, once-new, once-below, once-none, once-got, with-one, new-one, asked-keeps, known-keeps, adopted-keeps, adopted-new, not-named, Live, LoadReady, live-new, live-got}
+use Rattle.pagable_laws.proofs.LoadsLive.{GotOnce, AllBelow, got-cons, once-new, once-below, once-none, once-got, with-one, new-one, asked-keeps, known-keeps, adopted-keeps, adopted-new, not-named, Live, LoadReady, live-new, live-got}
 
 module _ {N : Type 0} (v : Values N) (lawful : IsLawful v) (readable : ReadsItsTypes v.types) (w w' : Core) (reading : Reading) (load : OpenLoad) (trees : ℕ → Tree) (root_key root_type : ℕ) (whole : HandlesAreWhole w)
     (ready : LoadReady w reading.load load reading.frames) (held : FramesHeld w reading.load reading.frames) (fit : FramesFit v.types w.stored trees root_key root_type reading.frames) where

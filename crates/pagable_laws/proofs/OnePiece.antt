@@ -1,7 +1,6 @@
 -- Where each load is done in one piece, one of a cell whose key a page-out set is refused by chance alone.
 use Rattle.std.proofs.Common.{◌≡◌, ℕ, zero, suc, ◌+◌, ◌<◌, ◌≤◌, ◌==◌, Bool, true, false, List, [], ◌∷◌, Option, Some, None, Ok, Err, ◌⊎◌, inl, inr, if◌then◌else◌, refl, sym, ap, subst, ◌∙◌, arith}
 use Rattle.std.specs.Prelude.{slice_get, not, is_some}
-use Rattle.pagable_model.specs.References.{references_in}
 use Rattle.pagable_model.specs.declared.error.Error.TheVariants as errors
 use Rattle.pagable_world.specs.declared.handles.HandleRow.{HandleRow}
 use Rattle.pagable_world.specs.declared.handles.Owner.TheVariants as owners
@@ -16,18 +15,18 @@ use Rattle.pagable_world.specs.declared.events.Event.{Event}
 use Rattle.pagable_world.specs.declared.events.Event.TheVariants as events
 use Rattle.pagable_world.specs.declared.events.EventReply.{EventReply}
 use Rattle.pagable_world.specs.declared.events.EventReply.TheVariants as answers
-use Rattle.pagable_world.specs.Plain.{Error, ArcRef, HandleNumber, LoadNumber, NodeNumber, Tree, Among, type_of, if_there, is_in, times, updated}
+use Rattle.pagable_world.specs.Plain.{Error, ArcRef, HandleNumber, LoadNumber, NodeNumber, Tree, Among, if_there, is_in, times, updated}
 use Rattle.pagable_world.specs.Kinds.{any_mode, is_owner, held, find_row}
-use Rattle.pagable_world.specs.World.{Core, OpenLoad, of_cell, of_key, Frame, Reading, World, Seen, IsLawful, row_at, type_at}
+use Rattle.pagable_world.specs.World.{Core, OpenLoad, of_cell, of_key, Frame, Reading, Seen, IsLawful, row_at}
 use Rattle.pagable_world.specs.Refusals.{IsReference, refused_if, references_fault, handle_fault}
 use Rattle.pagable_world.specs.LoadCalls.{BeginCall, BeginKeyCall}
 use Rattle.pagable_world.specs.Loads.{Does, IsDecoded, gone_on}
 use Rattle.pagable_world.specs.Workers.{fresh}
-use Rattle.pagable_world.specs.Events.{ReadingsAre, reading_at, reading_after, reading_of_load, LoadSteps, Stays, Happens}
-use Rattle.pagable_world.specs.Pager.{MachineState, world_of, IsMachineWhole, IsReadingOf, of_caller, FrameFits, FramesFit}
+use Rattle.pagable_world.specs.Events.{ReadingsAre, reading_at, reading_after, LoadSteps, Stays, Happens}
+use Rattle.pagable_world.specs.Pager.{MachineState, world_of, IsMachineWhole, of_caller, FrameFits, FramesFit}
 use Rattle.pagable_world.specs.Runs.{ReadsItsTypes, Moment, AreMoments, TreesAlong}
 use Rattle.pagable_world.specs.OneWorker.{Turn, of_load, of_worker, of_nobody, turn_of, StandTogether, IsOfChance, IsLoadOfPagedOut, LoadIsSound}
-use Rattle.pagable_laws.specs.LoadLaws.{IsBeginOf, HasBegun, AllHaveBegun, SoundLaw}
+use Rattle.pagable_laws.specs.LoadLaws.{IsBeginOf, HasBegun, SoundLaw}
 use Rattle.pagable_laws.specs.ReadRuns.{FramesHeld}
 use Rattle.pagable_laws.proofs.Trees.{same_some}
 use Rattle.pagable_laws.proofs.Sums.{self-number, same-number}
@@ -42,7 +41,7 @@ use Rattle.pagable_laws.proofs.ReadingSteps.{caller-free, reading-feels}
 use Rattle.pagable_laws.proofs.ReadingStepsMachine.{reading-was, reading-stands}
 use Rattle.pagable_laws.proofs.ReadingStepsGive.{got-typed}
 use Rattle.pagable_laws.proofs.HeightSteps.{HeightsIn, heights-at-first, heights-on}
-use Rattle.pagable_laws.proofs.Sound.{Cause, IsForm, by-chance, by-references, by-handle}
+use Rattle.pagable_laws.proofs.Sound.{IsForm, by-chance, by-references, by-handle}
 use Rattle.pagable_laws.proofs.Soundly.{load-cause}
 use Rattle.pagable_laws.proofs.Apart.{fine, reads-once}
 use Rattle.pagable_laws.proofs.LoadsLive.{times_got, LoadReady, once-none, apart-once, got-cons, with-one}
@@ -135,21 +134,21 @@ module _ {N B W E : Type 0} (m : Seen N B W) (s s' : MachineState N E) (whole : 
       let next = g.2.2.above in
       let a = g.2.4.2 in
       let there : w'.loads l.0 ≡ Some (record { owner = owners.Caller; key = key; root = of_cell row.node g.2.4.0 h }) =
-          ap w'.loads (sym same ∙ next) ∙ a.loads (w.last.load + 1) ∙ updated-at (w.last.load + 1) _ w.loads in
+      ap w'.loads (sym same ∙ next) ∙ a.loads (w.last.load + 1) ∙ updated-at (w.last.load + 1) _ w.loads in
       let is : record { owner = owners.Caller; key = key; root = of_cell row.node g.2.4.0 h } ≡ load = same_some _ _ (sym there ∙ open_load) in
       let st = stands-alike a (with-one w row.node modes.LooseUnpinned (owners.Load k) (stands-whole whole.pager.whole.handles h.0 row g.1.live)) in
       nothing-ready l load reading.frames (begun-empty l reading s.work.readings are (λ r e. absurd (unread l r (omega (arith, same, next)) e)) at)
       (λ node t q root.
-          let e : of_cell row.node g.2.4.0 h ≡ of_cell node t q = ap (λ (x : OpenLoad). x.root) is ∙ root in
-          let hs : h ≡ q = cc in
-          (row, subst (λ (x : HandleNumber). row_at w' x ≡ Some row) hs st.live, g.1.own))
+      let e : of_cell row.node g.2.4.0 h ≡ of_cell node t q = ap (λ (x : OpenLoad). x.root) is ∙ root in
+      let hs : h ≡ q = cc in
+      (row, subst (λ (x : HandleNumber). row_at w' x ≡ Some row) hs st.live, g.1.own))
 
   by-key : (k l : LoadNumber) (key t : ℕ) (b : BeginKeyCall w owners.Caller key (Ok (beginnings.Load k key)) w') → ReadingsAre (updated k.0 (Some (fresh k t)) s.work.readings) (world_of s') → k.0 ≡ l.0 → Ready s' l
   by-key k l key t b are same = λ reading load at open_load.
       let g = b.begins in
       let next = g.1.above in
       let there : w'.loads l.0 ≡ Some (record { owner = owners.Caller; key = key; root = of_key }) =
-          ap w'.loads (sym same ∙ next) ∙ g.2.loads (w.last.load + 1) ∙ updated-at (w.last.load + 1) _ w.loads in
+      ap w'.loads (sym same ∙ next) ∙ g.2.loads (w.last.load + 1) ∙ updated-at (w.last.load + 1) _ w.loads in
       let is : record { owner = owners.Caller; key = key; root = of_key } ≡ load = same_some _ _ (sym there ∙ open_load) in
       nothing-ready l load reading.frames
       (begun-empty l reading (updated k.0 (Some (fresh k t)) s.work.readings) are (λ r e. elim (at-updated k.0 (Some (fresh k t)) s.work.readings l.0 r e) [
@@ -243,8 +242,8 @@ module _ {N B W E : Type 0} (m : Seen N B W) (lawful : IsLawful m.values) (reada
           let go = subst (λ o. Does m.values core owners.Caller x.reading o x.frames s'.pager.core) e x.does.does in
           let after = goes-ready m.values lawful readable core s'.pager.core x.reading load trees load.key x.reading.node_type on.whole.pager.whole.handles before a.got a.fits x.frames go in
           let now : s'.work.readings l.0 ≡ Some (gone_on x.reading x.frames) =
-              x.readings l.0 ∙ ap (λ (o : Option OpenLoad). if_there (λ (z : OpenLoad). updated l.0 (reading_after reply.ended x.reading x.frames) s.work.readings l.0) None o) open_load
-              ∙ updated-at l.0 (reading_after reply.ended x.reading x.frames) s.work.readings ∙ ap (λ o. reading_after o x.reading x.frames) e in
+          x.readings l.0 ∙ ap (λ (o : Option OpenLoad). if_there (λ (z : OpenLoad). updated l.0 (reading_after reply.ended x.reading x.frames) s.work.readings l.0) None o) open_load
+          ∙ updated-at l.0 (reading_after reply.ended x.reading x.frames) s.work.readings ∙ ap (λ o. reading_after o x.reading x.frames) e in
           let same : Some (gone_on x.reading x.frames) ≡ Some reading = rw now at at in
           let frames : x.frames ≡ reading.frames = ap (λ (r : Reading). r.frames) (same_some _ _ same) in
           subst (λ fs. LoadReady s'.pager.core l load fs) frames (subst (λ k. LoadReady s'.pager.core k load x.frames) a.number after)
@@ -304,7 +303,7 @@ module _ {N B W E : Type 0} (m : Seen N B W) (lawful : IsLawful m.values) (reada
       let b = ready.begun node t h root in
       let own : is_owner owners.Caller b.0.owner ≡ true = ap (is_owner owners.Caller) b.2 in
       let f : handle_fault core owners.Caller h any_mode ≡ None =
-          ap (λ found. if_there (λ (row : HandleRow). if not (is_owner owners.Caller row.owner) then Some errors.NotYours else refused_if (not (any_mode row.mode)) errors.WrongMode) (Some errors.NoSuchHandle) found) b.1 ∙ rw own refl in
+      ap (λ found. if_there (λ (row : HandleRow). if not (is_owner owners.Caller row.owner) then Some errors.NotYours else refused_if (not (any_mode row.mode)) errors.WrongMode) (Some errors.NoSuchHandle) found) b.1 ∙ rw own refl in
       cc
 
   sound : (low : HeightsIn (world_of s)) (l : LoadNumber) (reply : LoadReply N) → LoadSteps m.values (world_of s) l reply (world_of s') → Ready s l → (load : OpenLoad) (e : Error) → core.loads l.0 ≡ Some load → IsLoadOfPagedOut s load
@@ -406,7 +405,7 @@ module _ {N B W E : Type 0} (m : Seen N B W) where
           g.trees',
           record { keeps = a.keeps; stands = a.stands; so = load-sound s trees on x xs does.whole does.step.happens together low stage g.trees' x.event x.reply refl does.step.happens },
           sound-along x.after g.trees' xs g.on (heights-on m s x.after trees on.fits low on.work x.event x.reply turns)
-          (λ i j k p q r lt lt2 at there here. together (suc i) (suc j) (suc k) p q r (omega (arith, lt)) (omega (arith, lt2)) at there here) (λ l. next-stage s trees on x xs does.whole does.step.happens together l (stage l)) more,
+              (λ i j k p q r lt lt2 at there here. together (suc i) (suc j) (suc k) p q r (omega (arith, lt)) (omega (arith, lt2)) at there here) (λ l. next-stage s trees on x xs does.whole does.step.happens together l (stage l)) more,
         )
 
 pub sound_law : {N B W : Type 0} (E : Type 0) (m : Seen N B W) → SoundLaw E m

@@ -1,5 +1,5 @@
 -- Why a load is refused whose key a page-out has published: by chance, or by a handle.
-use Rattle.std.proofs.Common.{◌≡◌, ℕ, ◌<◌, ◌≤◌, ◌==◌, Bool, true, false, List, [], ◌∷◌, length, ◌⊎◌, inl, inr, Option, Some, None, Ok, Err, refl, sym, ap, subst, ◌∙◌, if◌then◌else◌, arith}
+use Rattle.std.proofs.Common.{◌≡◌, ℕ, ◌≤◌, ◌==◌, Bool, true, false, List, [], ◌∷◌, length, ◌⊎◌, inl, inr, Option, Some, None, Err, refl, sym, ap, subst, ◌∙◌, if◌then◌else◌, arith}
 use Rattle.std.specs.Prelude.{Result, not, nat_lt, nat_le}
 use Rattle.pagable_model.specs.Refusals.{is_own_reading}
 use Rattle.pagable_model.specs.Stored.{RefusesFetch}
@@ -9,14 +9,14 @@ use Rattle.pagable_world.specs.declared.calls.Want.TheVariants as wants
 use Rattle.pagable_world.specs.declared.handles.Owner.TheVariants as owners
 use Rattle.pagable_world.specs.Plain.{Error, ArcRef, Kind, HandleNumber, LoadNumber, NodeNumber, Blob, Tree, Types, type_of, is_eager, is_loose_kind, longest_path, if_there}
 use Rattle.pagable_world.specs.Kinds.{any_mode}
-use Rattle.pagable_world.specs.World.{Core, OpenLoad, Root, of_cell, of_key, Frame, Reading, Seen, Values, IsLawful}
+use Rattle.pagable_world.specs.World.{Core, OpenLoad, of_cell, Frame, Reading, Seen, Values, IsLawful}
 use Rattle.pagable_world.specs.Refusals.{rank, earlier, where_so, refused_if, spent, handle_fault, references_fault, load_fault, AreHandlesFull, Refused}
 use Rattle.pagable_world.specs.Calls.{FetchCall, birth_fault, is_usable}
-use Rattle.pagable_world.specs.LoadCalls.{AskCall, LazyCall, AsksInVain, ask_fault, is_known, node_fault, adopt_fault, lazy_fault, root_fault, end_fault, EndCall, HandOverCall, is_owned_in}
-use Rattle.pagable_world.specs.Loads.{Next, reads, asks, is_faulty, need_of, needs_nested, needs_lazy, to_adopt, need_at, next_in, is_broken, IsDecoded, ReadsNode, ReadsRoot, RefusesBlob, RefusesNested, RefusesNode, RefusesRoot, LoadIs, IsOfCell, IsOfKey, Meets, GivesUp, EndsClosed, Fails, handles_of}
-use Rattle.pagable_world.specs.Workers.{fresh, IsPublished}
+use Rattle.pagable_world.specs.LoadCalls.{AskCall, LazyCall, ask_fault, is_known, node_fault, root_fault, is_owned_in}
+use Rattle.pagable_world.specs.Loads.{Next, reads, asks, is_faulty, need_of, needs_nested, needs_lazy, to_adopt, need_at, next_in, is_broken, IsDecoded, RefusesBlob, RefusesNested, RefusesNode, RefusesRoot, IsOfKey, EndsClosed, Fails}
+use Rattle.pagable_world.specs.Workers.{fresh}
 use Rattle.pagable_world.specs.Events.{reading_at, reading_of_load, reading_of_root}
-use Rattle.pagable_world.specs.Pager.{MachineState, world_of, IsMachineWhole, StandsFor, FitsRoot, FramesFit, IsReadingOf, of_caller}
+use Rattle.pagable_world.specs.Pager.{MachineState, world_of, IsMachineWhole, StandsFor, FitsRoot, FramesFit, of_caller}
 use Rattle.pagable_world.specs.Runs.{ReadsItsTypes}
 use Rattle.pagable_world.specs.OneWorker.{IsOfChance, IsPagedOutAs, IsLoadOfPagedOut}
 use Rattle.pagable_laws.specs.PageOutLaws.{WorkFits}
@@ -25,7 +25,6 @@ use Rattle.pagable_laws.proofs.Sums.{self-number}
 use Rattle.pagable_laws.proofs.Taking.{adopted-over}
 use Rattle.pagable_laws.proofs.Fitting.{first-typed}
 use Rattle.pagable_laws.proofs.HeightSteps.{HeightsIn}
-use Rattle.pagable_laws.proofs.ReadingStepsMachine.{reading-stands}
 use Rattle.pagable_laws.proofs.Asking.{IsFormOf, FramesAsked}
 use Rattle.pagable_laws.proofs.Known.{root-there, needed, not-broken, formed}
 use Rattle.pagable_laws.proofs.ReadingStepsKinds.{kinds_of}
@@ -215,7 +214,7 @@ module _ {N B W E : Type 0} (m : Seen N B W) (s : MachineState N E) (trees : ℕ
     form-of : (frame : Frame) (below : List Frame) → reading.frames ≡ frame ∷ below → (x : N) → IsDecoded v frame x → IsForm v frame
     form-of frame below is x decoded =
         let k = formed v s trees fit low readable out.t load.key reading.node_type out.i out.height out.known typed frame below (subst (λ fs. FramesFit v.types w.stored trees load.key reading.node_type fs) is is-read.fits)
-            (subst (λ fs. FramesAsked v.types fs) is is-read.asked) decoded.own decoded.read in
+        (subst (λ fs. FramesAsked v.types fs) is is-read.asked) decoded.own decoded.read in
         record { refs = k.refs; form = k.form; kinds = k.kinds }
 
     -- ---- asking
@@ -319,7 +318,7 @@ module _ {N B W E : Type 0} (m : Seen N B W) (s : MachineState N E) (trees : ℕ
         root-chance r is =
             let there : w.loads reading.load.0 ≡ Some load = ap (λ (x : LoadNumber). w.loads x.0) is-read.number ∙ open_load in
             let at_root : root_fault w owners.Caller (v.node_type r.x) (of_cell node t paged.2) ≡ Some e =
-                ap (root_fault w owners.Caller (v.node_type r.x)) (sym paged.3) ∙ (sym (ap (λ o. if_there (λ (x : OpenLoad). root_fault w owners.Caller (v.node_type r.x) x.root) None o) there) ∙ is) in
+            ap (root_fault w owners.Caller (v.node_type r.x)) (sym paged.3) ∙ (sym (ap (λ o. if_there (λ (x : OpenLoad). root_fault w owners.Caller (v.node_type r.x) x.root) None o) there) ∙ is) in
             elim (either (refused_if (not (v.node_type r.x == t)) errors.WrongKind) (where_so (is_owned_in w owners.Caller paged.2.0) (spent w.last.handle)) e at_root) [
               | inl a ↦ absurd (never (not (v.node_type r.x == t)) errors.WrongKind e (same-type (v.node_type r.x) t (r.reads_root.decoded.typed ∙ root-type r.reads_root.root r.reads_root.frames)) a)
               | inr b ↦ where-chance (is_owned_in w owners.Caller paged.2.0) w.last.handle e b

@@ -1,12 +1,11 @@
 -- A load of a cell whose key a page-out set is refused by chance or by a handle alone.
-use Rattle.std.proofs.Common.{◌≡◌, ℕ, ◌==◌, ◌||◌, Bool, true, false, List, [], ◌∷◌, Option, Some, None, Ok, Err, ◌⊎◌, inl, inr, if◌then◌else◌, refl, sym, ap, subst, ◌∙◌}
+use Rattle.std.proofs.Common.{◌≡◌, ℕ, ◌==◌, ◌||◌, Bool, true, false, List, [], ◌∷◌, Option, Some, None, Ok, Err, inl, inr, if◌then◌else◌, refl, subst, ◌∙◌}
 use Rattle.std.specs.Prelude.{not}
 use Rattle.pagable_model.specs.declared.error.Error.TheVariants as errors
 use Rattle.pagable_world.specs.declared.handles.HandleRow.{HandleRow}
 use Rattle.pagable_world.specs.declared.handles.Owner.{Owner}
 use Rattle.pagable_world.specs.declared.handles.Owner.TheVariants as owners
 use Rattle.pagable_world.specs.declared.rows.Mode.{Mode}
-use Rattle.pagable_world.specs.declared.events.LoadAnswer.{LoadAnswer}
 use Rattle.pagable_world.specs.declared.events.LoadAnswer.TheVariants as ends
 use Rattle.pagable_world.specs.declared.events.LoadReply.{LoadReply}
 use Rattle.pagable_world.specs.declared.events.Event.{Event}
@@ -21,7 +20,7 @@ use Rattle.pagable_world.specs.Loads.{Does}
 use Rattle.pagable_world.specs.Events.{LoadSteps, Happens}
 use Rattle.pagable_world.specs.Pager.{MachineState, world_of}
 use Rattle.pagable_world.specs.Runs.{ReadsItsTypes}
-use Rattle.pagable_world.specs.OneWorker.{IsOfChance, IsLoadOfPagedOut}
+use Rattle.pagable_world.specs.OneWorker.{IsLoadOfPagedOut}
 use Rattle.pagable_laws.specs.DeepLaws.{IsOfHandles, LoadIsFaultless, FaultlessLaw}
 use Rattle.pagable_laws.proofs.Chains.{IsGoingOn}
 use Rattle.pagable_laws.proofs.HeightSteps.{HeightsIn}

@@ -1,12 +1,11 @@
 -- A form is read up to a reference that is refused, and is refused so.
 use Rattle.std.proofs.Common.{◌≡◌, ℕ, List, [], ◌∷◌, ◌++◌, length, Ok, Err, refl, ap, inl, inr, append_assoc}
-use Rattle.std.specs.Int.{w32, w64}
 use Rattle.pagable_model.specs.declared.error.Error.{Error}
 use Rattle.pagable_model.specs.Numbers.{varint_at}
 use Rattle.pagable_model.specs.Basic.{bool_at}
 use Rattle.pagable_model.specs.Meaning.{Meaning}
 use Rattle.pagable_model.specs.Keys.{Entry}
-use Rattle.pagable_model.specs.Shape.{Shape, both}
+use Rattle.pagable_model.specs.Shape.{Shape}
 use Rattle.pagable_model.specs.Reading.{Look, items, two, read_with, below}
 use Rattle.pagable_model.specs.Form.{Form, Forms, Entries}
 use Rattle.pagable_model.specs.Form.{nothing-form, unsigned-form, signed-form, flag-form, text-form, letter-form, duration-form, pattern-form, none-form, some-form, err-form, ok-form, list-form, run-form, array-form, both-form}
