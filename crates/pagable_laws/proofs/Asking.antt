@@ -165,7 +165,8 @@ pub data GotAsked (types : Types) (t : ℕ) (blob : Blob) : List ArcRef → Type
 unfoldable pub FramesAsked : Types → List Frame → Type 0
 FramesAsked types [] = Unit {0}
 FramesAsked types (frame ∷ []) = GotAsked types frame.node_type frame.blob frame.got
-FramesAsked types (frame ∷ below ∷ rest) = GotAsked types frame.node_type frame.blob frame.got × (is_eager frame.kind.0 ≡ true) × (next_in types below ≡ asks frame.kind frame.key) × FramesAsked types (below ∷ rest)
+FramesAsked types (frame ∷ below ∷ rest) =
+    GotAsked types frame.node_type frame.blob frame.got × (is_eager frame.kind.0 ≡ true) × (next_in types below ≡ asks frame.kind frame.key) × FramesAsked types (below ∷ rest)
 
 -- the first of the form's references were got
 record Matches (refs got : List ArcRef) : Type 0 where

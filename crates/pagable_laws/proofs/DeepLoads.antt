@@ -102,7 +102,8 @@ not-refused r none = elim r.why [ inl is ↦ none is | inr memory ↦ absurd (le
 
 module _ (types : Types) (stored : ℕ → Option Blob) where
   -- a path goes on by one more reference
-  goes-further : {t key n u last : ℕ} (blob : Blob) (kinds : List ℕ) (kind : Kind) (child : ℕ) → LeadsDown types stored t key n u last → stored last ≡ Some blob → after_kinds types u blob kinds ≡ asks kind child → is_eager kind.0 ≡ true
+  goes-further : {t key n u last : ℕ} (blob : Blob) (kinds : List ℕ) (kind : Kind) (child : ℕ) → LeadsDown types stored t key n u last → stored last ≡ Some blob
+      → after_kinds types u blob kinds ≡ asks kind child → is_eager kind.0 ≡ true
       → LeadsDown types stored t key (n + 1) (type_of kind.0) child
   goes-further blob kinds kind child (is-there t key) is next eager = goes-down t key child 0 (0 + 1) (type_of kind.0) child blob kinds kind refl is next eager (is-there (type_of kind.0) child)
   goes-further blob kinds kind child (goes-down t key c n longer u last b ks k e at step own more) is next eager =
@@ -135,13 +136,15 @@ module _ (types : Types) (stored : ℕ → Option Blob) where
         at true f = cc
         at false f = cc
 
-    of-blob : (frames : List Frame) → FramesFit types stored trees root_key root_type frames → FramesAsked types frames → need_of types frames ≡ is_broken errors.TooDeep → ReadsTooDeep types stored root_type root_key
+    of-blob : (frames : List Frame) → FramesFit types stored trees root_key root_type frames → FramesAsked types frames → need_of types frames ≡ is_broken errors.TooDeep
+        → ReadsTooDeep types stored root_type root_key
     of-blob [] fits got is = absurd (cc)
     of-blob (top ∷ below) fits got is =
         let d = down-to top below fits got in
         record { n = length below; last_type = top.node_type; last = top.key; blob = top.blob; down = d.down; is = d.is; deep = inr (kinds_of top.got, faulty-by-kinds types top.node_type top.blob top.got errors.TooDeep (broken-is below (next_in types top) errors.TooDeep is)) }
 
-    of-path : (frames : List Frame) → FramesFit types stored trees root_key root_type frames → FramesAsked types frames → (kind : Kind) (key : ℕ) (blob : Blob) → need_of types frames ≡ needs_nested kind key → stored key ≡ Some blob
+    of-path : (frames : List Frame) → FramesFit types stored trees root_key root_type frames → FramesAsked types frames → (kind : Kind) (key : ℕ) (blob : Blob)
+        → need_of types frames ≡ needs_nested kind key → stored key ≡ Some blob
         → longest_path < length frames → ReadsTooDeep types stored root_type root_key
     of-path [] fits got kind key blob needs is long = absurd (cc)
     of-path (top ∷ below) fits got kind key blob needs is long =
@@ -152,7 +155,8 @@ module _ (types : Types) (stored : ℕ → Option Blob) where
 
 -- ---- a load's step
 
-module _ {N B W : Type 0} (m : Seen N B W) (lawful : IsLawful m.values) (w : Core) (me : Owner) (reading : Reading) (trees : ℕ → Tree) (root_key root_type : ℕ) (fits : FramesFit m.values.types w.stored trees root_key root_type reading.frames)
+module _ {N B W : Type 0} (m : Seen N B W) (lawful : IsLawful m.values) (w : Core) (me : Owner) (reading : Reading) (trees : ℕ → Tree) (root_key root_type : ℕ)
+    (fits : FramesFit m.values.types w.stored trees root_key root_type reading.frames)
     (got : FramesAsked m.values.types reading.frames) where
   abbrev Deep : Type 0
   Deep = ReadsTooDeep m.values.types w.stored root_type root_key
@@ -199,14 +203,18 @@ module _ {N B W : Type 0} (m : Seen N B W) (lawful : IsLawful m.values) (w : Cor
 -- ---- an event
 
 module _ {N B W E : Type 0} (m : Seen N B W) (lawful : IsLawful m.values) (s s' : MachineState N E) (trees trees' : ℕ → Tree) (on : IsGoingOn m.values s trees) where
-  by-reading : (me : Owner) (reading : Reading) (load : OpenLoad) → IsReadingOf s.work reading → s.pager.core.loads reading.load.0 ≡ Some load → (w' : Core) → Fails m.values s.pager.core me reading errors.TooDeep w'
+  by-reading : (me : Owner) (reading : Reading) (load : OpenLoad) → IsReadingOf s.work reading → s.pager.core.loads reading.load.0 ≡ Some load → (w' : Core)
+      → Fails m.values s.pager.core me reading errors.TooDeep w'
       → ReadsTooDeep m.values.types s.pager.core.stored reading.node_type load.key
-  by-reading me reading load is open_load w' fails = fails-deep m lawful s.pager.core me reading trees load.key reading.node_type (on.stands.readings reading is load open_load) (on.asked reading is) w' fails
+  by-reading me reading load is open_load w' fails =
+      fails-deep m lawful s.pager.core me reading trees load.key reading.node_type (on.stands.readings reading is load open_load) (on.asked reading is) w' fails
 
-  by-first : (me : Owner) (reading : Reading) (load : OpenLoad) → reading.frames ≡ [] → (w' : Core) → Fails m.values s.pager.core me reading errors.TooDeep w' → ReadsTooDeep m.values.types s.pager.core.stored reading.node_type load.key
+  by-first : (me : Owner) (reading : Reading) (load : OpenLoad) → reading.frames ≡ [] → (w' : Core) → Fails m.values s.pager.core me reading errors.TooDeep w'
+      → ReadsTooDeep m.values.types s.pager.core.stored reading.node_type load.key
   unfolding FramesFit FramesAsked
   by-first me reading load none w' fails =
-      fails-deep m lawful s.pager.core me reading trees load.key reading.node_type (subst (λ fs. FramesFit m.values.types s.pager.core.stored trees load.key reading.node_type fs) (sym none) tt) (subst (λ fs. FramesAsked m.values.types fs) (sym none) tt) w' fails
+      fails-deep m lawful s.pager.core me reading trees load.key reading.node_type (subst (λ fs. FramesFit m.values.types s.pager.core.stored trees load.key reading.node_type fs) (sym none) tt)
+      (subst (λ fs. FramesAsked m.values.types fs) (sym none) tt) w' fails
 
   load-deep : (event : Event N B W) (reply : EventReply N B W) → Happens m (world_of s) event reply (world_of s') → LoadIsDeep m.values s trees event reply s' trees'
   load-deep (events.LoadStep l) (answers.LoadMoved (Ok reply)) is = λ reading load at open_load ended.
@@ -221,7 +229,8 @@ module _ {N B W E : Type 0} (m : Seen N B W) (lawful : IsLawful m.values) (s s' 
       let x = is.moves in
       let same : x.walking ≡ walking = same_some _ _ (sym x.at ∙ there) in
       let front = ap (λ (y : Walking). y.todo) same ∙ todo in
-      let does = subst (λ (k : Took W). workers.Does m n.0 (record { core = s.pager.core; shelf = s.work.shelves x.walking.table; todo = x.walking.todo }) x.walking.todo k x.after) taken x.does.does in
+      let does =
+          subst (λ (k : Took W). workers.Does m n.0 (record { core = s.pager.core; shelf = s.work.shelves x.walking.table; todo = x.walking.todo }) x.walking.todo k x.after) taken x.does.does in
       let step = subst (λ (t : List Todo). workers.Does m n.0 (record { core = s.pager.core; shelf = s.work.shelves x.walking.table; todo = x.walking.todo }) t (took.Pin i (Err errors.TooDeep)) x.after) front does in
       by-reading (owner_worker n.0) reading load (of_worker n.0 place walking r through below there todo) open_load x.after.core step.1.refused.0.does.0
   load-deep (events.LoadStep l) (answers.LoadMoved (Err e)) is = tt

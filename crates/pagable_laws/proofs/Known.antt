@@ -88,7 +88,8 @@ module _ {N E : Type 0} (v : Values N) (s : MachineState N E) (trees : ℕ → T
     of_kind : r.kind ≡ kind
     within : above kind.0 below ≤ height
 
-  asked-known : (frame : Frame) (height : ℕ) → IsKnown frame height → GotAsked v.types frame.node_type frame.blob frame.got → (kind : Kind) (key : ℕ) → next_in v.types frame ≡ asks kind key → IsAsked kind key height
+  asked-known : (frame : Frame) (height : ℕ) → IsKnown frame height → GotAsked v.types frame.node_type frame.blob frame.got → (kind : Kind) (key : ℕ) → next_in v.types frame ≡ asks kind key
+      → IsAsked kind key height
   asked-known frame height k got kind key next = by (next-known v.types frame.node_type frame.blob k.refs k.form got)
     where
       by : NextOf frame.blob k.refs (next_in v.types frame) → IsAsked kind key height
@@ -115,7 +116,8 @@ module _ {N E : Type 0} (v : Values N) (s : MachineState N E) (trees : ℕ → T
     first-asked frame [] h = h
     first-asked frame (x ∷ xs) h = h.0
 
-    top-known : (frame : Frame) (below : List Frame) → FramesFit v.types stored trees root_key root_type (frame ∷ below) → FramesAsked v.types (frame ∷ below) → IsTopKnown frame (length (frame ∷ below)) limit
+    top-known : (frame : Frame) (below : List Frame) → FramesFit v.types stored trees root_key root_type (frame ∷ below) → FramesAsked v.types (frame ∷ below)
+        → IsTopKnown frame (length (frame ∷ below)) limit
     unfolding FramesFit FramesAsked
     top-known frame [] (fits, key, of_type) got =
         let k = known-frame frame i limit (subst (λ q. IsPublished shelf i q limit) (sym key) p) (of_type ∙ sym typed) fits.is in
@@ -142,7 +144,8 @@ module _ {N E : Type 0} (v : Values N) (s : MachineState N E) (trees : ℕ → T
     pub root-there : (blob : Blob) × (stored root_key ≡ Some blob)
     root-there = let b = (fit.slots table i p.slot p.claimed).publishes root_key limit p.known in (_, b.2.is_stored)
 
-    pub needed : (frames : List Frame) → FramesFit v.types stored trees root_key root_type frames → FramesAsked v.types frames → (kind : Kind) (key : ℕ) → Needs v.types frames kind key → Needed frames kind key
+    pub needed : (frames : List Frame) → FramesFit v.types stored trees root_key root_type frames → FramesAsked v.types frames → (kind : Kind) (key : ℕ) → Needs v.types frames kind key
+        → Needed frames kind key
     needed [] fits got kind key (inl is) = absurd (cc)
     needed [] fits got kind key (inr is) = absurd (cc)
     needed (frame ∷ below) fits got kind key needs =
@@ -162,7 +165,8 @@ module _ {N E : Type 0} (v : Values N) (s : MachineState N E) (trees : ℕ → T
       pub form : IsFormOf v.types frame.node_type frame.blob refs
       pub kinds : kinds_of frame.got ≡ kinds_of refs
 
-    pub formed : (frame : Frame) (below : List Frame) → FramesFit v.types stored trees root_key root_type (frame ∷ below) → FramesAsked v.types (frame ∷ below) → (own : Meaning ArcRef) → next_in v.types frame ≡ reads own → IsFormed frame own
+    pub formed : (frame : Frame) (below : List Frame) → FramesFit v.types stored trees root_key root_type (frame ∷ below) → FramesAsked v.types (frame ∷ below) → (own : Meaning ArcRef)
+        → next_in v.types frame ≡ reads own → IsFormed frame own
     formed frame below fits got own is =
         let t = top-known frame below fits got in
         record { refs = t.known.refs; form = t.known.form; kinds = all-got v.types frame.node_type frame.blob t.known.refs t.known.form (first-asked frame below got) own is }

@@ -28,7 +28,8 @@ eager-nested below (is_faulty e) kind key is = absurd (cc)
 
 module _ (types : Types) where
   -- one more reference was got that the innermost blob asked for
-  with-asked : (frame : Frame) (below : List Frame) (kind : Kind) (key : ℕ) (row : HandleRow) → FramesAsked types (frame ∷ below) → next_in types frame ≡ asks kind key → FramesAsked types (with_got kind row (frame ∷ below))
+  with-asked : (frame : Frame) (below : List Frame) (kind : Kind) (key : ℕ) (row : HandleRow) → FramesAsked types (frame ∷ below) → next_in types frame ≡ asks kind key
+      → FramesAsked types (with_got kind row (frame ∷ below))
   unfolding FramesAsked
   with-asked frame [] kind key row got next = one-got frame.got _ _ key got next refl
   with-asked frame (under ∷ rest) kind key row (got, eager, asked_below, more) next = (one-got frame.got _ _ key got next refl, eager, asked_below, more)
@@ -38,7 +39,8 @@ module _ (types : Types) where
   needed-asked [] kind key row got needs = tt
   needed-asked (frame ∷ below) kind key row got needs = with-asked frame below kind key row got (asked below (next_in types frame) kind key needs)
 
-  nested-asked : (frames : List Frame) (kind : Kind) (key : ℕ) (blob : _) → FramesAsked types frames → need_of types frames ≡ needs_nested kind key → FramesAsked types (nested_frame kind key blob ∷ frames)
+  nested-asked : (frames : List Frame) (kind : Kind) (key : ℕ) (blob : _) → FramesAsked types frames → need_of types frames ≡ needs_nested kind key
+      → FramesAsked types (nested_frame kind key blob ∷ frames)
   unfolding FramesAsked
   nested-asked [] kind key blob got needs = absurd (cc)
   nested-asked (frame ∷ below) kind key blob got needs =
@@ -62,12 +64,16 @@ pub asked-after : {N : Type 0} {v : Values N} {w w' : Core} (reading : Reading) 
     → ReadingFeels v w reading answer frames w' c → FramesAsked v.types frames
 unfolding FramesAsked
 asked-after {v = v} reading answer frames none got (reads-root load blob none_read at stored a is) = subst (λ fs. FramesAsked v.types fs) (sym is) (none-got [] refl)
-asked-after {v = v} reading answer frames none got (reads-blob kind key blob needs stored a is) = subst (λ fs. FramesAsked v.types fs) (sym is) (nested-asked v.types reading.frames kind key blob got needs)
-asked-after {v = v} reading answer frames none got (gets-known kind key n row needs known gets a is) = subst (λ fs. FramesAsked v.types fs) (sym is) (needed-asked v.types reading.frames kind key row got needs)
-asked-after {v = v} reading answer frames none got (gets-lazy kind key row needs gets a is) = subst (λ fs. FramesAsked v.types fs) (sym is) (needed-asked v.types reading.frames kind key row got (inr needs))
+asked-after {v = v} reading answer frames none got (reads-blob kind key blob needs stored a is) =
+    subst (λ fs. FramesAsked v.types fs) (sym is) (nested-asked v.types reading.frames kind key blob got needs)
+asked-after {v = v} reading answer frames none got (gets-known kind key n row needs known gets a is) =
+    subst (λ fs. FramesAsked v.types fs) (sym is) (needed-asked v.types reading.frames kind key row got needs)
+asked-after {v = v} reading answer frames none got (gets-lazy kind key row needs gets a is) =
+    subst (λ fs. FramesAsked v.types fs) (sym is) (needed-asked v.types reading.frames kind key row got (inr needs))
 asked-after {v = v} reading answer frames none got (makes-known x r n row known gets a is) =
     subst (λ fs. FramesAsked v.types fs) (sym is) (made-asked v.types r.top r.below row (subst (λ fs. FramesAsked v.types fs) r.frames got))
-asked-after {v = v} reading answer frames none got (makes-node x r row gets a is) = subst (λ fs. FramesAsked v.types fs) (sym is) (made-asked v.types r.top r.below row (subst (λ fs. FramesAsked v.types fs) r.frames got))
+asked-after {v = v} reading answer frames none got (makes-node x r row gets a is) =
+    subst (λ fs. FramesAsked v.types fs) (sym is) (made-asked v.types r.top r.below row (subst (λ fs. FramesAsked v.types fs) r.frames got))
 asked-after reading answer frames none got (reading-ends end a is) = absurd (no-end none a)
 
 -- so it is of all that is read

@@ -60,9 +60,11 @@ once-got (top ∷ below) kind row small once q =
     off same f fs r rs true e = absurd (let lt = small f r fs rs in let is = same-number r.handle.0 q e in omega (arith, lt, is, same))
 
     at : (b : Bool) → (row.number.0 == q) ≡ b
-        → times_got q (record top { got = top.got ++ record { kind = kind; node = row.node; handle = row.number } ∷ [] } ∷ below) ≡ times (λ (r : ArcRef). r.handle.0 == q) (top.got ++ record { kind = kind; node = row.node; handle = row.number } ∷ []) + times_got q below
+        → times_got q (record top { got = top.got ++ record { kind = kind; node = row.node; handle = row.number } ∷ [] } ∷ below) ≡ times (λ (r : ArcRef). r.handle.0 == q)
+        (top.got ++ record { kind = kind; node = row.node; handle = row.number } ∷ []) + times_got q below
         → times_got q (top ∷ below) ≡ times (λ (r : ArcRef). r.handle.0 == q) top.got + times_got q below
-        → times (λ (r : ArcRef). r.handle.0 == q) (top.got ++ record { kind = kind; node = row.node; handle = row.number } ∷ []) ≡ times (λ (r : ArcRef). r.handle.0 == q) top.got + one (row.number.0 == q)
+        → times (λ (r : ArcRef). r.handle.0 == q) (top.got ++ record { kind = kind; node = row.node; handle = row.number } ∷ []) ≡ times (λ (r : ArcRef). r.handle.0 == q) top.got + one
+        (row.number.0 == q)
         → times_got q (top ∷ below) ≤ 1
         → times_got q (with_got kind row (top ∷ below)) ≤ 1
     at false e grown old push few = let z : one (row.number.0 == q) ≡ 0 = ap one e in omega (arith, z, grown, old, push, few)
@@ -105,18 +107,22 @@ le-more : (a b : ℕ) → a ≤ a + b
 le-more a b = omega arith
 
 -- a row stays where a handle comes
-pub with-one : (w : Core) {q : ℕ} {row : HandleRow} (node : NodeNumber) (mode : Mode) (owner : Owner) → Stands w.last.handle w.rows q row → Stands (with_handle w node mode owner).last.handle (with_handle w node mode owner).rows q row
-with-one w {q} {row} node mode owner s = stands-more (row_of (w.last.handle + 1) node mode owner ∷ []) (le-more _ _) (none-in-next w.last.handle q (row_of (w.last.handle + 1) node mode owner) refl s.given) s
+pub with-one : (w : Core) {q : ℕ} {row : HandleRow} (node : NodeNumber) (mode : Mode) (owner : Owner) → Stands w.last.handle w.rows q row
+    → Stands (with_handle w node mode owner).last.handle (with_handle w node mode owner).rows q row
+with-one w {q} {row} node mode owner s =
+    stands-more (row_of (w.last.handle + 1) node mode owner ∷ []) (le-more _ _) (none-in-next w.last.handle q (row_of (w.last.handle + 1) node mode owner) refl s.given) s
 
 -- and that handle's own row
-pub new-one : (w : Core) (node : NodeNumber) (mode : Mode) (owner : Owner) → HandlesAreWhole w → Stands (with_handle w node mode owner).last.handle (with_handle w node mode owner).rows (w.last.handle + 1) (row_of (w.last.handle + 1) node mode owner)
+pub new-one : (w : Core) (node : NodeNumber) (mode : Mode) (owner : Owner) → HandlesAreWhole w
+    → Stands (with_handle w node mode owner).last.handle (with_handle w node mode owner).rows (w.last.handle + 1) (row_of (w.last.handle + 1) node mode owner)
 new-one w node mode owner whole = stands-new w.last.handle w.rows (row_of (w.last.handle + 1) node mode owner) (λ h among. (whole.numbered h among).1) refl
 
 module _ (w w' : Core) where
   pub asked-keeps : {q : ℕ} {row : HandleRow} → Asked w w' → Stands w.last.handle w.rows q row → Stands w'.last.handle w'.rows q row
   asked-keeps a s = stands-alike {w = record w { failures = w'.failures }} a.leaves s
 
-  pub known-keeps : {l : LoadNumber} {kind : Kind} {key : ℕ} {k : HandleNumber} {q : ℕ} {row : HandleRow} → GetsKnown w l kind key k w' → Stands w.last.handle w.rows q row → Stands w'.last.handle w'.rows q row
+  pub known-keeps : {l : LoadNumber} {kind : Kind} {key : ℕ} {k : HandleNumber} {q : ℕ} {row : HandleRow} → GetsKnown w l kind key k w' → Stands w.last.handle w.rows q row
+      → Stands w'.last.handle w'.rows q row
   known-keeps {l} {kind} c s = stands-alike c.leaves (with-one w (record { 0 = c.n }) (mode_of kind.0) (owners.Load l) s)
 
   -- where values' references move and a handle comes
@@ -140,7 +146,8 @@ module _ (w w' : Core) where
         let number = found-number q w.rows row s.live in
         let turned = stands-changed (λ h. is_named_by references h.number.0) (λ h. record h { owner = owners.Value (next_node w) }) (λ h. refl) s in
         let off : is_named_by references row.number.0 ≡ false = ap (is_named_by references) number ∙ free in
-        let still : Stands w.last.handle born.rows q row = subst (λ r. Stands w.last.handle born.rows q r) (ap (λ (b : Bool). if b then record row { owner = owners.Value (next_node w) } else row) off) turned in
+        let still : Stands w.last.handle born.rows q row =
+            subst (λ r. Stands w.last.handle born.rows q r) (ap (λ (b : Bool). if b then record row { owner = owners.Value (next_node w) } else row) off) turned in
         stands-alike a (to-known (with-one born (next_node w) (mode_of kind.0) (owners.Load l) still))
 
     pub adopted-new : HandlesAreWhole w → Alike known w' → Stands w'.last.handle w'.rows (w.last.handle + 1) (row_of (w.last.handle + 1) (next_node w) (mode_of kind.0) (owners.Load l))
@@ -186,7 +193,8 @@ live-new w l frame frames none live f r (zero, is) (place, there) =
     absurd (cc)
 live-new w l frame frames none live f r (suc i, is) among = live f r (i, is) among
 
-pub live-got : (w : Core) (l : LoadNumber) (frames : List Frame) (kind : Kind) (row : HandleRow) → row_at w row.number ≡ Some row → row.owner ≡ owners.Load l → Live w l frames → Live w l (with_got kind row frames)
+pub live-got : (w : Core) (l : LoadNumber) (frames : List Frame) (kind : Kind) (row : HandleRow) → row_at w row.number ≡ Some row → row.owner ≡ owners.Load l → Live w l frames
+    → Live w l (with_got kind row frames)
 live-got w l [] kind row there own live f r (i, is) among = absurd (cc)
 live-got w l (top ∷ below) kind row there own live f r (zero, is) (place, at) =
     let got_is : f.got ≡ top.got ++ record { kind = kind; node = row.node; handle = row.number } ∷ [] = cc in

@@ -21,7 +21,8 @@ use Rattle.pagable_laws.proofs.Fitting.{first-fits}
 use Rattle.pagable_laws.proofs.Decoding.{decodes}
 use Rattle.pagable_laws.proofs.LoadsLive.{GotOnce, AllBelow, got-cons, once-new, once-below, once-none, once-got, with-one, new-one, asked-keeps, known-keeps, adopted-keeps, adopted-new, not-named, Live, LoadReady, live-new, live-got}
 
-module _ {N : Type 0} (v : Values N) (lawful : IsLawful v) (readable : ReadsItsTypes v.types) (w w' : Core) (reading : Reading) (load : OpenLoad) (trees : ℕ → Tree) (root_key root_type : ℕ) (whole : HandlesAreWhole w)
+module _ {N : Type 0} (v : Values N) (lawful : IsLawful v) (readable : ReadsItsTypes v.types) (w w' : Core) (reading : Reading) (load : OpenLoad) (trees : ℕ → Tree) (root_key root_type : ℕ)
+    (whole : HandlesAreWhole w)
     (ready : LoadReady w reading.load load reading.frames) (held : FramesHeld w reading.load reading.frames) (fit : FramesFit v.types w.stored trees root_key root_type reading.frames) where
   abbrev l : LoadNumber
   l = reading.load
@@ -58,7 +59,8 @@ module _ {N : Type 0} (v : Values N) (lawful : IsLawful v) (readable : ReadsItsT
   small frame r among got = let g = (held frame r among got).given in omega (arith, g)
 
   -- a handle was got
-  got-ready : (fs : List Frame) (kind : Kind) (row : HandleRow) (k : HandleNumber) (new : HandleRow) → row_at w' k ≡ Some row → k.0 ≡ w.last.handle + 1 → Stands w'.last.handle w'.rows (w.last.handle + 1) new → new.owner ≡ owners.Load l
+  got-ready : (fs : List Frame) (kind : Kind) (row : HandleRow) (k : HandleNumber) (new : HandleRow) → row_at w' k ≡ Some row → k.0 ≡ w.last.handle + 1
+      → Stands w'.last.handle w'.rows (w.last.handle + 1) new → new.owner ≡ owners.Load l
       → LivesKept fs → CallersKept → Live w l fs → GotOnce fs → AllBelow (w.last.handle + 1) fs → LoadReady w' l load (with_got kind row fs)
   got-ready fs kind row k new made next s own kept callers live once below =
       let same : row ≡ new = same_some _ _ (sym made ∙ ap (λ n. find_row n w'.rows) next ∙ s.live) in
@@ -81,7 +83,8 @@ module _ {N : Type 0} (v : Values N) (lawful : IsLawful v) (readable : ReadsItsT
     | inl c ↦ known-ready g.kind g.key g.k g.row c g.made
     | inr (none, few, next, a) ↦
         got-ready reading.frames g.kind g.row g.k _ g.made next.above (adopted-new w w' l g.kind g.key (optional.Some g.key) [] whole a) refl
-        (λ frame r among got x free s. adopted-keeps w w' l g.kind g.key (optional.Some g.key) [] a (nothing r.handle.0) s) (λ h x there own y free s. adopted-keeps w w' l g.kind g.key (optional.Some g.key) [] a (nothing h.0) s)
+        (λ frame r among got x free s. adopted-keeps w w' l g.kind g.key (optional.Some g.key) [] a (nothing r.handle.0) s)
+        (λ h x there own y free s. adopted-keeps w w' l g.kind g.key (optional.Some g.key) [] a (nothing h.0) s)
         ready.live ready.once small
   ]
     where

@@ -118,10 +118,12 @@ module _ {N B W E : Type 0} (m : Seen N B W) (s s' : MachineState N E) (whole : 
 
   nothing-ready : (l : LoadNumber) (load : OpenLoad) (frames : List Frame) → frames ≡ []
       → ((node : NodeNumber) (t : ℕ) (h : HandleNumber) → load.root ≡ of_cell node t h → (row : HandleRow) × (row_at w' h ≡ Some row) × (row.owner ≡ owners.Caller)) → LoadReady w' l load frames
-  nothing-ready l load frames none begun = record { begun = begun; live = λ frame r among got. absurd (let there = subst (λ fs. Among fs frame) none among in let e = there.1 in cc); once = once-none frames none }
+  nothing-ready l load frames none begun =
+      record { begun = begun; live = λ frame r among got. absurd (let there = subst (λ fs. Among fs frame) none among in let e = there.1 in cc); once = once-none frames none }
 
   -- what has just begun has read nothing
-  begun-empty : (l : LoadNumber) (reading : Reading) (readings : ℕ → Option Reading) → ReadingsAre readings (world_of s') → ((r : Reading) → readings l.0 ≡ Some r → r.frames ≡ []) → reading_at (world_of s') l ≡ Some reading → reading.frames ≡ []
+  begun-empty : (l : LoadNumber) (reading : Reading) (readings : ℕ → Option Reading) → ReadingsAre readings (world_of s') → ((r : Reading) → readings l.0 ≡ Some r → r.frames ≡ [])
+      → reading_at (world_of s') l ≡ Some reading → reading.frames ≡ []
   begun-empty l reading readings are none at = elim (reading-stands (world_of s') whole'.pager.whole l reading at) [
     | inl there ↦ none reading (reading-was readings (world_of s') are l.0 reading there).0
     | inr begun ↦ begun.0
@@ -143,7 +145,8 @@ module _ {N B W E : Type 0} (m : Seen N B W) (s s' : MachineState N E) (whole : 
       let hs : h ≡ q = cc in
       (row, subst (λ (x : HandleNumber). row_at w' x ≡ Some row) hs st.live, g.1.own))
 
-  by-key : (k l : LoadNumber) (key t : ℕ) (b : BeginKeyCall w owners.Caller key (Ok (beginnings.Load k key)) w') → ReadingsAre (updated k.0 (Some (fresh k t)) s.work.readings) (world_of s') → k.0 ≡ l.0 → Ready s' l
+  by-key : (k l : LoadNumber) (key t : ℕ) (b : BeginKeyCall w owners.Caller key (Ok (beginnings.Load k key)) w') → ReadingsAre (updated k.0 (Some (fresh k t)) s.work.readings) (world_of s')
+      → k.0 ≡ l.0 → Ready s' l
   by-key k l key t b are same = λ reading load at open_load.
       let g = b.begins in
       let next = g.1.above in
@@ -180,7 +183,8 @@ module _ {N B W E : Type 0} (m : Seen N B W) (s s' : MachineState N E) (whole : 
   ]
 
 -- a load's own step, where the chain goes on
-module _ {N B W E : Type 0} (m : Seen N B W) (lawful : IsLawful m.values) (readable : ReadsItsTypes m.values.types) (s s' : MachineState N E) (trees : ℕ → Tree) (on : IsGoingOn m.values s trees) (whole' : IsMachineWhole m.values s') where
+module _ {N B W E : Type 0} (m : Seen N B W) (lawful : IsLawful m.values) (readable : ReadsItsTypes m.values.types) (s s' : MachineState N E) (trees : ℕ → Tree)
+    (on : IsGoingOn m.values s trees) (whole' : IsMachineWhole m.values s') where
   abbrev core : Core
   core = s.pager.core
 
@@ -262,7 +266,8 @@ module _ {N B W E : Type 0} (m : Seen N B W) (lawful : IsLawful m.values) (reada
 
   -- ---- it is sound
 
-  references-fine : (l : LoadNumber) (reading : Reading) (load : OpenLoad) → IsAt l reading load → LoadReady core l load reading.frames → (frame : Frame) (below : List Frame) (x : N) → reading.frames ≡ frame ∷ below
+  references-fine : (l : LoadNumber) (reading : Reading) (load : OpenLoad) → IsAt l reading load → LoadReady core l load reading.frames → (frame : Frame) (below : List Frame) (x : N)
+      → reading.frames ≡ frame ∷ below
       → (decoded : IsDecoded m.values frame x) → IsForm m.values frame → references_fault core (owners.Load reading.load) [] (m.values.references x) ≡ None
   unfolding is_in
   references-fine l reading load a ready frame below x is decoded form =
@@ -298,7 +303,8 @@ module _ {N B W E : Type 0} (m : Seen N B W) (lawful : IsLawful m.values) (reada
           let few = reads-once m.values.types frame.node_type frame.blob form.refs frame.got form.form form.kinds (apart-once frame.got top-once) decoded.own decoded.read q in
           omega (arith, named, few)
 
-  callers-handle : (l : LoadNumber) (load : OpenLoad) (frames : List Frame) (node : NodeNumber) (t : ℕ) (h : HandleNumber) (e : Error) → LoadReady core l load frames → load.root ≡ of_cell node t h → handle_fault core owners.Caller h any_mode ≡ Some e → ⊥
+  callers-handle : (l : LoadNumber) (load : OpenLoad) (frames : List Frame) (node : NodeNumber) (t : ℕ) (h : HandleNumber) (e : Error) → LoadReady core l load frames
+      → load.root ≡ of_cell node t h → handle_fault core owners.Caller h any_mode ≡ Some e → ⊥
   callers-handle l load frames node t h e ready root fault =
       let b = ready.begun node t h root in
       let own : is_owner owners.Caller b.0.owner ≡ true = ap (is_owner owners.Caller) b.2 in
@@ -306,7 +312,8 @@ module _ {N B W E : Type 0} (m : Seen N B W) (lawful : IsLawful m.values) (reada
       ap (λ found. if_there (λ (row : HandleRow). if not (is_owner owners.Caller row.owner) then Some errors.NotYours else refused_if (not (any_mode row.mode)) errors.WrongMode) (Some errors.NoSuchHandle) found) b.1 ∙ rw own refl in
       cc
 
-  sound : (low : HeightsIn (world_of s)) (l : LoadNumber) (reply : LoadReply N) → LoadSteps m.values (world_of s) l reply (world_of s') → Ready s l → (load : OpenLoad) (e : Error) → core.loads l.0 ≡ Some load → IsLoadOfPagedOut s load
+  sound : (low : HeightsIn (world_of s)) (l : LoadNumber) (reply : LoadReply N) → LoadSteps m.values (world_of s) l reply (world_of s') → Ready s l → (load : OpenLoad) (e : Error)
+      → core.loads l.0 ≡ Some load → IsLoadOfPagedOut s load
       → reply.ended ≡ Some (ends.Refused e)
       → IsOfChance e
   sound low l reply x ready load e open_load paged ended =
@@ -359,11 +366,13 @@ module _ {N B W E : Type 0} (m : Seen N B W) where
       by (suc i) a before at begins = record { i = i; a = a; before = omega (arith, before); at = at; begins = begins }
 
   module _ (lawful : IsLawful m.values) (readable : ReadsItsTypes m.values.types) where
-    module _ (s : MachineState N E) (trees : ℕ → Tree) (on : IsGoingOn m.values s trees) (x : Moment N E B W) (xs : List (Moment N E B W)) (whole' : IsMachineWhole m.values x.after) (is : Happens m (world_of s) x.event x.reply (world_of x.after))
+    module _ (s : MachineState N E) (trees : ℕ → Tree) (on : IsGoingOn m.values s trees) (x : Moment N E B W) (xs : List (Moment N E B W)) (whole' : IsMachineWhole m.values x.after)
+        (is : Happens m (world_of s) x.event x.reply (world_of x.after))
         (together : StandTogether (x ∷ xs)) where
       next-going : (l : LoadNumber) → Ready s l → TurnsOn l (x ∷ xs) → (b : Bool) → is_turn l.0 (turn_of x.event x.reply) ≡ b → Stage x.after l xs
       next-going l ready turns true e =
-          going (turn-ready m lawful readable s x.after trees on whole' l x.event x.reply is (turn-is l.0 (turn_of x.event x.reply) e) ready) (λ i j a b lt at there. turns (suc i) (suc j) a b (omega (arith, lt)) at there)
+          going (turn-ready m lawful readable s x.after trees on whole' l x.event x.reply is (turn-is l.0 (turn_of x.event x.reply) e) ready)
+          (λ i j a b lt at there. turns (suc i) (suc j) a b (omega (arith, lt)) at there)
       next-going l ready turns false e = off (λ i a at turn. turn-isnt l.0 (turn_of x.event x.reply) e (turns 0 (suc i) x a (omega arith) refl at turn))
 
       next-ahead : (l : LoadNumber) → BegunFirst l (x ∷ xs) → IsBeginOf l.0 x.event x.reply ⊎ (IsBeginOf l.0 x.event x.reply → ⊥) → Stage x.after l xs
@@ -378,7 +387,8 @@ module _ {N B W E : Type 0} (m : Seen N B W) where
       next-stage l (off none) = off (λ i a at turn. none (suc i) a at turn)
       next-stage l (ahead first) = next-ahead l first (begin-or l.0 x.event x.reply)
 
-      load-sound : (low : HeightsIn (world_of s)) → ((l : LoadNumber) → Stage s l (x ∷ xs)) → (trees' : ℕ → Tree) (event : Event N B W) (reply : EventReply N B W) → x.event ≡ event → Happens m (world_of s) event reply (world_of x.after) → LoadIsSound s trees event reply x.after trees'
+      load-sound : (low : HeightsIn (world_of s)) → ((l : LoadNumber) → Stage s l (x ∷ xs)) → (trees' : ℕ → Tree) (event : Event N B W) (reply : EventReply N B W) → x.event ≡ event
+          → Happens m (world_of s) event reply (world_of x.after) → LoadIsSound s trees event reply x.after trees'
       load-sound low stage trees' (events.LoadStep l) (answers.LoadMoved (Ok reply)) same h = λ load e open_load paged ended. by load e open_load paged ended (stage l)
         where
           by : (load : OpenLoad) (e : Error) → s.pager.core.loads l.0 ≡ Some load → IsLoadOfPagedOut s load → reply.ended ≡ Some (ends.Refused e) → Stage s l (x ∷ xs) → IsOfChance e
@@ -395,7 +405,8 @@ module _ {N B W E : Type 0} (m : Seen N B W) where
       load-sound low stage trees' (events.WorkerItem t item) reply same h = tt
       load-sound low stage trees' (events.WorkerListed t i) reply same h = tt
 
-    sound-along : (s : MachineState N E) (trees : ℕ → Tree) (xs : List (Moment N E B W)) → IsGoingOn m.values s trees → HeightsIn (world_of s) → StandTogether xs → ((l : LoadNumber) → Stage s l xs) → AreMoments m s xs
+    sound-along : (s : MachineState N E) (trees : ℕ → Tree) (xs : List (Moment N E B W)) → IsGoingOn m.values s trees → HeightsIn (world_of s) → StandTogether xs
+        → ((l : LoadNumber) → Stage s l xs) → AreMoments m s xs
         → TreesAlong m LoadIsSound s trees xs
     sound-along s trees [] on low together stage chain = tt
     sound-along s trees (x ∷ xs) on low together stage (does, more) = λ premised.
@@ -405,9 +416,11 @@ module _ {N B W E : Type 0} (m : Seen N B W) where
           g.trees',
           record { keeps = a.keeps; stands = a.stands; so = load-sound s trees on x xs does.whole does.step.happens together low stage g.trees' x.event x.reply refl does.step.happens },
           sound-along x.after g.trees' xs g.on (heights-on m s x.after trees on.fits low on.work x.event x.reply turns)
-              (λ i j k p q r lt lt2 at there here. together (suc i) (suc j) (suc k) p q r (omega (arith, lt)) (omega (arith, lt2)) at there here) (λ l. next-stage s trees on x xs does.whole does.step.happens together l (stage l)) more,
+              (λ i j k p q r lt lt2 at there here. together (suc i) (suc j) (suc k) p q r (omega (arith, lt)) (omega (arith, lt2)) at there here)
+              (λ l. next-stage s trees on x xs does.whole does.step.happens together l (stage l)) more,
         )
 
 pub sound_law : {N B W : Type 0} (E : Type 0) (m : Seen N B W) → SoundLaw E m
 sound_law E m start moments trees whole idle chain together begun stands lawful readable settled =
-    sound-along m lawful readable start trees moments (idle-goes m lawful readable start trees whole idle settled stands) (heights-at-first start idle) together (λ l. ahead (λ k c at step. begun k c l at step)) chain
+    sound-along m lawful readable start trees moments (idle-goes m lawful readable start trees whole idle settled stands) (heights-at-first start idle) together
+    (λ l. ahead (λ k c at step. begun k c l at step)) chain

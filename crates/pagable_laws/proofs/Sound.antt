@@ -118,10 +118,12 @@ pub record IsForm {N : Type 0} (v : Values N) (frame : Frame) : Type 0 where
 -- Why it is refused: by chance, by a reference of what was read, or by the handle that began it.
 pub data Cause {N : Type 0} (v : Values N) (w : Core) (load : OpenLoad) (reading : Reading) (e : Error) : Type 0 where
   by-chance : IsOfChance e → Cause v w load reading e
-  by-references : (frame : Frame) (below : List Frame) (x : N) → reading.frames ≡ frame ∷ below → (decoded : IsDecoded v frame x) → IsForm v frame → references_fault w (owners.Load reading.load) [] (v.references x) ≡ Some e → Cause v w load reading e
+  by-references : (frame : Frame) (below : List Frame) (x : N) → reading.frames ≡ frame ∷ below → (decoded : IsDecoded v frame x) → IsForm v frame
+      → references_fault w (owners.Load reading.load) [] (v.references x) ≡ Some e → Cause v w load reading e
   by-handle : (node : NodeNumber) (t : ℕ) (h : HandleNumber) → load.root ≡ of_cell node t h → handle_fault w owners.Caller h any_mode ≡ Some e → Cause v w load reading e
 
-module _ {N B W E : Type 0} (m : Seen N B W) (s : MachineState N E) (trees : ℕ → Tree) (whole : IsMachineWhole m.values s) (stands : StandsFor m.values s trees) (lawful : IsLawful m.values) (readable : ReadsItsTypes m.values.types)
+module _ {N B W E : Type 0} (m : Seen N B W) (s : MachineState N E) (trees : ℕ → Tree) (whole : IsMachineWhole m.values s) (stands : StandsFor m.values s trees) (lawful : IsLawful m.values)
+    (readable : ReadsItsTypes m.values.types)
     (fit : WorkFits m.values s trees) (low : HeightsIn (world_of s)) (got : ReadingsAsked m.values.types (world_of s)) where
   abbrev v : Values N
   v = m.values
@@ -129,7 +131,8 @@ module _ {N B W E : Type 0} (m : Seen N B W) (s : MachineState N E) (trees : ℕ
   abbrev w : Core
   w = s.pager.core
 
-  module _ (l : LoadNumber) (reading : Reading) (load : OpenLoad) (at : reading_at (world_of s) l ≡ Some reading) (may : load_fault w owners.Caller l ≡ None) (open_load : w.loads l.0 ≡ Some load) (paged : IsLoadOfPagedOut s load) where
+  module _ (l : LoadNumber) (reading : Reading) (load : OpenLoad) (at : reading_at (world_of s) l ≡ Some reading) (may : load_fault w owners.Caller l ≡ None)
+      (open_load : w.loads l.0 ≡ Some load) (paged : IsLoadOfPagedOut s load) where
     abbrev node : NodeNumber
     node = paged.0
 
@@ -222,7 +225,8 @@ module _ {N B W E : Type 0} (m : Seen N B W) (s : MachineState N E) (trees : ℕ
     vain-chance : (want : Want) (key : ℕ) (blob : Blob) (mid : Core) (e : Error) → w.stored key ≡ Some blob → (let r : Result Blob Error = Err e in FetchCall w key r mid) → IsOfChance e
     vain-chance want key blob mid e is f = fetch-chance key (w.stored key) blob w.failures mid.failures e is f.refused
 
-    ask-chance : (want : Want) (mid : Core) (e : Error) → Refused (ask_fault w owners.Caller reading.load want) (ask_fault w owners.Caller reading.load want) ((is_known w want ≡ true) × AreHandlesFull w) w e mid → IsOfChance e
+    ask-chance : (want : Want) (mid : Core) (e : Error)
+        → Refused (ask_fault w owners.Caller reading.load want) (ask_fault w owners.Caller reading.load want) ((is_known w want ≡ true) × AreHandlesFull w) w e mid → IsOfChance e
     ask-chance want mid e r = elim r.why [
       | inl is ↦ elim (either (load_fault w owners.Caller reading.load) (where_so (is_known w want) (spent w.last.handle)) e is) [ inl a ↦ absurd (no-load-fault e a) | inr b ↦ where-chance (is_known w want) w.last.handle e b ]
       | inr memory ↦ memory-chance e memory.0
@@ -269,7 +273,8 @@ module _ {N B W E : Type 0} (m : Seen N B W) (s : MachineState N E) (trees : ℕ
     node-right : (top : Frame) (below : List Frame) → reading.frames ≡ top ∷ below → need_of v.types reading.frames ≡ to_adopt → (is_eager top.kind.0 ≡ true) × (top.node_type ≡ type_of top.kind.0)
     node-right top below is needs = by below (subst (λ fs. FramesFit v.types w.stored trees load.key reading.node_type fs) is is-read.fits) (subst (λ fs. FramesAsked v.types fs) is is-read.asked) (ap (need_of v.types) (sym is) ∙ needs)
       where
-        by : (below : List Frame) → FramesFit v.types w.stored trees load.key reading.node_type (top ∷ below) → FramesAsked v.types (top ∷ below) → need_of v.types (top ∷ below) ≡ to_adopt → (is_eager top.kind.0 ≡ true) × (top.node_type ≡ type_of top.kind.0)
+        by : (below : List Frame) → FramesFit v.types w.stored trees load.key reading.node_type (top ∷ below) → FramesAsked v.types (top ∷ below) → need_of v.types (top ∷ below) ≡ to_adopt
+            → (is_eager top.kind.0 ≡ true) × (top.node_type ≡ type_of top.kind.0)
         by [] fits asked adopts = let o = adopted-over [] (next_in v.types top) adopts in absurd (let e = o.2 in cc)
         by (under ∷ rest) fits asked adopts = (second-eager v.types top under rest asked, first-typed v.types load.key reading.node_type w.stored trees top under rest fits)
 
@@ -295,7 +300,8 @@ module _ {N B W E : Type 0} (m : Seen N B W) (s : MachineState N E) (trees : ℕ
         ]
 
     root-type : (root : Frame) → reading.frames ≡ root ∷ [] → root.node_type ≡ t
-    root-type root is = last-type v.types w.stored trees load.key reading.node_type root (subst (λ fs. FramesFit v.types w.stored trees load.key reading.node_type fs) is is-read.fits) ∙ is-read.of_type
+    root-type root is =
+        last-type v.types w.stored trees load.key reading.node_type root (subst (λ fs. FramesFit v.types w.stored trees load.key reading.node_type fs) is is-read.fits) ∙ is-read.of_type
 
     of-root : (mid : Core) (e : Error) → RefusesRoot v w owners.Caller reading e mid → C e
     of-root mid e r = elim r.refuses [
@@ -314,7 +320,8 @@ module _ {N B W E : Type 0} (m : Seen N B W) (s : MachineState N E) (trees : ℕ
       ]
     ]
       where
-        root-chance : (r : RefusesRoot v w owners.Caller reading e mid) → if_there (λ (x : OpenLoad). root_fault w owners.Caller (v.node_type r.x) x.root) None (w.loads reading.load.0) ≡ Some e → IsOfChance e
+        root-chance : (r : RefusesRoot v w owners.Caller reading e mid) → if_there (λ (x : OpenLoad). root_fault w owners.Caller (v.node_type r.x) x.root) None (w.loads reading.load.0) ≡ Some e
+            → IsOfChance e
         root-chance r is =
             let there : w.loads reading.load.0 ≡ Some load = ap (λ (x : LoadNumber). w.loads x.0) is-read.number ∙ open_load in
             let at_root : root_fault w owners.Caller (v.node_type r.x) (of_cell node t paged.2) ≡ Some e =

@@ -39,7 +39,8 @@ by-test false f e is same = absurd (cc)
 by-row : (w : Core) (r : ArcRef) (b : Bool) (row : HandleRow) (e : Error) → row_fault w r (refused_if b errors.NotYours) row ≡ Some e → IsOfHandles e
 by-row w r b row e is = at (not (row.node.0 == r.node.0)) b (not (fits_mode r.kind.0 row.mode)) is
   where
-    at : (a b c : Bool) → (if a then Some errors.NoSuchHandle else or_else (refused_if b errors.NotYours) (if c then Some errors.WrongMode else refused_if (not (is_type (type_of r.kind.0) (type_at w r.node.0))) errors.WrongKind)) ≡ Some e
+    at : (a b c : Bool)
+        → (if a then Some errors.NoSuchHandle else or_else (refused_if b errors.NotYours) (if c then Some errors.WrongMode else refused_if (not (is_type (type_of r.kind.0) (type_at w r.node.0))) errors.WrongKind)) ≡ Some e
         → IsOfHandles e
     at true b c is = of-handles errors.NoSuchHandle e tt is
     at false true c is = of-handles errors.NotYours e tt is
@@ -49,7 +50,9 @@ by-row w r b row e is = at (not (row.node.0 == r.node.0)) b (not (fits_mode r.ki
 by-one : (w : Core) (owner : Owner) (seen : List ℕ) (r : ArcRef) (e : Error) → reference_fault w owner seen r ≡ Some e → IsOfHandles e
 by-one w owner seen r e is = at (row_at w r.handle) is
   where
-    at : (found : Option HandleRow) → if_there (λ (row : HandleRow). row_fault w r (refused_if (not (is_owner owner row.owner) || is_in seen r.handle.0) errors.NotYours) row) (Some errors.NoSuchHandle) found ≡ Some e → IsOfHandles e
+    at : (found : Option HandleRow)
+        → if_there (λ (row : HandleRow). row_fault w r (refused_if (not (is_owner owner row.owner) || is_in seen r.handle.0) errors.NotYours) row)
+        (Some errors.NoSuchHandle) found ≡ Some e → IsOfHandles e
     at None is = of-handles errors.NoSuchHandle e tt is
     at (Some row) is = by-row w r (not (is_owner owner row.owner) || is_in seen r.handle.0) row e is
 
@@ -58,7 +61,8 @@ unfolding references_fault
 by-all w owner seen [] e is = absurd (cc)
 by-all w owner seen (r ∷ rs) e is = at (λ f. by-all w owner (r.handle.0 ∷ seen) rs e f) (reference_fault w owner seen r) refl is
   where
-    at : (references_fault w owner (r.handle.0 ∷ seen) rs ≡ Some e → IsOfHandles e) → (found : Option Error) → reference_fault w owner seen r ≡ found → or_else found (references_fault w owner (r.handle.0 ∷ seen) rs) ≡ Some e → IsOfHandles e
+    at : (references_fault w owner (r.handle.0 ∷ seen) rs ≡ Some e → IsOfHandles e) → (found : Option Error) → reference_fault w owner seen r ≡ found
+        → or_else found (references_fault w owner (r.handle.0 ∷ seen) rs) ≡ Some e → IsOfHandles e
     at later None first is = later is
     at later (Some f) first is = by-one w owner seen r e (first ∙ is)
 
@@ -69,14 +73,18 @@ by-handle-row w me h fits e is = at (row_at w h) is
     row r true b is = of-handles errors.NotYours e tt is
     row r false b is = by-test b errors.WrongMode e tt is
 
-    at : (found : Option HandleRow) → if_there (λ (row : HandleRow). if not (is_owner me row.owner) then Some errors.NotYours else refused_if (not (fits row.mode)) errors.WrongMode) (Some errors.NoSuchHandle) found ≡ Some e → IsOfHandles e
+    at : (found : Option HandleRow)
+        → if_there (λ (row : HandleRow). if not (is_owner me row.owner) then Some errors.NotYours else refused_if (not (fits row.mode)) errors.WrongMode)
+        (Some errors.NoSuchHandle) found ≡ Some e → IsOfHandles e
     at None is = of-handles errors.NoSuchHandle e tt is
     at (Some r) is = row r (not (is_owner me r.owner)) (not (fits r.mode)) is
 
 -- ---- a load's step
 
-module _ {N B W E : Type 0} (m : Seen N B W) (lawful : IsLawful m.values) (readable : ReadsItsTypes m.values.types) (s s' : MachineState N E) (trees trees' : ℕ → Tree) (on : IsGoingOn m.values s trees) (low : HeightsIn (world_of s)) where
-  pub load-cause : (l : LoadNumber) (reply : LoadReply N) (x : LoadSteps m.values (world_of s) l reply (world_of s')) (load : OpenLoad) (e : Error) → s.pager.core.loads l.0 ≡ Some load → IsLoadOfPagedOut s load → reply.ended ≡ Some (ends.Refused e)
+module _ {N B W E : Type 0} (m : Seen N B W) (lawful : IsLawful m.values) (readable : ReadsItsTypes m.values.types) (s s' : MachineState N E) (trees trees' : ℕ → Tree)
+    (on : IsGoingOn m.values s trees) (low : HeightsIn (world_of s)) where
+  pub load-cause : (l : LoadNumber) (reply : LoadReply N) (x : LoadSteps m.values (world_of s) l reply (world_of s')) (load : OpenLoad) (e : Error) → s.pager.core.loads l.0 ≡ Some load
+      → IsLoadOfPagedOut s load → reply.ended ≡ Some (ends.Refused e)
       → Cause m.values s.pager.core load x.reading e
   load-cause l reply x load e open_load paged is =
       let fails = subst (λ a. Does m.values s.pager.core owners.Caller x.reading a x.frames s'.pager.core) is x.does.does in

@@ -54,7 +54,8 @@ module _ {A B : Type 0} {look : Look A B} {kind_of : B → ℕ} {parts : ℕ →
   mutual
     unfolding read_with below items IsReadable varint_at bool_at
 
-    pub form-stops : (x : List ℕ) (r : List A) {left : ℕ} {s : Shape} {m : Meaning B} {b : List ℕ} {k : List B} → Form B kind_of parts left s m b k → Stops look kind_of e r k → Throughout IsReadable parts s
+    pub form-stops : (x : List ℕ) (r : List A) {left : ℕ} {s : Shape} {m : Meaning B} {b : List ℕ} {k : List B} → Form B kind_of parts left s m b k → Stops look kind_of e r k
+        → Throughout IsReadable parts s
         → read_at look parts left s (rest (b ++ x) r) ≡ Err e
     form-stops x r (nothing-form left) u t = none-stops u
     form-stops x r (unsigned-form left w n h) u t = none-stops u
@@ -97,7 +98,8 @@ module _ {A B : Type 0} {look : Look A B} {kind_of : B → ℕ} {parts : ℕ →
     form-stops x r (json-array-form left less ms b k is le h) u t = rw (is, append_assoc, length-again (length ms) (b ++ x) le, forms-stop x r h u (of_json tt)) refl
     form-stops x r (json-object-form left less es b k is le up h) u t = rw (is, append_assoc, length-again (length es) (b ++ x) le, entries-stop x r h u (of_text tt) (of_json tt)) refl
 
-    forms-stop : (x : List ℕ) (r : List A) {left : ℕ} {s : Shape} {ms : List (Meaning B)} {b : List ℕ} {k : List B} → Forms B kind_of parts left s ms b k → Stops look kind_of e r k → Throughout IsReadable parts s
+    forms-stop : (x : List ℕ) (r : List A) {left : ℕ} {s : Shape} {ms : List (Meaning B)} {b : List ℕ} {k : List B} → Forms B kind_of parts left s ms b k → Stops look kind_of e r k
+        → Throughout IsReadable parts s
         → items (read_at look parts left s) (length ms) (rest (b ++ x) r) ≡ Err e
     forms-stop x r (no-forms left s) u t = none-stops u
     forms-stop x r (more-forms left s m ms b c k l h g) u t = elim (split-stop k l u) [
@@ -105,7 +107,8 @@ module _ {A B : Type 0} {look : Look A B} {kind_of : B → ℕ} {parts : ℕ →
       | behind front back whole looks f ↦ rw (whole, append_assoc, form-again (c ++ x) front back h looks t, forms-stop x back g f t) refl
     ]
 
-    entries-stop : (x : List ℕ) (r : List A) {left : ℕ} {s s2 : Shape} {es : List (Entry B)} {b : List ℕ} {k : List B} → Entries B kind_of parts left s s2 es b k → Stops look kind_of e r k → Throughout IsReadable parts s
+    entries-stop : (x : List ℕ) (r : List A) {left : ℕ} {s s2 : Shape} {es : List (Entry B)} {b : List ℕ} {k : List B} → Entries B kind_of parts left s s2 es b k → Stops look kind_of e r k
+        → Throughout IsReadable parts s
         → Throughout IsReadable parts s2 → items (two (read_at look parts left s) (read_at look parts left s2)) (length es) (rest (b ++ x) r) ≡ Err e
     entries-stop x r (no-entries left s s2) u t v = none-stops u
     entries-stop x r (more-entries left s s2 m n es b c d j k l h g f) u t v = elim (split-stop j (k ++ l) u) [
