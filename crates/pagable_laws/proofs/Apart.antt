@@ -80,7 +80,8 @@ module _ (types : Types) (t : ℕ) (blob : Blob) (refs got : List ArcRef) (f : I
       let here = subst (λ o. Answers (λ kind. answer_of o kind) r) (sym g.1) (answer-own g.0 r place g.1 there g.2) in
       more-two _ r _ rs here (all-answer (place + 1) rs ks (λ i. let next : place + suc i ≡ place + 1 + i = omega arith in at (suc i) ∙ ap (slice_get refs) next) (omega arith))
 
-  both-own : {own : Meaning ArcRef} {after : Rest Answer} {n : Meaning ArcRef} {left : Rest ArcRef} {first : Result (Meaning ArcRef × Rest Answer) Error} {second : Result (Meaning ArcRef × Rest ArcRef) Error}
+  both-own : {own : Meaning ArcRef} {after : Rest Answer} {n : Meaning ArcRef} {left : Rest ArcRef} {first : Result (Meaning ArcRef × Rest Answer) Error} {second : Result
+      (Meaning ArcRef × Rest ArcRef) Error}
       → Out no_cause Answers (Along ⊥ (InPlace got refs)) first second → first ≡ Ok (own, after) → second ≡ Ok (n, left) → Along ⊥ (InPlace got refs) own n
   both-own {own} {after} {n} {left} (both-given p q v s) e d =
       let one_side : p ≡ (own, after) = cc in
@@ -98,7 +99,8 @@ module _ (types : Types) (t : ℕ) (blob : Blob) (refs got : List ArcRef) (f : I
       let whole : read (record { levels = 0; look = own_look; parts = types.parts }) f.shape (rest blob.bytes refs) ≡ Ok (f.own, rest [] []) = rw (append-nil, append-nil) at again in
       let shaped : read_with types t blob got ≡ read (handles_at 0 types.parts) f.shape (rest blob.bytes (answers_from got 0 blob.keys)) = rw f.is refl in
       let first : read (handles_at 0 types.parts) f.shape (rest blob.bytes (answers_from got 0 blob.keys)) ≡ Ok (own, given.0) = sym shaped ∙ given.1 in
-      both-own (par.out (rest blob.bytes (answers_from got 0 blob.keys)) (rest blob.bytes refs) (record { bytes = refl; refs = all-answer 0 refs blob.keys (λ i. let start : i ≡ 0 + i = omega arith in ap (slice_get refs) start) f.as_many })) first whole
+      both-own (par.out (rest blob.bytes (answers_from got 0 blob.keys)) (rest blob.bytes refs) (record { bytes = refl; refs = all-answer 0 refs blob.keys
+          (λ i. let start : i ≡ 0 + i = omega arith in ap (slice_get refs) start) f.as_many })) first whole
 
   -- ---- references, one by one
 

@@ -71,7 +71,8 @@ once-got (top ∷ below) kind row small once q =
     at true e grown old push few =
         let z : one (row.number.0 == q) ≡ 1 = ap one e in
         let is = same-number row.number.0 q e in
-        let none = sum-zero (λ (f : Frame). times (λ (r : ArcRef). r.handle.0 == q) f.got) (top ∷ below) (λ f fs. sum-zero (λ (r : ArcRef). one (r.handle.0 == q)) f.got (λ r rs. off is f fs r rs (r.handle.0 == q) refl)) in
+        let none = sum-zero (λ (f : Frame). times (λ (r : ArcRef). r.handle.0 == q) f.got) (top ∷ below) (λ f fs. sum-zero (λ (r : ArcRef). one (r.handle.0 == q)) f.got
+            (λ r rs. off is f fs r rs (r.handle.0 == q) refl)) in
         omega (arith, z, grown, old, push, none)
 
 -- where each was got once, they are apart

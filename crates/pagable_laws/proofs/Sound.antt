@@ -216,7 +216,8 @@ module _ {N B W E : Type 0} (m : Seen N B W) (s : MachineState N E) (trees : ℕ
 
     form-of : (frame : Frame) (below : List Frame) → reading.frames ≡ frame ∷ below → (x : N) → IsDecoded v frame x → IsForm v frame
     form-of frame below is x decoded =
-        let k = formed v s trees fit low readable out.t load.key reading.node_type out.i out.height out.known typed frame below (subst (λ fs. FramesFit v.types w.stored trees load.key reading.node_type fs) is is-read.fits)
+        let k = formed v s trees fit low readable out.t load.key reading.node_type out.i out.height out.known typed frame below (subst
+            (λ fs. FramesFit v.types w.stored trees load.key reading.node_type fs) is is-read.fits)
         (subst (λ fs. FramesAsked v.types fs) is is-read.asked) decoded.own decoded.read in
         record { refs = k.refs; form = k.form; kinds = k.kinds }
 
@@ -228,7 +229,8 @@ module _ {N B W E : Type 0} (m : Seen N B W) (s : MachineState N E) (trees : ℕ
     ask-chance : (want : Want) (mid : Core) (e : Error)
         → Refused (ask_fault w owners.Caller reading.load want) (ask_fault w owners.Caller reading.load want) ((is_known w want ≡ true) × AreHandlesFull w) w e mid → IsOfChance e
     ask-chance want mid e r = elim r.why [
-      | inl is ↦ elim (either (load_fault w owners.Caller reading.load) (where_so (is_known w want) (spent w.last.handle)) e is) [ inl a ↦ absurd (no-load-fault e a) | inr b ↦ where-chance (is_known w want) w.last.handle e b ]
+      | inl is ↦ elim (either (load_fault w owners.Caller reading.load) (where_so (is_known w want) (spent w.last.handle)) e is) [ inl a ↦ absurd (no-load-fault e a) | inr b ↦ where-chance
+          (is_known w want) w.last.handle e b ]
       | inr memory ↦ memory-chance e memory.0
     ]
 
@@ -271,7 +273,8 @@ module _ {N B W E : Type 0} (m : Seen N B W) (s : MachineState N E) (trees : ℕ
 
     -- the blob that becomes a node is read through a reference that isn't loose, and is of its kind's type
     node-right : (top : Frame) (below : List Frame) → reading.frames ≡ top ∷ below → need_of v.types reading.frames ≡ to_adopt → (is_eager top.kind.0 ≡ true) × (top.node_type ≡ type_of top.kind.0)
-    node-right top below is needs = by below (subst (λ fs. FramesFit v.types w.stored trees load.key reading.node_type fs) is is-read.fits) (subst (λ fs. FramesAsked v.types fs) is is-read.asked) (ap (need_of v.types) (sym is) ∙ needs)
+    node-right top below is needs = by below (subst (λ fs. FramesFit v.types w.stored trees load.key reading.node_type fs) is is-read.fits) (subst
+        (λ fs. FramesAsked v.types fs) is is-read.asked) (ap (need_of v.types) (sym is) ∙ needs)
       where
         by : (below : List Frame) → FramesFit v.types w.stored trees load.key reading.node_type (top ∷ below) → FramesAsked v.types (top ∷ below) → need_of v.types (top ∷ below) ≡ to_adopt
             → (is_eager top.kind.0 ≡ true) × (top.node_type ≡ type_of top.kind.0)
@@ -312,7 +315,8 @@ module _ {N B W E : Type 0} (m : Seen N B W) (s : MachineState N E) (trees : ℕ
         | inr memory ↦ by-chance (memory-chance e memory.0)
         | inl why ↦ elim (either (load_fault w owners.Caller reading.load) _ e why) [
           | inl a ↦ absurd (no-load-fault e a)
-          | inr b ↦ elim (either (if_there (λ (x : OpenLoad). root_fault w owners.Caller (v.node_type r.x) x.root) None (w.loads reading.load.0)) (references_fault w (owners.Load reading.load) [] (v.references r.x)) e b) [
+          | inr b ↦ elim (either (if_there (λ (x : OpenLoad). root_fault w owners.Caller (v.node_type r.x) x.root) None (w.loads reading.load.0)) (references_fault w
+              (owners.Load reading.load) [] (v.references r.x)) e b) [
             | inl a ↦ by-chance (root-chance r a)
             | inr f ↦ by-references r.reads_root.root [] r.x r.reads_root.frames r.reads_root.decoded (form-of r.reads_root.root [] r.reads_root.frames r.x r.reads_root.decoded) f
           ]

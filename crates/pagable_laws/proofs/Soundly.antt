@@ -40,7 +40,8 @@ by-row : (w : Core) (r : ArcRef) (b : Bool) (row : HandleRow) (e : Error) → ro
 by-row w r b row e is = at (not (row.node.0 == r.node.0)) b (not (fits_mode r.kind.0 row.mode)) is
   where
     at : (a b c : Bool)
-        → (if a then Some errors.NoSuchHandle else or_else (refused_if b errors.NotYours) (if c then Some errors.WrongMode else refused_if (not (is_type (type_of r.kind.0) (type_at w r.node.0))) errors.WrongKind)) ≡ Some e
+        → (if a then Some errors.NoSuchHandle else or_else (refused_if b errors.NotYours) (if c then Some errors.WrongMode else refused_if (not (is_type (type_of r.kind.0)
+            (type_at w r.node.0))) errors.WrongKind)) ≡ Some e
         → IsOfHandles e
     at true b c is = of-handles errors.NoSuchHandle e tt is
     at false true c is = of-handles errors.NotYours e tt is
