@@ -19,6 +19,12 @@ use Rattle.pagable_laws.proofs.HeightSteps.{HeightsIn}
 use Rattle.pagable_laws.proofs.Asking.{IsFormOf, GotAsked, FramesAsked, NextOf, asks-known, all-read, next-known, all-got}
 use Rattle.pagable_laws.proofs.ReadingStepsKinds.{kinds_of}
 
+-- the blob is a form of some value, and all of its references were got
+pub record IsForm {N : Type 0} (v : Values N) (frame : Frame) : Type 0 where
+  pub refs : List ArcRef
+  pub form : IsFormOf v.types frame.node_type frame.blob refs
+  pub kinds : kinds_of frame.got ≡ kinds_of refs
+
 as-many-keys : (shelf : Shelf) (rs : List ArcRef) (keys : List ℕ) → AreKeysOf shelf rs keys → length keys ≡ length rs
 as-many-keys shelf [] [] all = refl
 as-many-keys shelf (r ∷ rs) (k ∷ ks) all = let a = as-many-keys shelf rs ks all.1 in omega (arith, a)
@@ -160,14 +166,9 @@ module _ {N E : Type 0} (v : Values N) (s : MachineState N E) (trees : ℕ → T
         within : (b h n limit : ℕ) → b + 1 ≤ h → h + n ≤ limit + 1 → limit ≤ longest_path → n ≤ longest_path
         within b h n limit le few small = omega arith
 
-    -- the innermost blob is a form of some value, and where it is read all of its references were got
-    pub record IsFormed (frame : Frame) (own : Meaning ArcRef) : Type 0 where
-      pub refs : List ArcRef
-      pub form : IsFormOf v.types frame.node_type frame.blob refs
-      pub kinds : kinds_of frame.got ≡ kinds_of refs
-
+    -- the innermost blob is so, where it is read
     pub formed : (frame : Frame) (below : List Frame) → FramesFit v.types stored trees root_key root_type (frame ∷ below) → FramesAsked v.types (frame ∷ below) → (own : Meaning ArcRef)
-        → next_in v.types frame ≡ reads own → IsFormed frame own
+        → next_in v.types frame ≡ reads own → IsForm v frame
     formed frame below fits got own is =
         let t = top-known frame below fits got in
         record { refs = t.known.refs; form = t.known.form; kinds = all-got v.types frame.node_type frame.blob t.known.refs t.known.form (first-asked frame below got) own is }

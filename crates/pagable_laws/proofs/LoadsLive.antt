@@ -75,30 +75,22 @@ once-got (top ∷ below) kind row small once q =
             (λ r rs. off is f fs r rs (r.handle.0 == q) refl)) in
         omega (arith, z, grown, old, push, none)
 
+-- what was got once isn't got again
+twice : (x : ArcRef) (xs : List ArcRef) → ((q : ℕ) → times (λ (r : ArcRef). r.handle.0 == q) (x ∷ xs) ≤ 1) → (y : ArcRef) → Among xs y → x.handle.0 ≡ y.handle.0 → ⊥
+twice x xs once y among same =
+    let a = once y.handle.0 in
+    let b = sum_by-cons (λ (r : ArcRef). one (r.handle.0 == y.handle.0)) x xs in
+    let c = at-most-sum (λ (r : ArcRef). one (r.handle.0 == y.handle.0)) xs y among in
+    let d : one (y.handle.0 == y.handle.0) ≡ 1 = ap one (self-number y.handle.0) in
+    let z : one (x.handle.0 == y.handle.0) ≡ 1 = ap (λ n. one (n == y.handle.0)) same ∙ d in
+    omega (arith, a, b, c, d, z)
+
 -- where each was got once, they are apart
 pub apart-once : (got : List ArcRef) → ((q : ℕ) → times (λ (r : ArcRef). r.handle.0 == q) got ≤ 1) → AreApart got
 apart-once [] once i j r q is at same = absurd (cc)
 apart-once (x ∷ xs) once zero zero r q is at same = refl
 apart-once (x ∷ xs) once zero (suc j) r q is at same = absurd (twice x xs once q (j, at) (let e : x ≡ r = cc in ap (λ (y : ArcRef). y.handle.0) e ∙ same))
-  where
-    twice : (x : ArcRef) (xs : List ArcRef) → ((q : ℕ) → times (λ (r : ArcRef). r.handle.0 == q) (x ∷ xs) ≤ 1) → (y : ArcRef) → Among xs y → x.handle.0 ≡ y.handle.0 → ⊥
-    twice x xs once y among same =
-        let a = once y.handle.0 in
-        let b = sum_by-cons (λ (r : ArcRef). one (r.handle.0 == y.handle.0)) x xs in
-        let c = at-most-sum (λ (r : ArcRef). one (r.handle.0 == y.handle.0)) xs y among in
-        let d : one (y.handle.0 == y.handle.0) ≡ 1 = ap one (self-number y.handle.0) in
-        let z : one (x.handle.0 == y.handle.0) ≡ 1 = ap (λ n. one (n == y.handle.0)) same ∙ d in
-        omega (arith, a, b, c, d, z)
 apart-once (x ∷ xs) once (suc i) zero r q is at same = absurd (twice x xs once r (i, is) (let e : x ≡ q = cc in ap (λ (y : ArcRef). y.handle.0) e ∙ sym same))
-  where
-    twice : (x : ArcRef) (xs : List ArcRef) → ((q : ℕ) → times (λ (r : ArcRef). r.handle.0 == q) (x ∷ xs) ≤ 1) → (y : ArcRef) → Among xs y → x.handle.0 ≡ y.handle.0 → ⊥
-    twice x xs once y among same =
-        let a = once y.handle.0 in
-        let b = sum_by-cons (λ (r : ArcRef). one (r.handle.0 == y.handle.0)) x xs in
-        let c = at-most-sum (λ (r : ArcRef). one (r.handle.0 == y.handle.0)) xs y among in
-        let d : one (y.handle.0 == y.handle.0) ≡ 1 = ap one (self-number y.handle.0) in
-        let z : one (x.handle.0 == y.handle.0) ≡ 1 = ap (λ n. one (n == y.handle.0)) same ∙ d in
-        omega (arith, a, b, c, d, z)
 apart-once (x ∷ xs) once (suc i) (suc j) r q is at same =
     let e = apart-once xs (λ n. let a = once n in let b = sum_by-cons (λ (y : ArcRef). one (y.handle.0 == n)) x xs in omega (arith, a, b)) i j r q is at same in omega (arith, e)
 

@@ -41,7 +41,8 @@ use Rattle.pagable_laws.proofs.ReadingSteps.{caller-free, reading-feels}
 use Rattle.pagable_laws.proofs.ReadingStepsMachine.{reading-was, reading-stands}
 use Rattle.pagable_laws.proofs.ReadingStepsGive.{got-typed}
 use Rattle.pagable_laws.proofs.HeightSteps.{HeightsIn, heights-at-first, heights-on}
-use Rattle.pagable_laws.proofs.Sound.{IsForm, by-chance, by-references, by-handle}
+use Rattle.pagable_laws.proofs.Sound.{by-chance, by-references, by-handle}
+use Rattle.pagable_laws.proofs.Known.{IsForm}
 use Rattle.pagable_laws.proofs.Soundly.{load-cause}
 use Rattle.pagable_laws.proofs.Apart.{fine, reads-once}
 use Rattle.pagable_laws.proofs.LoadsLive.{times_got, LoadReady, once-none, apart-once, got-cons, with-one}

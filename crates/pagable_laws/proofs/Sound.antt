@@ -25,9 +25,8 @@ use Rattle.pagable_laws.proofs.Sums.{self-number}
 use Rattle.pagable_laws.proofs.Taking.{adopted-over}
 use Rattle.pagable_laws.proofs.Fitting.{first-typed}
 use Rattle.pagable_laws.proofs.HeightSteps.{HeightsIn}
-use Rattle.pagable_laws.proofs.Asking.{IsFormOf, FramesAsked}
-use Rattle.pagable_laws.proofs.Known.{root-there, needed, not-broken, formed}
-use Rattle.pagable_laws.proofs.ReadingStepsKinds.{kinds_of}
+use Rattle.pagable_laws.proofs.Asking.{FramesAsked}
+use Rattle.pagable_laws.proofs.Known.{IsForm, root-there, needed, not-broken, formed}
 use Rattle.pagable_laws.proofs.KnownSteps.{ReadingsAsked, eager-nested}
 
 -- ---- refusals
@@ -108,12 +107,6 @@ same-type : (a b : ℕ) → a ≡ b → not (a == b) ≡ false
 same-type a b is = ap (λ x. not (x == b)) is ∙ ap not (self-number b)
 
 -- ---- the load
-
--- the blob is a form of some value, and all of its references were got
-pub record IsForm {N : Type 0} (v : Values N) (frame : Frame) : Type 0 where
-  pub refs : List ArcRef
-  pub form : IsFormOf v.types frame.node_type frame.blob refs
-  pub kinds : kinds_of frame.got ≡ kinds_of refs
 
 -- Why it is refused: by chance, by a reference of what was read, or by the handle that began it.
 pub data Cause {N : Type 0} (v : Values N) (w : Core) (load : OpenLoad) (reading : Reading) (e : Error) : Type 0 where
@@ -216,10 +209,8 @@ module _ {N B W E : Type 0} (m : Seen N B W) (s : MachineState N E) (trees : ℕ
 
     form-of : (frame : Frame) (below : List Frame) → reading.frames ≡ frame ∷ below → (x : N) → IsDecoded v frame x → IsForm v frame
     form-of frame below is x decoded =
-        let k = formed v s trees fit low readable out.t load.key reading.node_type out.i out.height out.known typed frame below (subst
-            (λ fs. FramesFit v.types w.stored trees load.key reading.node_type fs) is is-read.fits)
-        (subst (λ fs. FramesAsked v.types fs) is is-read.asked) decoded.own decoded.read in
-        record { refs = k.refs; form = k.form; kinds = k.kinds }
+        formed v s trees fit low readable out.t load.key reading.node_type out.i out.height out.known typed frame below
+        (subst (λ fs. FramesFit v.types w.stored trees load.key reading.node_type fs) is is-read.fits) (subst (λ fs. FramesAsked v.types fs) is is-read.asked) decoded.own decoded.read
 
     -- ---- asking
 
