@@ -7,7 +7,7 @@ use Rattle.pagable_model.specs.declared.error.Error.TheVariants as errors
 use Rattle.pagable_world.specs.declared.calls.Want.{Want}
 use Rattle.pagable_world.specs.declared.calls.Want.TheVariants as wants
 use Rattle.pagable_world.specs.declared.handles.Owner.TheVariants as owners
-use Rattle.pagable_world.specs.Plain.{Error, ArcRef, Kind, HandleNumber, LoadNumber, NodeNumber, Blob, Tree, Types, type_of, is_eager, is_loose_kind, longest_path, if_there}
+use Rattle.pagable_world.specs.Plain.{Error, Kind, HandleNumber, LoadNumber, NodeNumber, Blob, Tree, Types, type_of, is_eager, is_loose_kind, longest_path, if_there}
 use Rattle.pagable_world.specs.Kinds.{any_mode}
 use Rattle.pagable_world.specs.World.{Core, OpenLoad, of_cell, Frame, Reading, Seen, Values, IsLawful}
 use Rattle.pagable_world.specs.Refusals.{rank, earlier, where_so, refused_if, spent, handle_fault, references_fault, load_fault, AreHandlesFull, Refused}
