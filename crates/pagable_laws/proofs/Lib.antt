@@ -75,6 +75,9 @@ mod Answering
 mod Brought
 mod Staying
 mod Lasting
+mod Stopping
+mod Asking
+mod KnownSteps
 mod Chains
 mod Tested
 mod Whole
@@ -100,3 +103,11 @@ pub mod Usable
 mod UsableCalls
 mod UsableSteps
 mod Identities
+mod Known
+mod Sound
+mod Soundly
+mod Apart
+mod LoadsLive
+mod LoadsReady
+mod OnePiece
+mod DeepLoads
