@@ -1,4 +1,4 @@
--- A pager of nothing is in step.
+-- A pager of nothing is a new one.
 use Rattle.std.proofs.Common.{◌≡◌, ℕ, Bool, true, false, [], refl, ap, sym, subst, ◌∙◌, Some, None, nat_eq}
 use Rattle.std.specs.Prelude.{Option, is_some}
 use Rattle.std.specs.Option.{option_map}
@@ -6,43 +6,26 @@ use Rattle.std.specs.Arc.{arc_value}
 use Rattle.std.specs.HashMap.{get}
 use Rattle.pagable_model.specs.declared.numbers.NodeNumber.{NodeNumber}
 use Rattle.pagable_world.specs.declared.handles.HandleRow.{HandleRow}
-use Rattle.pagable_world.specs.Plain.{times, is_in}
-use Rattle.pagable_world.specs.Kinds.{is_owned_by, owner_value}
+use Rattle.pagable_world.specs.Plain.{is_in}
 use Rattle.pagable_world.specs.Pager.{IsNew}
 use Rattle.pagable_tables.specs.declared.tables.Tables.{Tables}
 use Rattle.pagable_tables.specs.Live.{live}
 use Rattle.pagable_tables.specs.ByNumber.{counts_at, load_at, known_at}
 use Rattle.pagable_tables.specs.Falling.{cell_in, pins_in}
-use Rattle.pagable_tables.specs.Core.{IsWhole, load_in}
-use Rattle.pagable_pager.specs.View.{PagerView, Telling, Spelling, IsPager, state_in, value_in}
-use Rattle.pagable_pager.proofs.Shed.{whole-over}
+use Rattle.pagable_tables.specs.Core.{load_in}
+use Rattle.pagable_pager.specs.View.{PagerView, Telling, state_in, value_in}
 
 in-none : (v : ℕ) → is_in [] v ≡ false
 unfolding is_in
 in-none v = refl
 
-module _ {N S E : Type 0} (tells : Telling S) (g : Spelling N E) (p : PagerView N S E) (whole : IsWhole p.tables) (rows : p.tables.holdings.handles.places.items ≡ []) (nodes : (n : ℕ) → counts_at p.tables.holdings.nodes n ≡ None)
+module _ {N S E : Type 0} (tells : Telling S) (p : PagerView N S E) (rows : p.tables.holdings.handles.places.items ≡ []) (nodes : (n : ℕ) → counts_at p.tables.holdings.nodes n ≡ None)
     (list : p.tables.holdings.list.items ≡ []) (cache : (kind key : ℕ) → known_at p.tables.cache kind key ≡ None) (none : (n : ℕ) → get nat_eq p.values n ≡ None) where
   no-value : (n : ℕ) → value_in p.values n ≡ None
   no-value n = ap (option_map arc_value) (none n)
 
   known-none : (kind key : ℕ) → option_map (λ (m : NodeNumber). m.0) (known_at p.tables.cache kind key) ≡ None
   known-none kind key = ap (option_map (λ (m : NodeNumber). m.0)) (cache kind key)
-
-  pub empty : IsPager tells g p
-  empty =
-      record {
-        tables = whole;
-        state = record {
-          whole = whole-over p.tables (tells.stored p.storage) (tells.closed p.storage) (tells.failed p.storage) whole (λ closed. (list, known-none));
-          counted = whole.steady.fits.pinned;
-          valued = λ n. rw (no-value n, nodes n) refl;
-          typed = λ n x is. absurd (let f : None ≡ Some x = sym (no-value n) ∙ is in cc);
-          inside = λ n x q is. absurd (let f : None ≡ Some x = sym (no-value n) ∙ is in cc);
-          bare = λ n is. ap (λ ps. times (is_owned_by (owner_value n)) (live ps)) rows;
-          references = λ n x r is. absurd (let f : None ≡ Some x = sym (no-value n) ∙ is in cc);
-        };
-      }
 
   pub is-new : ((l : ℕ) → load_at p.tables.loads l ≡ None) → p.tables.workers.items ≡ [] → (p.tables.last_node ≡ 0) × (p.tables.holdings.last_handle ≡ 0) × (p.tables.last_load ≡ 0) × (p.tables.last_worker ≡ 0) → IsNew (state_in tells p)
   is-new loads workers last =

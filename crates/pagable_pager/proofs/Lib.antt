@@ -7,3 +7,4 @@ pub mod Stored
 pub mod Shed
 pub mod Shut
 pub mod Empty
+pub mod Seen
