@@ -13,9 +13,16 @@ fn zoo(alloc: Global) -> Result<Zoo, Error> {
     Zoo::new(alloc, &["b", "a", "b"], &[], &[])
 }
 
-/// A text under this index, whether or not it stands there.
-fn word(value: &'static str, index: u32) -> StaticStr {
-    StaticValue(StaticValueEntry { value, index })
+/// Whether a text under this index, whether or not it stands there, is written so.
+fn is_word_written(
+    alloc: Global,
+    zoo: &Zoo,
+    value: &'static str,
+    index: u32,
+    wanted: Result<&[u8], u32>,
+) -> bool {
+    let word: StaticStr = StaticValue(StaticValueEntry { value, index });
+    is_written(alloc, zoo, &word, wanted)
 }
 
 #[test]
@@ -36,18 +43,14 @@ fn equal_static_values_stand_one_after_another(rt: HostRuntime) -> Result<(), Fa
 #[test]
 fn a_static_value_is_written_under_its_own_index_alone(rt: HostRuntime) -> Result<(), Fail> {
     let zoo = zoo(rt.alloc()).ok().ok_or("no memory")?;
+    for (text, index) in [("a", 0u8), ("b", 1), ("b", 2)] {
+        let found = is_word_written(rt.alloc(), &zoo, text, u32::from(index), Ok(&[index]));
+        equal(&rt, found, true, text);
+    }
     let unregistered = Err(Error::Unregistered.number());
-    let rows: [(&'static str, u32, Result<&[u8], u32>); 6] = [
-        ("a", 0, Ok(&[0])),
-        ("b", 1, Ok(&[1])),
-        ("b", 2, Ok(&[2])),
-        ("b", 0, unregistered),
-        ("a", 1, unregistered),
-        ("z", 9, unregistered),
-    ];
-    for (text, index, wanted) in rows {
-        let found = is_written(rt.alloc(), &zoo, &word(text, index), wanted);
-        assert!(rt; found, "{text} under {index}");
+    for (text, index) in [("b", 0), ("a", 1), ("z", 9)] {
+        let found = is_word_written(rt.alloc(), &zoo, text, index, unregistered);
+        equal(&rt, found, true, text);
     }
     Ok(())
 }
