@@ -2,9 +2,3 @@ pub mod Keeping
 pub mod Ending
 pub mod Kept
 pub mod Sweeping
-pub mod Spared
-pub mod Stored
-pub mod Shed
-pub mod Shut
-pub mod Empty
-pub mod Seen

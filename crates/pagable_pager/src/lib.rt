@@ -3,7 +3,6 @@
 #![tactic(auto)]
 
 pub mod pagable_arc;
-pub mod pager;
 
 pub use pagable_arc::pager::{Pager, Want};
 pub use pagable_world::{Beginning, Mode, Owner, Pinning};
