@@ -35,3 +35,4 @@ mod KeyPut
 mod Seen
 mod Handed
 mod KeySet
+mod Valued
