@@ -1,5 +1,5 @@
 -- A cell has got a key: nothing else has gone or come so far.
-use Rattle.std.proofs.Common.{◌≡◌, ℕ, ◌≤◌, Bool, not, refl, ap, sym, subst, arith, Option, None}
+use Rattle.std.proofs.Common.{◌≡◌, ℕ, Bool, not, refl, sym, subst, arith, Option, None}
 use Rattle.pagable_model.specs.declared.numbers.NodeNumber.{NodeNumber}
 use Rattle.pagable_world.specs.Plain.{Blob}
 use Rattle.pagable_world.specs.Calls.{with_key}

@@ -36,3 +36,4 @@ mod Seen
 mod Handed
 mod KeySet
 mod Taken
+mod Valued

@@ -182,6 +182,17 @@ cell_in (Some c) = Some (record { node_type = c.node_type; key = key_in c.key })
 abbrev pub CellsStay : (ℕ → Option Counts) → (ℕ → Option Counts) → Type 0
 CellsStay old new = (n : ℕ) → is_some (new n) ≡ true → (is_some (old n) ≡ true) × (cell_in (new n) ≡ cell_in (old n))
 
+-- whether the node has its value, and doesn't fall
+abbrev pub has_value : Option Counts → Bool
+has_value None = false
+has_value (Some c) = not c.is_falling && (nat_lt 0 c.pins || not (nat_lt 0 c.key))
+
+-- A node that doesn't fall didn't fall before either, and has its value, and what that refers to, as it was.
+pub record IsKept (at at' : ℕ → Option Counts) (refs refs' : ℕ → List ArcRef) (n : ℕ) : Type 0 where
+  pub free : falls_in (at n) ≡ false
+  pub valued : has_value (at' n) ≡ has_value (at n)
+  pub references : refs' n ≡ refs n
+
 -- The handle of the row x is given up.
 pub record GivesUp (old : Holdings) (stack : List ℕ) (x : HandleRow) (listing : Bool) (new : Holdings) : Type 0 where
   pub counts : Counts
@@ -191,6 +202,7 @@ pub record GivesUp (old : Holdings) (stack : List ℕ) (x : HandleRow) (listing 
   pub leaves : Leaves old x (listing && is_listing counts x.mode) listed between
   pub same : new ≡ record between { nodes = new.nodes; top = new.top }
   pub cells : CellsStay (counts_at old.nodes) (counts_at new.nodes)
+  pub keeps : (n : ℕ) → falls_in (counts_at new.nodes n) ≡ false → IsKept (counts_at old.nodes) (counts_at new.nodes) (refs_at old.nodes) (refs_at new.nodes) n
   pub more : List ℕ
   pub falling : IsFalling new more owns_nothing
   pub long : length more ≤ length stack + 1
@@ -199,6 +211,7 @@ pub record GivesUp (old : Holdings) (stack : List ℕ) (x : HandleRow) (listing 
 pub record Settles (old : Holdings) (stack : List ℕ) (new : Holdings) : Type 0 where
   pub same : new ≡ record old { nodes = new.nodes; top = new.top }
   pub cells : CellsStay (counts_at old.nodes) (counts_at new.nodes)
+  pub keeps : (n : ℕ) → falls_in (counts_at new.nodes n) ≡ false → ((n ≡ old.top) × (has_value (counts_at new.nodes n) ≡ false)) ⊎ IsKept (counts_at old.nodes) (counts_at new.nodes) (refs_at old.nodes) (refs_at new.nodes) n
   pub rest : List ℕ
   pub falling : IsFalling new rest owns_nothing
   pub shorter : length rest + 1 ≡ length stack
@@ -231,4 +244,6 @@ pub record Steps (old : Holdings) (stack : List ℕ) (lists : Bool) (r : Option 
   pub falling : IsFalling new rest owns_nothing
   pub less : 2 * valued (live new.handles.places.items) + length rest < 2 * valued (live old.handles.places.items) + length stack
   pub cells : CellsStay (counts_at old.nodes) (counts_at new.nodes)
+  -- a node loses its value only where it falls, and then it is answered once it is done
+  pub keeps : (n : ℕ) → falls_in (counts_at new.nodes n) ≡ false → ((r ≡ Some (record { 0 = n })) × (has_value (counts_at new.nodes n) ≡ false)) ⊎ IsKept (counts_at old.nodes) (counts_at new.nodes) (refs_at old.nodes) (refs_at new.nodes) n
   pub what : ((r ≡ Some (record { 0 = old.top })) × (new ≡ record old { nodes = new.nodes; top = new.top })) ⊎ ((x : HandleRow) × (n : ℕ) × (r ≡ None) × FallsBy old x n lists new)

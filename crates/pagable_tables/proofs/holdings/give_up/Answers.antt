@@ -9,6 +9,7 @@ use Rattle.pagable_tables.specs.declared.rows.Counts.{Counts}
 use Rattle.pagable_tables.proofs.Alive.{row-le-live}
 use Rattle.pagable_tables.proofs.Leaving.{leaves-sums}
 use Rattle.pagable_tables.proofs.Fitting.{given-fits, given-cells, new-top, long-if, pin-here, held-here, pin_of, handle_of}
+use Rattle.pagable_tables.proofs.Valued.{given-keeps}
 use Rattle.pagable_tables.proofs.holdings.give_up.Goals as goal
 
 pub unreachable-requires : goal.unreachable-requires
@@ -79,6 +80,7 @@ returns c stack w =
       leaves = subst (λ w. Leaves old x w listed mid) c.wants_entry-wanted.ensures leaves;
       same = refl;
       cells = given-cells at at' refs refs' rows rows' old.top stack x counts listed (old.last_handle + 1) w.fits is sums here others same some live';
+      keeps = given-keeps at at' refs refs' n counts (is_pinning x.mode) listed old.top is here others same some;
       more = if b then n ∷ stack else stack;
       falling = record {
         sound = e.sound;

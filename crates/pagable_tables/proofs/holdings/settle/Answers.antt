@@ -1,13 +1,14 @@
-use Rattle.std.proofs.Common.{◌≡◌, ℕ, false, arith, refl, ap, sym, ◌∙◌, subst, Some, None, List, [], ◌∷◌}
+use Rattle.std.proofs.Common.{◌≡◌, ℕ, true, false, arith, refl, ap, sym, ◌∙◌, subst, Some, None, List, [], ◌∷◌}
 use Rattle.std.specs.Prelude.{◌≢◌, is_some}
 use Rattle.std.proofs.lemmas.Bool.{cases_eq}
 use Rattle.std.proofs.Common.{inl, inr}
 use Rattle.pagable_tables.specs.Live.{live}
 use Rattle.pagable_tables.specs.ByNumber.{counts_at, refs_at}
-use Rattle.pagable_tables.specs.Falling.{IsFalling, Fits, pins_in, holds_in, falls_in, cell_in, Right, owns_nothing}
+use Rattle.pagable_tables.specs.Falling.{IsFalling, Fits, pins_in, holds_in, falls_in, cell_in, has_value, is_bare, is_right, Right, owns_nothing}
 use Rattle.pagable_tables.specs.declared.rows.Counts.{Counts}
 use Rattle.pagable_tables.specs.declared.holdings.Holdings.{Holdings}
 use Rattle.pagable_tables.proofs.Fitting.{done-fits, first-waits, pins-le-held, settled-right}
+use Rattle.pagable_tables.proofs.Valued.{done-keeps, done-bare}
 use Rattle.pagable_tables.proofs.holdings.settle.Goals as goal
 
 there : (t : Holdings) (stack : List ℕ) → IsFalling t stack owns_nothing → t.top ≢ 0 → counts_at t.nodes t.top ≡ None → ⊥
@@ -47,6 +48,7 @@ returns-then-counts-eq0 c (n ∷ ns) w =
     let none : counts.pins ≡ 0 = (let a = v.fits.pinned top in let b = v.fits.holding top in let d = ap pins_in is in let f = ap holds_in is in let l = pins-le-held top rows in omega arith) in
     let same : (m : ℕ) → refs' m ≡ refs m = λ m. elim (cases_eq m top) [ inl eq ↦ ap refs' eq ∙ e.no_refs ∙ sym c.requires.none ∙ sym (ap refs eq) | inr ne ↦ e.refs m ne ] in
     record {
+      keeps = done-keeps at at' refs refs' top (ap has_value gone) e.others e.refs;
       rest = ns;
       falling = record {
         sound = w.sound;
@@ -79,7 +81,10 @@ returns-else-counts-eq0 c (n ∷ ns) w =
     let here : at' top ≡ Some now = e.here in
     let bare : refs' top ≡ [] = e.refs top ∙ c.requires.none in
     let right : Right (Some now) [] = settled-right now refl (let z = c.if-counts-eq0.false in omega arith) in
+    let waits : counts.is_falling ≡ true = sym (ap falls_in is) ∙ first-waits at refs rows top ns owns_nothing v.fits in
+    let old-right : is_right counts (is_bare (refs top)) ≡ true = subst (λ o. Right o (refs top)) is (v.fits.right top) in
     record {
+      keeps = done-keeps at at' refs refs' top (ap has_value here ∙ done-bare counts (is_bare (refs top)) waits old-right c.if-counts-eq0.false) e.others (λ m ne. e.refs m);
       rest = ns;
       falling = record {
         sound = w.sound;

@@ -10,12 +10,12 @@ use Rattle.pagable_world.specs.declared.handles.HandleRow.{HandleRow}
 use Rattle.pagable_world.specs.Plain.{one}
 use Rattle.pagable_tables.specs.Live.{live, alive, AreSound, IsNext}
 use Rattle.pagable_tables.specs.ByNumber.{counts_at, refs_at}
-use Rattle.pagable_tables.specs.Falling.{IsFalling, Fits, Settles, GivesUp, CellsStay, cell_in, owns, owns_nothing, entry, is_valued, valued}
+use Rattle.pagable_tables.specs.Falling.{falls_in, has_value, IsKept, IsFalling, Fits, Settles, GivesUp, CellsStay, cell_in, owns, owns_nothing, entry, is_valued, valued}
 use Rattle.pagable_tables.specs.declared.rows.Counts.{Counts}
 use Rattle.pagable_tables.specs.declared.holdings.Holdings.{Holdings}
 use Rattle.pagable_tables.proofs.Alive.{only-row, none-found}
 use Rattle.pagable_tables.proofs.Leaving.{leaves-sums}
-use Rattle.pagable_tables.proofs.Fitting.{is_owned, taken-fits, taken-owned, taken-there, owner-is, fits-same, fallen}
+use Rattle.pagable_tables.proofs.Fitting.{is_owned, taken-fits, taken-owned, taken-there, owner-is, fits-same, fallen, first-waits}
 use Rattle.pagable_tables.proofs.holdings.step.Goals as goal
 
 abbrev of_value : HandleRow → ℕ
@@ -86,6 +86,16 @@ settle-requires-clause-falling c =
 cells-through : (a b d : ℕ → Option Counts) → ((m : ℕ) → b m ≡ a m) → CellsStay b d → CellsStay a d
 cells-through a b d same stay m some = let s = stay m some in (sym (ap is_some (same m)) ∙ s.0, s.1 ∙ ap cell_in (same m))
 
+-- a reference of a node that falls was taken
+popped-keeps : (a b d : ℕ → Option Counts) (p q r : ℕ → List ArcRef) (n : ℕ) → falls_in (a n) ≡ true → ((m : ℕ) → b m ≡ a m) → ((m : ℕ) → m ≢ n → q m ≡ p m) → (m : ℕ) → IsKept b d q r m → IsKept a d p r m
+popped-keeps a b d p q r n falls same others m kept =
+    let free : falls_in (a m) ≡ false = sym (ap falls_in (same m)) ∙ kept.free in
+    record {
+      free = free;
+      valued = kept.valued ∙ ap has_value (same m);
+      references = kept.references ∙ others m (λ e. absurd (let both : true ≡ false = sym falls ∙ sym (ap (λ k. falls_in (a k)) e) ∙ free in cc));
+    }
+
 pub returns-in-Some-look : goal.returns-in-Some-look
 returns-in-Some-look c stack w =
     let t = c.args.t.now in
@@ -111,6 +121,7 @@ returns-in-Some-look c stack w =
       falling = g.falling;
       less = omega arith;
       cells = cells-through (counts_at t.nodes) (counts_at mid.nodes) (counts_at c.give_up.new.t.nodes) e.counts g.cells;
+      keeps = λ m free. inr (popped-keeps (counts_at t.nodes) (counts_at mid.nodes) (counts_at c.give_up.new.t.nodes) (refs_at t.nodes) (refs_at mid.nodes) (refs_at c.give_up.new.t.nodes) t.top (first-waits (counts_at t.nodes) (refs_at t.nodes) (live t.handles.places.items) t.top s.0 owns_nothing s.3.fits) e.counts e.others m (g.keeps m free));
       what = inr (
         x,
         t.top,
@@ -130,6 +141,7 @@ returns-in-Some-look c stack w =
 pub returns-in-None : goal.returns-in-None
 returns-in-None c stack w =
     let t = c.args.t.now in
+    let s = top-stands t stack c.requires.some w in
     let e = c.in-None.ensures in
     let mid : Holdings = record t { nodes = c.pop_reference.new.nodes } in
     let g : Settles mid stack c.settle.new.t = c.settle.ensures stack (untouched t mid stack w refl refl refl e.counts (λ m. elim (cases_eq m t.top) [ inl eq ↦ ap (refs_at c.pop_reference.new.nodes) eq ∙ sym (e.here ∙ append-nil _) ∙ sym (ap (refs_at t.nodes) eq) | inr ne ↦ e.others m ne ])) in
@@ -141,5 +153,9 @@ returns-in-None c stack w =
       falling = g.falling;
       less = omega arith;
       cells = cells-through (counts_at t.nodes) (counts_at mid.nodes) (counts_at c.settle.new.t.nodes) e.counts g.cells;
+      keeps = λ m free. elim (g.keeps m free) [
+        | inl done ↦ inl (ap (λ k. Some (record { 0 = k })) (sym done.0), done.1)
+        | inr kept ↦ inr (popped-keeps (counts_at t.nodes) (counts_at mid.nodes) (counts_at c.settle.new.t.nodes) (refs_at t.nodes) (refs_at mid.nodes) (refs_at c.settle.new.t.nodes) t.top (first-waits (counts_at t.nodes) (refs_at t.nodes) (live t.handles.places.items) t.top s.0 owns_nothing s.3.fits) e.counts e.others m kept)
+      ];
       what = inl (refl, g.same);
     }

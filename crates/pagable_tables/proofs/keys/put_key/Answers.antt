@@ -1,10 +1,9 @@
-use Rattle.std.proofs.Common.{◌≡◌, ℕ, ◌==◌, if◌then◌else◌, [], ◌∷◌, refl, ap, sym, ◌∙◌, subst, arith, Some, None}
-use Rattle.std.specs.Prelude.{◌≢◌, false}
+use Rattle.std.proofs.Common.{◌≡◌, ◌==◌, if◌then◌else◌, [], ◌∷◌, refl, ap, sym, ◌∙◌, subst, Some}
+use Rattle.std.specs.Prelude.{false}
 use Rattle.pagable_tables.specs.declared.rows.Counts.{Counts}
 use Rattle.pagable_tables.specs.Live.{live}
 use Rattle.pagable_tables.specs.ByNumber.{counts_at, refs_at}
 use Rattle.pagable_tables.specs.Falling.{Fits, is_new, owns_nothing}
-use Rattle.pagable_tables.specs.Keyed.{keyed}
 use Rattle.pagable_tables.proofs.Fitting.{long-if}
 use Rattle.pagable_tables.proofs.KeyPut.{key-fits, key-cells, key-top}
 use Rattle.pagable_tables.proofs.keys.put_key.Goals as goal

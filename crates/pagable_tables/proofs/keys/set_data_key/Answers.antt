@@ -1,7 +1,6 @@
-use Rattle.std.proofs.Common.{not, None, ◌≤◌, refl, sym, ◌∙◌, subst, arith, inl, inr}
+use Rattle.std.proofs.Common.{not, None, refl, sym, ◌∙◌, arith, inl, inr}
 use Rattle.pagable_world.specs.Kinds.{any_mode}
 use Rattle.pagable_tables.specs.ByNumber.{counts_at}
-use Rattle.pagable_tables.specs.Core.{core_of}
 use Rattle.pagable_tables.proofs.Alive.{row-le-live}
 use Rattle.pagable_tables.proofs.Begun.{not-closed}
 use Rattle.pagable_tables.proofs.Coming.{some-held}
