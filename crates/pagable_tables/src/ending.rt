@@ -73,7 +73,7 @@ pub fn load_drop(t: &mut Tables, me: Owner, load: LoadNumber, lists: bool) -> Re
     requires whole { IsWhole t.old }
     requires later { AreLater t.old }
     ensures dropped { (stored : ℕ → Option Blob) (closed : Bool) (failures : ℕ) → lists ≡ not closed → DropCall (core_of t.old stored closed failures) me load result (core_of t.new stored closed failures) }
-    ensures steady { IsFalling t.new.holdings [] owns_nothing }
+    ensures whole { IsWhole t.new }
 {
     let row = match load_row(t, me, load) {
         Ok(row) => row,
@@ -111,7 +111,7 @@ pub fn load_take(
     requires whole { IsWhole t.old }
     requires later { AreLater t.old }
     ensures taken { (stored : ℕ → Option Blob) (closed : Bool) (failures : ℕ) → lists ≡ not closed → HandOverCall (core_of t.old stored closed failures) me load named.now result (core_of t.new stored closed failures) }
-    ensures steady { IsFalling t.new.holdings [] owns_nothing }
+    ensures whole { IsWhole t.new }
 {
     if let Some(e) = hand_over_fault(t, me, load, named) {
         return Err(e);

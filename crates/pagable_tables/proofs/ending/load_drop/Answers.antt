@@ -1,4 +1,4 @@
-use Rattle.std.proofs.Common.{arith, refl, inl, inr}
+use Rattle.std.proofs.Common.{arith, refl, inl, inr, None, not}
 use Rattle.pagable_world.specs.declared.handles.Owner.TheVariants as owners
 use Rattle.pagable_world.specs.LoadCalls.{is_owned_in, without_load}
 use Rattle.pagable_tables.specs.ByNumber.{load_at}
@@ -6,6 +6,9 @@ use Rattle.pagable_tables.specs.Core.{core_of, plain_of, load_in}
 use Rattle.pagable_tables.specs.Onward.{with_tables}
 use Rattle.pagable_tables.proofs.Dropped.{load-closed, begun-less, owned-given, loads-anew}
 use Rattle.pagable_tables.proofs.Worlds.{still}
+use Rattle.pagable_tables.proofs.Begun.{not-closed}
+use Rattle.pagable_tables.proofs.keeps.EndCalls.{drop-whole}
+use Rattle.pagable_tables.proofs.keeps.Placed.{whole-so}
 use Rattle.pagable_tables.proofs.ending.load_drop.Goals as goal
 
 pub returns-in-Err-clause-dropped : goal.returns-in-Err-clause-dropped
@@ -27,3 +30,6 @@ returns-clause-dropped c stored closed failures e =
         loads-anew w u (with_tables u c.give_up_load.new.t) (is_owned_in w (owners.Load l)) c.give_up_load.result w'.loads (load-closed (load_at t.loads) (load_at c.close.new.loads) l.0 c.close.ensures.gone c.close.ensures.others) falls,
       );
     }
+
+pub returns-clause-whole : goal.returns-clause-whole
+returns-clause-whole c = whole-so c.give_up_load.ensures.steady (drop-whole c.args.me c.args.load c.give_up_load.result c.requires.whole.core (returns-clause-dropped c (λ key. None) (not c.args.lists) 0 (not-closed c.args.lists)))

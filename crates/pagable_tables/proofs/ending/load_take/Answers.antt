@@ -16,6 +16,9 @@ use Rattle.pagable_tables.proofs.Dropped.{load-closed, owned-given, loads-anew}
 use Rattle.pagable_tables.proofs.Taken.{moved-less, begun-moved, loaded-moved, no-load, may-hand, named-there, still-listed, and-left, MayHand}
 use Rattle.pagable_tables.proofs.keeps.Comes.{not-a-value}
 use Rattle.pagable_tables.proofs.keeps.LoadCalls.{may-hold}
+use Rattle.pagable_tables.proofs.Begun.{not-closed}
+use Rattle.pagable_tables.proofs.keeps.EndCalls.{hand-over-whole}
+use Rattle.pagable_tables.proofs.keeps.Placed.{whole-so}
 use Rattle.pagable_tables.proofs.ending.load_take.Goals as goal
 
 pub unreachable-requires : goal.unreachable-requires
@@ -71,3 +74,6 @@ returns-clause-taken c stored closed failures e =
       );
       refused = tt;
     }
+
+pub returns-clause-whole : goal.returns-clause-whole
+returns-clause-whole c = whole-so c.give_up_load.ensures.steady (hand-over-whole c.args.me c.args.load c.args.named.now _ c.requires.whole.core (returns-clause-taken c (λ key. None) (not c.args.lists) 0 (not-closed c.args.lists)))
