@@ -37,3 +37,4 @@ mod Handed
 mod KeySet
 mod Taken
 mod Valued
+mod Newer

@@ -74,6 +74,7 @@ pub fn load_drop(t: &mut Tables, me: Owner, load: LoadNumber, lists: bool) -> Re
     requires later { AreLater t.old }
     ensures dropped { (stored : ℕ → Option Blob) (closed : Bool) (failures : ℕ) → lists ≡ not closed → DropCall (core_of t.old stored closed failures) me load result (core_of t.new stored closed failures) }
     ensures whole { IsWhole t.new }
+    ensures later { AreLater t.new }
 {
     let row = match load_row(t, me, load) {
         Ok(row) => row,
@@ -112,6 +113,7 @@ pub fn load_take(
     requires later { AreLater t.old }
     ensures taken { (stored : ℕ → Option Blob) (closed : Bool) (failures : ℕ) → lists ≡ not closed → HandOverCall (core_of t.old stored closed failures) me load named.now result (core_of t.new stored closed failures) }
     ensures whole { IsWhole t.new }
+    ensures later { AreLater t.new }
 {
     if let Some(e) = hand_over_fault(t, me, load, named) {
         return Err(e);

@@ -9,6 +9,7 @@ use Rattle.pagable_tables.proofs.Worlds.{still}
 use Rattle.pagable_tables.proofs.Begun.{not-closed}
 use Rattle.pagable_tables.proofs.keeps.EndCalls.{drop-whole}
 use Rattle.pagable_tables.proofs.keeps.Placed.{whole-so}
+use Rattle.pagable_tables.proofs.Newer.{drop-newer, later-so, closed-still}
 use Rattle.pagable_tables.proofs.ending.load_drop.Goals as goal
 
 pub returns-in-Err-clause-dropped : goal.returns-in-Err-clause-dropped
@@ -33,3 +34,9 @@ returns-clause-dropped c stored closed failures e =
 
 pub returns-clause-whole : goal.returns-clause-whole
 returns-clause-whole c = whole-so c.give_up_load.ensures.steady (drop-whole c.args.me c.args.load c.give_up_load.result c.requires.whole.core (returns-clause-dropped c (λ key. None) (not c.args.lists) 0 (not-closed c.args.lists)))
+
+pub returns-clause-later : goal.returns-clause-later
+returns-clause-later c =
+    let t = c.args.t.now in
+    let n = drop-newer c.args.me c.args.load c.give_up_load.result (returns-clause-dropped c (λ key. None) (not c.args.lists) 0 (not-closed c.args.lists)) in
+    later-so c.requires.later (record { last = n.last; owned = n.owned }) (closed-still (load_at t.loads) (load_at c.close.new.loads) c.args.load.0 c.close.ensures.gone c.close.ensures.others)

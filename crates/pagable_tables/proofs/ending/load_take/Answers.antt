@@ -19,6 +19,7 @@ use Rattle.pagable_tables.proofs.keeps.LoadCalls.{may-hold}
 use Rattle.pagable_tables.proofs.Begun.{not-closed}
 use Rattle.pagable_tables.proofs.keeps.EndCalls.{hand-over-whole}
 use Rattle.pagable_tables.proofs.keeps.Placed.{whole-so}
+use Rattle.pagable_tables.proofs.Newer.{take-newer, later-so, closed-still}
 use Rattle.pagable_tables.proofs.ending.load_take.Goals as goal
 
 pub unreachable-requires : goal.unreachable-requires
@@ -77,3 +78,11 @@ returns-clause-taken c stored closed failures e =
 
 pub returns-clause-whole : goal.returns-clause-whole
 returns-clause-whole c = whole-so c.give_up_load.ensures.steady (hand-over-whole c.args.me c.args.load c.args.named.now _ c.requires.whole.core (returns-clause-taken c (λ key. None) (not c.args.lists) 0 (not-closed c.args.lists)))
+
+pub returns-clause-later : goal.returns-clause-later
+returns-clause-later c =
+    let t = c.args.t.now in
+    let p = plain_of t in
+    let can : MayHand p c.args.me c.args.load c.args.named.now = may-hand c.requires.whole.core c.args.me c.args.load c.args.named.now (sym (c.hand_over_fault.ensures (λ key. None) false 0) ∙ c.in_default.is) in
+    let n = take-newer c.args.me c.args.load c.args.named.now _ (λ m. no-load p c.args.me m can.may) (returns-clause-taken c (λ key. None) (not c.args.lists) 0 (not-closed c.args.lists)) in
+    later-so c.requires.later (record { last = n.last; owned = n.owned }) (closed-still (load_at t.loads) (load_at c.close.new.loads) c.args.load.0 c.close.ensures.gone c.close.ensures.others)
