@@ -26,6 +26,7 @@ mod Fewer
 mod Regiven
 mod Pins
 mod Offers
+mod Named
 mod keeps
 mod Lowered
 mod Dropped
