@@ -28,6 +28,7 @@ mod Fewer
 mod Pins
 mod Offers
 mod Regiven
+mod Named
 mod Lowered
 mod Dropped
 mod Asked
@@ -36,3 +37,5 @@ mod KeyPut
 mod Seen
 mod Handed
 mod KeySet
+mod Taken
+mod Newer
