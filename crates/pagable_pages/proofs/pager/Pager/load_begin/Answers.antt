@@ -1,8 +1,8 @@
 use Rattle.pagable_world.specs.declared.handles.Owner.TheVariants as owners
 use Rattle.pagable_steps.proofs.SparedLoads.{begins}
 use Rattle.pagable_tables.proofs.keeps.LoadCalls.{begin-whole}
-use Rattle.pagable_pager.proofs.Spared.{held}
-use Rattle.pagable_pager.proofs.pager.Pager.load_begin.Goals as goal
+use Rattle.pagable_pages.proofs.Spared.{held}
+use Rattle.pagable_pages.proofs.pager.Pager.load_begin.Goals as goal
 
 pub invariant_of-self : goal.invariant_of-self
 invariant_of-self g c =
