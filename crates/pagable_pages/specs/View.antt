@@ -7,9 +7,13 @@ use Rattle.std.specs.declared.hash.BuildHasherDefault.{BuildHasherDefault}
 use Rattle.std.specs.HashMap.{HashMap, get}
 use Rattle.std.specs.Option.{option_map}
 use Rattle.std.specs.Prelude.{ℕ, ◌≡◌, Bool, List, Option, Some, nat_eq}
+use Rattle.either.specs.declared.Either.{Either}
+use Rattle.either.specs.declared.Either.TheVariants as eithers
 use Rattle.pagable_model.specs.declared.numbers.ArcRef.{ArcRef}
+use Rattle.pagable_model.specs.declared.numbers.HandleNumber.{HandleNumber}
 use Rattle.pagable_world.specs.Plain.{Blob, Error, Meaning, Shape}
 use Rattle.pagable_world.specs.World.{Core, Values}
+use Rattle.pagable_world.specs.LoadCalls.{Given, from_cache, from_store}
 use Rattle.pagable_world.specs.Pager.{PagerState, WellFormed}
 use Rattle.pagable_tables.specs.declared.tables.Tables.{Tables}
 use Rattle.pagable_tables.specs.ByNumber.{counts_at}
@@ -96,3 +100,13 @@ pub record OnlyLess {N S E : Type 0} (old new : PagerView N S E) : Type 0 where
   pub values : (n : ℕ) (x : N) → value_in new.values n ≡ Some x → value_in old.values n ≡ Some x
   pub storage : new.storage ≡ old.storage
   pub environment : new.environment ≡ old.environment
+
+-- values and environment are the same
+pub record SameValues {N S E : Type 0} (old new : PagerView N S E) : Type 0 where
+  pub values : new.values ≡ old.values
+  pub environment : new.environment ≡ old.environment
+
+-- what a load's asking gives, as it is seen
+abbrev pub given_as : {B : Type 0} → (B → Blob) → Either HandleNumber B → Given
+given_as see (eithers.Left k) = from_cache k
+given_as see (eithers.Right blob) = from_store (see blob)

@@ -1,6 +1,6 @@
 -- A handle comes to a live node, and nothing falls.
 use Rattle.std.proofs.Common.{sum_by, ◌≡◌, ℕ, ◌+◌, ◌<◌, ◌≤◌, ◌==◌, ◌&&◌, ◌||◌, Bool, true, false, if◌then◌else◌, List, [], ◌∷◌, ◌++◌, length, refl, ap, sym, ◌∙◌, subst, arith, Option, Some, None, inl, inr}
-use Rattle.std.specs.Prelude.{◌≢◌, not, nat_lt, is_some, IsSome}
+use Rattle.std.specs.Prelude.{◌≢◌, not, nat_lt, IsSome}
 use Rattle.std.proofs.lemmas.Bool.Decides.{nat_tests}
 use Rattle.std.proofs.lemmas.Bool.{cases_eq}
 use Rattle.std.proofs.lemmas.List.Sums.{sum_by_push, sum_by-cons}

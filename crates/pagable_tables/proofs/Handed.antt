@@ -126,7 +126,7 @@ seen-so-far hs q (suc n) le =
     swap true false c = refl
     swap false b c = refl
 
-seen-all : (hs : List HandleNumber) (q : ℕ) → is_in (seen hs (length hs)) q ≡ is_in (numbers_of hs) q
+pub seen-all : (hs : List HandleNumber) (q : ℕ) → is_in (seen hs (length hs)) q ≡ is_in (numbers_of hs) q
 seen-all hs q =
     sym (or-none (is_in (seen hs (length hs)) q))
     ∙ sym (ap (λ b. is_in (seen hs (length hs)) q || b) (at_drop_all (λ xs. is_in (numbers_of xs) q) hs (length hs) (omega arith) ∙ in-nothing q))

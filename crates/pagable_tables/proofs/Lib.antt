@@ -28,6 +28,7 @@ mod Fewer
 mod Pins
 mod Offers
 mod Regiven
+mod Named
 mod Lowered
 mod Dropped
 mod Asked
@@ -37,3 +38,5 @@ mod Seen
 mod Handed
 mod KeySet
 mod Nothing
+mod Taken
+mod Newer

@@ -64,7 +64,7 @@ loaded-none : (l : LoadNumber) (q : ℕ) → loaded l q [] ≡ false
 unfolding find_row
 loaded-none l q = refl
 
-no-entry : (l : LoadNumber) (q last : ℕ) (entries : List HandleRow) → AreNewEntries last entries → loaded l q entries ≡ false
+pub no-entry : (l : LoadNumber) (q last : ℕ) (entries : List HandleRow) → AreNewEntries last entries → loaded l q entries ≡ false
 no-entry l q last [] new = loaded-none l q
 no-entry l q last (x ∷ xs) new = loaded-here l q x xs ∙ split (is_handle q x) (no-entry l q (last + 1) xs new.3)
   where
@@ -99,7 +99,7 @@ module _ (gone : ℕ → Bool) (entries : List HandleRow) (l : LoadNumber) (q : 
   split-left true true e f = left e ∙ rest ∙ ap (λ b. not b && loaded l q xs) (same f ∙ e) ∙ sym (ap (λ b. not b && loaded l q (x ∷ xs)) (same f ∙ e))
   split-left true false e f = left e ∙ rest ∙ sym (ap (λ b. not (gone q) && b) (there false f))
 
-loaded-left : (gone : ℕ → Bool) (entries : List HandleRow) (l : LoadNumber) (q : ℕ) (rows : List HandleRow) → loaded l q entries ≡ false → loaded l q (left_rows gone rows ++ entries) ≡ (not (gone q) && loaded l q rows)
+pub loaded-left : (gone : ℕ → Bool) (entries : List HandleRow) (l : LoadNumber) (q : ℕ) (rows : List HandleRow) → loaded l q entries ≡ false → loaded l q (left_rows gone rows ++ entries) ≡ (not (gone q) && loaded l q rows)
 loaded-left gone entries l q [] none = none ∙ sym (ap (λ b. not (gone q) && b) (loaded-none l q) ∙ and-none (not (gone q)))
 loaded-left gone entries l q (x ∷ xs) none = split-left gone entries l q x xs (loaded-left gone entries l q xs none) (gone x.number.0) (is_handle q x) refl refl
 

@@ -7,6 +7,7 @@ pub mod Turned
 pub mod Comes
 pub mod Rests
 pub mod Fallen
+pub mod Opened
 pub mod Moved
 pub mod HandleCalls
 pub mod FallCalls
@@ -16,4 +17,3 @@ pub mod CacheCalls
 pub mod LoadCalls
 pub mod AdoptCalls
 pub mod EndCalls
-pub mod Opened

@@ -5,7 +5,7 @@ ghost use Rattle.pagable_world.specs.declared.handles.Owner.TheVariants as owner
 ghost use Rattle.pagable_world.specs.Plain.{Blob};
 ghost use Rattle.pagable_world.specs.World.{Core};
 ghost use Rattle.pagable_world.specs.Cascade.{Falls, nobody};
-ghost use Rattle.pagable_world.specs.LoadCalls.{is_owned_in, DropCall};
+ghost use Rattle.pagable_world.specs.LoadCalls.{is_owned_in, hand_over_fault, DropCall, HandOverCall};
 ghost use Rattle.pagable_tables.specs.Live.{live};
 ghost use Rattle.indexmap.specs.IndexMap.{get};
 ghost use Rattle.pagable_tables.specs.ByNumber.{counts_at};
@@ -15,6 +15,8 @@ ghost use Rattle.pagable_tables.specs.Core.{core_of, IsWhole};
 ghost use Rattle.pagable_tables.specs.Later.{AreLater};
 
 use crate::cascade::{cascade, fall};
+use crate::causes::{cell_fault, earlier, load_fault};
+use crate::handing::{hand_each, named_fault};
 use crate::holdings::Holdings;
 use crate::loading::load_row;
 use crate::tables::Tables;
@@ -97,7 +99,8 @@ pub fn load_drop<N: Drop>(
     requires whole { IsWhole t.old }
     requires later { AreLater t.old }
     ensures dropped { (stored : ℕ → Option Blob) (closed : Bool) (failures : ℕ) → lists ≡ not closed → DropCall (core_of t.old stored closed failures) me load result (core_of t.new stored closed failures) }
-    ensures steady { IsFalling t.new.holdings [] owns_nothing }
+    ensures whole { IsWhole t.new }
+    ensures later { AreLater t.new }
     ensures sheds { Sheds (counts_at t.old.holdings.nodes) (get nat_eq values.old) (counts_at t.new.holdings.nodes) (get nat_eq values.new) }
 {
     let row = match load_row(t, me, load) {
@@ -106,4 +109,49 @@ pub fn load_drop<N: Drop>(
     };
     loads::close(&mut t.loads, load.0);
     give_up_load(&mut t.holdings, values, load, row.since, lists)
+}
+
+/// Why a load of a key can't hand over the handles that are named, if it can't.
+fn hand_over_fault(
+    t: &Tables,
+    me: Owner,
+    load: LoadNumber,
+    named: &[HandleNumber],
+) -> Option<Error>
+    requires { IsWhole t.now }
+    ensures { (stored : ℕ → Option Blob) (closed : Bool) (failures : ℕ) → result ≡ hand_over_fault (core_of t.now stored closed failures) me load named.now }
+{
+    let first = load_fault(loads::load_of(&t.loads, load.0), me);
+    let cell = cell_fault(loads::load_of(&t.loads, load.0));
+    let owned = named_fault(&t.holdings.handles, Owner::Load(load), named);
+    earlier(first, earlier(cell, owned))
+}
+
+/// A load of a key hands over the handles that are named, gives up the rest and is closed. NoSuchHandle where no load is open or a named handle isn't live;
+/// NotYours where another began the load or owns a named handle, or one is named twice; WrongMode where it is a load of a cell.
+pub fn load_take<N: Drop>(
+    t: &mut Tables,
+    values: &mut IndexMap<u64, Arc<N>>,
+    me: Owner,
+    load: LoadNumber,
+    named: &[HandleNumber],
+    lists: bool,
+) -> Result<(), Error>
+    requires whole { IsWhole t.old }
+    requires later { AreLater t.old }
+    ensures taken { (stored : ℕ → Option Blob) (closed : Bool) (failures : ℕ) → lists ≡ not closed → HandOverCall (core_of t.old stored closed failures) me load named.now result (core_of t.new stored closed failures) }
+    ensures whole { IsWhole t.new }
+    ensures later { AreLater t.new }
+    ensures sheds { Sheds (counts_at t.old.holdings.nodes) (get nat_eq values.old) (counts_at t.new.holdings.nodes) (get nat_eq values.new) }
+{
+    if let Some(e) = hand_over_fault(t, me, load, named) {
+        return Err(e);
+    }
+    let Some(row) = loads::load_of(&t.loads, load.0) else {
+        unreachable!();
+    };
+    loads::close(&mut t.loads, load.0);
+    hand_each(&mut t.holdings, named, me);
+    let _ = give_up_load(&mut t.holdings, values, load, row.since, lists);
+    Ok(())
 }

@@ -23,6 +23,7 @@ pub mod moving;
 pub mod nodes;
 pub mod pinning;
 pub mod places;
+pub mod references;
 pub mod releases;
 pub mod rows;
 pub mod start;

@@ -5,6 +5,7 @@ ghost use Rattle.pagable_model.specs.declared.data_key.OptionalDataKey.TheVarian
 ghost use Rattle.pagable_world.specs.Plain.{Blob};
 ghost use Rattle.pagable_world.specs.Kinds.{is_loose, is_in_memory};
 ghost use Rattle.pagable_world.specs.World.{greatest, of_cell, Alike};
+ghost use Rattle.pagable_world.specs.Pager.{MayOwnLoad};
 ghost use Rattle.pagable_world.specs.Refusals.{load_fault, OwnsLoad};
 ghost use Rattle.pagable_world.specs.Calls.{with_handle};
 ghost use Rattle.pagable_world.specs.LoadCalls.{BeginCall, IsNextLoad, with_load};
@@ -14,7 +15,7 @@ ghost use Rattle.pagable_model.specs.declared.error.Error.TheVariants as errors;
 ghost use Rattle.pagable_tables.specs.Live.{alive};
 ghost use Rattle.pagable_tables.specs.ByNumber.{load_at};
 ghost use Rattle.pagable_tables.specs.Falling.{key_in, IsFalling, owns_nothing};
-ghost use Rattle.pagable_tables.specs.Core.{core_of, IsWhole, load_in};
+ghost use Rattle.pagable_tables.specs.Core.{core_of, plain_of, IsWhole, load_in};
 ghost use Rattle.pagable_tables.specs.Asking.{AsksKnown};
 
 use crate::arriving::come;
@@ -97,9 +98,10 @@ fn open_cell(t: &mut Tables, me: Owner, at: HandleAt, node_type: u32, key: DataK
 /// A load of a loose handle's cell, whose value has to be read first; or nothing, where it is in memory. It is refused where the handle isn't an own loose one,
 /// no number of a load or a handle is left, or memory is wanting.
 pub fn load_begin(t: &mut Tables, me: Owner, handle: HandleNumber) -> Result<Beginning, Error>
-    requires { IsWhole t.old }
+    requires whole { IsWhole t.old }
+    requires owner { MayOwnLoad (plain_of t.old) me }
     ensures begun { (stored : ℕ → Option Blob) (closed : Bool) (failures : ℕ) → BeginCall (core_of t.old stored closed failures) me handle result (core_of t.new stored closed failures) }
-    ensures steady { IsFalling t.new.holdings [] owns_nothing }
+    ensures whole { IsWhole t.new }
 {
     let at = match own(t, me, handle) {
         Ok(at) => at,
@@ -134,7 +136,7 @@ pub fn load_known(
 ) -> Result<Option<HandleNumber>, Error>
     requires { IsWhole t.old }
     ensures asked { (stored : ℕ → Option Blob) (closed : Bool) (failures : ℕ) → AsksKnown (core_of t.old stored closed failures) me load kind key result (core_of t.new stored closed failures) }
-    ensures steady { IsFalling t.new.holdings [] owns_nothing }
+    ensures whole { IsWhole t.new }
 {
     let _row = match load_row(t, me, load) {
         Ok(row) => row,

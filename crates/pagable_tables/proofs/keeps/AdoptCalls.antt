@@ -17,14 +17,15 @@ use Rattle.pagable_world.specs.Plain.{Blob, type_of, is_loose_kind}
 use Rattle.pagable_world.specs.Kinds.{is_shared, mode_of, has_key}
 use Rattle.pagable_world.specs.World.{Core, greatest}
 use Rattle.pagable_world.specs.Refusals.{references_fault, OwnsLoad}
-use Rattle.pagable_world.specs.Calls.{row_of, next_node, with_cached, FetchCall, is_named_by}
+use Rattle.pagable_world.specs.Calls.{row_of, next_node, with_handle, with_node, with_cached, FetchCall, is_named_by}
 use Rattle.pagable_world.specs.LoadCalls.{AskCall, Given, from_cache, from_store, GetsKnown, adopted, first_key, LazyCall, AdoptCall}
 use Rattle.pagable_world.specs.Pager.{IsWhole, IsEntryWhole}
 use Rattle.pagable_tables.specs.Core.{ArePlaced, MayHold}
 use Rattle.pagable_tables.proofs.keeps.Rows.{among-last}
 use Rattle.pagable_tables.proofs.keeps.Told.{roomy, settles, told-whole, alike-whole}
 use Rattle.pagable_tables.proofs.keeps.Comes.{type_in, handle-on}
-use Rattle.pagable_tables.proofs.keeps.Fallen.{may-fall, falls-whole}
+use Rattle.pagable_tables.proofs.keeps.Fallen.{may-fall}
+use Rattle.pagable_tables.proofs.keeps.Opened.{opened, alike-opened, falls-opened, references-opened}
 use Rattle.pagable_tables.proofs.keeps.CacheCalls.{mode-shared, known-whole, cached-whole, shared-alike}
 use Rattle.pagable_tables.proofs.keeps.BirthCalls.{born, born-whole, cell-new, no-references, moved-world}
 
@@ -32,33 +33,34 @@ use Rattle.pagable_tables.proofs.keeps.BirthCalls.{born, born-whole, cell-new, n
 load-holds : {w : Core} {me : Owner} {l : LoadNumber} (load : _) → OwnsLoad w me l load → MayHold w (owners.Load l)
 load-holds load owns = ap is_some owns.stands_open
 
-fetch-whole : {w w' : Core} (key : ℕ) (r : Result Blob Error) → IsWhole w → FetchCall w key r w' → ArePlaced w' → IsWhole w'
-fetch-whole key r whole call placed = let a = call.asked.leaves in told-whole whole a.rows a.cells a.list a.cache.only a.closed a.loads a.workers a.last placed
+fetch-whole : {w w' : Core} (key : ℕ) (r : Result Blob Error) → IsWhole (opened w) → FetchCall w key r w' → ArePlaced (opened w') → IsWhole (opened w')
+fetch-whole key r whole call placed = let a = call.asked.leaves in told-whole whole a.rows a.cells a.list a.cache.only refl a.loads a.workers a.last placed
 
-gets-whole : {w w' : Core} (l : LoadNumber) (kind : Kind) (key : ℕ) (k : HandleNumber) → IsWhole w → MayHold w (owners.Load l) → GetsKnown w l kind key k w' → ArePlaced w' → IsWhole w'
-gets-whole l kind key k whole holder gets placed = settles (known-whole kind key gets.n (owners.Load l) whole gets.known holder gets.next.is_left) gets.leaves placed
+gets-whole : {w w' : Core} (l : LoadNumber) (kind : Kind) (key : ℕ) (k : HandleNumber) → IsWhole (opened w) → MayHold w (owners.Load l) → GetsKnown w l kind key k w' → ArePlaced (opened w')
+    → IsWhole (opened w')
+gets-whole l kind key k whole holder gets placed = settles (known-whole kind key gets.n (owners.Load l) whole gets.known holder gets.next.is_left) (alike-opened gets.leaves) placed
 
-pub ask-whole : {w w' : Core} (me : Owner) (l : LoadNumber) (want : Want) (r : Result Given Error) → IsWhole w → AskCall w me l want r w' → ArePlaced w' → IsWhole w'
+pub ask-whole : {w w' : Core} (me : Owner) (l : LoadNumber) (want : Want) (r : Result Given Error) → IsWhole (opened w) → AskCall w me l want r w' → ArePlaced (opened w') → IsWhole (opened w')
 ask-whole me l wants.Root (Ok (from_store blob)) whole call placed = let (load, owns, asks) = call.gives in fetch-whole load.key (Ok blob) whole asks placed
 ask-whole me l wants.Root (Ok (from_cache k)) whole call placed = absurd call.gives.2
 ask-whole me l (wants.Nested kind key) (Ok (from_cache k)) whole call placed = let (load, owns, asks) = call.gives in gets-whole l kind key k whole (load-holds load owns) asks placed
 ask-whole me l (wants.Nested kind key) (Ok (from_store blob)) whole call placed = let (load, owns, asks) = call.gives in fetch-whole key (Ok blob) whole asks.1 placed
 ask-whole me l wants.Root (Err e) whole call placed = elim call.refused [
-  | inl refused ↦ alike-whole whole refused.stays placed
+  | inl refused ↦ alike-whole whole (alike-opened refused.stays) placed
   | inr (load, owns, asks) ↦ fetch-whole load.key
       (Err e) whole asks placed
 ]
 ask-whole me l (wants.Nested kind key) (Err e) whole call placed = elim call.refused [
-  | inl refused ↦ alike-whole whole refused.stays placed
+  | inl refused ↦ alike-whole whole (alike-opened refused.stays) placed
   | inr (load, owns, asks) ↦ fetch-whole key
       (Err e) whole asks.1 placed
 ]
 
 -- ---- a node that was read
 
-module _ {w : Core} (whole : IsWhole w) (l : LoadNumber) (kind : Kind) (key : ℕ) (own : OptionalDataKey) (refs : List ArcRef) (holder : MayHold w (owners.Load l))
-    (good : references_fault w (owners.Load l) [] refs ≡ None)
-    (node_left : w.last.node < greatest) (left : w.last.handle < greatest) (unkeyed : is_shared (mode_of kind.0) ≡ true → has_key own ≡ false) where
+module _ (w : Core) (whole : IsWhole (opened w)) (l : LoadNumber) (kind : Kind) (key : ℕ) (own : OptionalDataKey) (refs : List ArcRef) (holder : MayHold w (owners.Load l))
+    (good : references_fault (opened w) (owners.Load l) [] refs ≡ None) (node_left : w.last.node < greatest) (left : w.last.handle < greatest)
+    (unkeyed : is_shared (mode_of kind.0) ≡ true → has_key own ≡ false) where
   abbrev now : Core
   now = born whole (type_of kind.0) own refs (mode_of kind.0) (owners.Load l) (owners.Load l) refl good holder node_left left unkeyed
 
@@ -77,24 +79,28 @@ module _ {w : Core} (whole : IsWhole w) (l : LoadNumber) (kind : Kind) (key : �
             ∙ mode-shared kind.0;
       }
 
-  pub adopted-whole : IsWhole (roomy (adopted w l kind key own refs))
-  adopted-whole = at w.closed refl
+  abbrev made : Core
+  made = with_handle (with_node w (type_of kind.0) own refs) (next_node w) (mode_of kind.0) (owners.Load l)
+
+  pub adopted-whole : IsWhole (roomy (opened (adopted w l kind key own refs)))
+  adopted-whole = at w.closed
     where
-      at : (b : Bool) → w.closed ≡ b → IsWhole (roomy (if b then now else with_cached now kind key (next_node w)))
-      at true e = now-whole
-      at false e = cached-whole {w = roomy now} kind key (next_node w) now-whole e new-entry
+      at : (b : Bool) → IsWhole (roomy (opened (if b then made else with_cached made kind key (next_node w))))
+      at true = now-whole
+      at false = cached-whole {w = roomy now} kind key (next_node w) now-whole refl new-entry
 
 loose-plain : (kind : ℕ) → is_loose_kind kind ≡ true → is_shared (mode_of kind) ≡ true → ⊥
 loose-plain kind loose shared = let a : (kind % 3 == 1) ≡ true = loose in let b : (kind % 3 == 0) ≡ true = sym (mode-shared kind) ∙ shared in let c : kind % 3 ≡ 1 = grind (arith, nat_tests) in
     let d : kind % 3 ≡ 0 = grind (arith, nat_tests) in absurd (omega arith)
 
-pub lazy-whole : {w w' : Core} (me : Owner) (l : LoadNumber) (kind : Kind) (key : ℕ) (r : Result HandleNumber Error) → IsWhole w → LazyCall w me l kind key r w' → ArePlaced w' → IsWhole w'
+pub lazy-whole : {w w' : Core} (me : Owner) (l : LoadNumber) (kind : Kind) (key : ℕ) (r : Result HandleNumber Error) → IsWhole (opened w) → LazyCall w me l kind key r w' → ArePlaced (opened w')
+    → IsWhole (opened w')
 lazy-whole {w} me l kind key (Ok k) whole call placed = let (load, owns, loose, makes) = call.makes in elim makes [
   | inl gets ↦ gets-whole l kind key k whole (load-holds load owns) gets placed
-  | inr (none, node_left, next, leaves) ↦ settles (adopted-whole whole l kind key (optional.Some key) [] (load-holds load owns) (no-references w (owners.Load l)) node_left next.is_left
-      (λ shared. absurd (loose-plain kind.0 loose shared))) leaves placed
+  | inr (none, node_left, next, leaves) ↦ settles (adopted-whole w whole l kind key (optional.Some key) [] (load-holds load owns) (no-references (opened w) (owners.Load l)) node_left next.is_left
+      (λ shared. absurd (loose-plain kind.0 loose shared))) (alike-opened leaves) placed
 ]
-lazy-whole me l kind key (Err e) whole call placed = alike-whole whole call.refused.stays placed
+lazy-whole me l kind key (Err e) whole call placed = alike-whole whole (alike-opened call.refused.stays) placed
 
 shared-keyless : (kind key : ℕ) → is_shared (mode_of kind) ≡ true → has_key (first_key kind key) ≡ false
 shared-keyless kind key shared =
@@ -102,15 +108,17 @@ shared-keyless kind key shared =
     let c : (kind % 3 == 2) ≡ false = grind (arith, nat_tests) in
     ap (λ t. has_key (if t then optional.Some key else optional.None)) c
 
-pub adopt-whole : {N : Type 0} {w w' : Core} (me : Owner) (l : LoadNumber) (kind : Kind) (key : ℕ) (x : N) (node_type : ℕ) (refs : List ArcRef) (r : Result HandleNumber (Error × N)) → IsWhole w
-    → AdoptCall w me l kind key x node_type refs r w' → ArePlaced w' → IsWhole w'
+pub adopt-whole : {N : Type 0} {w w' : Core} (me : Owner) (l : LoadNumber) (kind : Kind) (key : ℕ) (x : N) (node_type : ℕ) (refs : List ArcRef) (r : Result HandleNumber (Error × N))
+    → IsWhole (opened w)
+    → AdoptCall w me l kind key x node_type refs r w' → ArePlaced (opened w') → IsWhole (opened w')
 adopt-whole {N} {w} me l kind key x node_type refs (Ok k) whole call placed =
     let a = call.adopts in
     elim a.makes [
       | inl (n, is, falls) ↦
-          falls-whole (may-fall (is_named_by refs) whole (known-whole kind key n (owners.Load l) whole is (load-holds a.load a.owned) a.next.is_left)
-          (handle-on w (record { 0 = n }) (mode_of kind.0) (owners.Load l))) falls.falls placed
+          falls-opened (may-fall (is_named_by refs) whole (known-whole kind key n (owners.Load l) whole is (load-holds a.load a.owned) a.next.is_left)
+          (handle-on (opened w) (record { 0 = n }) (mode_of kind.0) (owners.Load l))) falls.falls placed
       | inr (none, node_left, leaves) ↦
-          settles (adopted-whole whole l kind key (first_key kind.0 key) refs (load-holds a.load a.owned) a.good node_left a.next.is_left (shared-keyless kind.0 key)) leaves placed
+          settles (adopted-whole w whole l kind key (first_key kind.0 key) refs (load-holds a.load a.owned) (references-opened w (owners.Load l) [] refs ∙ a.good) node_left a.next.is_left
+          (shared-keyless kind.0 key)) (alike-opened leaves) placed
     ]
-adopt-whole me l kind key x node_type refs (Err e) whole call placed = alike-whole whole call.refused.1.stays placed
+adopt-whole me l kind key x node_type refs (Err e) whole call placed = alike-whole whole (alike-opened call.refused.1.stays) placed

@@ -27,7 +27,8 @@ use Rattle.pagable_tables.proofs.keeps.Told.{roomy, roomy-whole, roomy-loads, al
 use Rattle.pagable_tables.proofs.keeps.GoingOn.{GoesOn, stays-on, then-on, on-listing}
 use Rattle.pagable_tables.proofs.keeps.Comes.{not-list}
 use Rattle.pagable_tables.proofs.keeps.Moved.{moved-number, moved-on, moved-to-value, moved-to-holder}
-use Rattle.pagable_tables.proofs.keeps.Fallen.{MayFall, falls-whole}
+use Rattle.pagable_tables.proofs.keeps.Fallen.{MayFall}
+use Rattle.pagable_tables.proofs.keeps.Opened.{opened, alike-opened, falls-opened, references-opened}
 use Rattle.pagable_tables.proofs.keeps.HandleCalls.{pin-comes, pin-on}
 use Rattle.pagable_tables.proofs.keeps.LoadCalls.{may-hold}
 use Rattle.pagable_tables.proofs.keeps.BirthCalls.{IsMine, named-mine, named-unlisted}
@@ -83,11 +84,11 @@ owned-in {w} whole l x among own =
     let self : (l.0 == l.0) ≡ true = grind (arith, nat_tests) in
     ap (if_there (is_owned_by (owners.Load l)) false) found ∙ ap (is_owner (owners.Load l)) own ∙ self
 
-load-closes : {w w' : Core} (l : LoadNumber) (r : Result (Unit {0}) Error) → IsWhole w → LoadCloses w l r w' → ArePlaced w' → IsWhole w'
-load-closes {w} l r whole falls placed = falls-whole (closes l (is_owned_in w (owners.Load l)) whole (roomy-whole whole) (stays-on w) (owned-in whole l)) falls placed
+load-closes : {w w' : Core} (l : LoadNumber) (r : Result (Unit {0}) Error) → IsWhole (opened w) → LoadCloses w l r w' → ArePlaced (opened w') → IsWhole (opened w')
+load-closes {w} l r whole falls placed = falls-opened (closes l (is_owned_in w (owners.Load l)) whole (roomy-whole whole) (stays-on (opened w)) (owned-in whole l)) falls placed
 
-pub drop-whole : {w w' : Core} (me : Owner) (l : LoadNumber) (r : Result (Unit {0}) Error) → IsWhole w → DropCall w me l r w' → ArePlaced w' → IsWhole w'
-drop-whole me l r whole call placed = elim call.does [ inl refused ↦ alike-whole whole refused.stays placed | inr (load, owns, falls) ↦ load-closes l r whole falls placed ]
+pub drop-whole : {w w' : Core} (me : Owner) (l : LoadNumber) (r : Result (Unit {0}) Error) → IsWhole (opened w) → DropCall w me l r w' → ArePlaced (opened w') → IsWhole (opened w')
+drop-whole me l r whole call placed = elim call.does [ inl refused ↦ alike-whole whole (alike-opened refused.stays) placed | inr (load, owns, falls) ↦ load-closes l r whole falls placed ]
 
 -- ---- a load ends
 
@@ -121,35 +122,36 @@ module _ {w m : Core} (was : IsWhole w) (whole : IsWhole (roomy m)) (on : GoesOn
 both-true : (a b : Bool) → a ≡ true → b ≡ false → (a && not b) ≡ true
 both-true a b e f = rw (e, f) refl
 
-pub end-whole : {N : Type 0} {w w' : Core} (me : Owner) (l : LoadNumber) (x : N) (node_type : ℕ) (refs : List ArcRef) (r : Result HandleNumber (Error × Option N)) → IsWhole w
-    → EndCall w me l x node_type refs r w' → ArePlaced w' → IsWhole w'
+pub end-whole : {N : Type 0} {w w' : Core} (me : Owner) (l : LoadNumber) (x : N) (node_type : ℕ) (refs : List ArcRef) (r : Result HandleNumber (Error × Option N)) → IsWhole (opened w)
+    → EndCall w me l x node_type refs r w' → ArePlaced (opened w') → IsWhole (opened w')
 end-whole {N} {w} {w'} me l x node_type refs (Ok k) whole call placed =
     let (node, h, ends, i) = call.installs in
     let may : MayOwnLoad w me = subst (MayOwnLoad w) ends.owned.own (whole.loads.owned l.0 ends.load ends.owned.stands_open) in
     elim i.falls [
       | inl (away, falls) ↦
           let s = is_named_by refs in
-          let m : Core = record w { rows = moved s (owner_value node.0) w.rows } in
+          let m : Core = record (opened w) { rows = moved s (owner_value node.0) w.rows } in
           let given = λ (q : ℕ). is_owned_in w (owners.Load l) q && not (is_named_by refs q) in
-          let moves = moved-to-value whole s (named-unlisted whole (owners.Load l) refs refl ends.good) node.0 in
-          let fall : MayFall w (without_load (with_pin m h i.row.node me) l) given = ends-may-fall {w = w} {m = m} whole moves (moved-on whole s (owner_value node.0)) me
+          let moves = moved-to-value whole s (named-unlisted whole (owners.Load l) refs refl (references-opened w (owners.Load l) [] refs ∙ ends.good)) node.0 in
+          let fall : MayFall (opened w) (without_load (with_pin m h i.row.node me) l) given = ends-may-fall {w = opened w} {m = m} whole moves (moved-on whole s (owner_value node.0)) me
           (may-own w m (λ v at. at) me may) l h i.row (kept-own node h i.row i.owned may ends.good) i.next.is_left given (left-given node) in
-          falls-whole (subst (λ n. MayFall w (without_load (with_pin m h n me) l) given) i.at fall) falls.falls placed
+          falls-opened (subst (λ n. MayFall (opened w) (without_load (with_pin m h n me) l) given) i.at fall) falls.falls placed
       | inr (here, falls) ↦
-          let fall : MayFall w (without_load (with_pin w h i.row.node me) l) (is_owned_in w (owners.Load l)) = ends-may-fall {w = w} {m = w} whole (roomy-whole whole)
-          (stays-on w) me may l h i.row i.owned i.next.is_left (is_owned_in w (owners.Load l)) (owned-in whole l) in
-          falls-whole (subst (λ n. MayFall w (without_load (with_pin w h n me) l) (is_owned_in w (owners.Load l))) i.at fall) falls.falls placed
+          let owned : Owns (opened w) me h is_loose i.row = record { live = i.owned.live; own = i.owned.own; as_asked = i.owned.as_asked } in
+          let fall : MayFall (opened w) (without_load (with_pin (opened w) h i.row.node me) l) (is_owned_in w (owners.Load l)) = ends-may-fall {w = opened w} {m = opened w} whole (roomy-whole whole)
+          (stays-on (opened w)) me may l h i.row owned i.next.is_left (is_owned_in w (owners.Load l)) (owned-in whole l) in
+          falls-opened (subst (λ n. MayFall (opened w) (without_load (with_pin (opened w) h n me) l) (is_owned_in w (owners.Load l))) i.at fall) falls.falls placed
     ]
   where
     -- the handle that began the load isn't one of the value's references
     kept-own : (node : NodeNumber) (h : HandleNumber) (row : HandleRow) → Owns w me h is_loose row → MayOwnLoad w me → references_fault w (owners.Load l) [] refs ≡ None
-        → Owns (record w { rows = moved (is_named_by refs) (owner_value node.0) w.rows }) me h is_loose row
+        → Owns (record (opened w) { rows = moved (is_named_by refs) (owner_value node.0) w.rows }) me h is_loose row
     kept-own node h row owns may good = at (is_named_by refs row.number.0) refl
       where
         found : Among w.rows row × (row.number.0 ≡ h.0)
         found = found-among h.0 w.rows row owns.live
 
-        at : (b : Bool) → is_named_by refs row.number.0 ≡ b → Owns (record w { rows = moved (is_named_by refs) (owner_value node.0) w.rows }) me h is_loose row
+        at : (b : Bool) → is_named_by refs row.number.0 ≡ b → Owns (record (opened w) { rows = moved (is_named_by refs) (owner_value node.0) w.rows }) me h is_loose row
         at true e =
             let m = named-mine w (owners.Load l) [] refs good row.number.0 e in
             let a = found-among row.number.0 w.rows m.row m.live in
@@ -179,12 +181,12 @@ end-whole {N} {w} {w'} me l x node_type refs (Ok k) whole call placed =
         of z there false e is =
             let n = ap (λ (v : HandleRow). v.number.0) is in
             both-true _ _ (ap (is_owned_in w (owners.Load l)) n ∙ owned-in whole l z there (ap (λ (v : HandleRow). v.owner) (sym is) ∙ own)) (ap (is_named_by refs) n ∙ e)
-end-whole me l x node_type refs (Err (e, Some y)) whole call placed = alike-whole whole call.refused.1.stays placed
+end-whole me l x node_type refs (Err (e, Some y)) whole call placed = alike-whole whole (alike-opened call.refused.1.stays) placed
 end-whole me l x node_type refs (Err (e, None)) whole call placed = let v = call.refused in load-closes l v.told whole v.closes placed
 
 -- ---- a load of a key hands over
 
-both-none : (a b : Option Error) → earlier a b ≡ None → (a ≡ None) × (b ≡ None)
+pub both-none : (a b : Option Error) → earlier a b ≡ None → (a ≡ None) × (b ≡ None)
 both-none None b e = (refl, e)
 both-none (Some x) None e = absurd (cc)
 both-none (Some x) (Some y) e = at (nat_lt (rank y) (rank x)) e
@@ -193,7 +195,7 @@ both-none (Some x) (Some y) e = at (nat_lt (rank y) (rank x)) e
     at true e = absurd (cc)
     at false e = absurd (cc)
 
-handed-mine : (w : Core) (owner : Owner) (seen : List ℕ) (hs : List HandleNumber) → named_fault w owner seen hs ≡ None → (q : ℕ) → is_in (numbers_of hs) q ≡ true → IsMine w owner q
+pub handed-mine : (w : Core) (owner : Owner) (seen : List ℕ) (hs : List HandleNumber) → named_fault w owner seen hs ≡ None → (q : ℕ) → is_in (numbers_of hs) q ≡ true → IsMine w owner q
 unfolding named_fault is_in
 handed-mine w owner seen [] good q named = absurd (cc)
 handed-mine w owner seen (h ∷ hs) good q named =
@@ -215,7 +217,7 @@ handed-mine w owner seen (h ∷ hs) good q named =
     at false e named mine rest = rest named
 
 -- who isn't refused owns the load
-asker-owns : {w : Core} → IsWhole w → (me : Owner) (l : LoadNumber) → load_fault w me l ≡ None → MayOwnLoad w me
+pub asker-owns : {w : Core} → IsWhole w → (me : Owner) (l : LoadNumber) → load_fault w me l ≡ None → MayOwnLoad w me
 asker-owns {w} whole me l none = of (w.loads l.0) refl none
   where
     own : (b : Bool) → refused_if (not b) errors.NotYours ≡ None → b ≡ true
@@ -227,16 +229,17 @@ asker-owns {w} whole me l none = of (w.loads l.0) refl none
     of None e good = absurd (cc)
     of (Some load) e good = subst (MayOwnLoad w) (owner-same me load.owner (own (is_owner me load.owner) good)) (whole.loads.owned l.0 load e)
 
-pub hand-over-whole : {w w' : Core} (me : Owner) (l : LoadNumber) (hs : List HandleNumber) (r : Result (Unit {0}) Error) → IsWhole w → HandOverCall w me l hs r w' → ArePlaced w' → IsWhole w'
+pub hand-over-whole : {w w' : Core} (me : Owner) (l : LoadNumber) (hs : List HandleNumber) (r : Result (Unit {0}) Error) → IsWhole (opened w)
+    → HandOverCall w me l hs r w' → ArePlaced (opened w') → IsWhole (opened w')
 hand-over-whole {w} {w'} me l hs (Ok u) whole call placed =
     let (good, falls) = call.hands in
     let first = both-none (load_fault w me l) (earlier (if_there (λ (load : OpenLoad). cell_fault load.root) None (w.loads l.0)) (named_fault w (owners.Load l) [] hs)) good in
     let second = both-none (if_there (λ (load : OpenLoad). cell_fault load.root) None (w.loads l.0)) (named_fault w (owners.Load l) [] hs) first.1 in
     let may = asker-owns whole me l first.0 in
     let s = is_in (numbers_of hs) in
-    let m : Core = record w { rows = moved s me w.rows } in
+    let m : Core = record (opened w) { rows = moved s me w.rows } in
     let given = λ (q : ℕ). is_owned_in w (owners.Load l) q && not (is_in (numbers_of hs) q) in
-    falls-whole (closes {u = m} l given whole (moved-to-holder whole s (unlisted second.1) me (not-list w me (may-hold w me may)) (may-hold w me may)) (moved-on whole s me)
+    falls-opened (closes {u = m} l given whole (moved-to-holder whole s (unlisted second.1) me (not-list w me (may-hold w me may)) (may-hold w me may)) (moved-on whole s me)
     (left-given may)) falls.falls placed
   where
     unlisted : named_fault w (owners.Load l) [] hs ≡ None → (x : HandleRow) → Among w.rows x → is_in (numbers_of hs) x.number.0 ≡ true → is_owned_by owners.List x ≡ false
@@ -257,22 +260,22 @@ hand-over-whole {w} {w'} me l hs (Ok u) whole call placed =
         of z there false e is =
             let n = ap (λ (v : HandleRow). v.number.0) is in
             both-true _ _ (ap (is_owned_in w (owners.Load l)) n ∙ owned-in whole l z there (ap (λ (v : HandleRow). v.owner) (sym is) ∙ own)) (ap (is_in (numbers_of hs)) n ∙ e)
-hand-over-whole me l hs (Err e) whole call placed = alike-whole whole call.refused.1 placed
+hand-over-whole me l hs (Err e) whole call placed = alike-whole whole (alike-opened call.refused.1) placed
 
 -- ---- the close of the storage
 
-pub close-whole : {w w' : Core} (r : Result (Unit {0}) Error) → IsWhole w → CloseCall w r w' → ArePlaced w' → IsWhole w'
-close-whole {w} {w'} r whole call placed = falls-whole fall call.falls.falls placed
+pub close-whole : {w w' : Core} (r : Result (Unit {0}) Error) → IsWhole (opened w) → CloseCall w r w' → ArePlaced (opened w') → IsWhole (opened w')
+close-whole {w} {w'} r whole call placed = falls-opened fall call.falls.falls placed
   where
     at : (q k : ℕ) → times (λ (h : HandleNumber). h.0 == q) w.list ≡ k → (0 ≡ times (λ h. is_handle q h && is_owned_by owners.List h) w.rows) ⊎ ((is_listed w q ≡ true) × (◌≡◌ {A = ℕ} 0 0))
     at q zero none = inl (sym (sym (whole.owners_there.listed q) ∙ none))
     at q (suc k) some = inr (grind (arith, nat_tests), refl)
 
-    fall : MayFall w (shut w w'.failures) (is_listed w)
+    fall : MayFall (opened w) (opened (shut w w'.failures)) (is_listed w)
     fall =
         let h = whole.handles in
         let o = whole.owners_there in
-        let after = shut w w'.failures in
+        let after = opened (shut w w'.failures) in
         record {
           handles = record {
             ordered = h.ordered;
@@ -295,6 +298,6 @@ close-whole {w} {w'} r whole call placed = falls-whole fall call.falls.falls pla
           };
           cache = λ kind key n is. absurd (cc);
           workers_numbered = whole.workers_numbered;
-          shut = λ closed. (refl, λ kind key. refl);
-          listing = on-listing whole (roomy-whole whole).handles (stays-on w);
+          shut = λ closed. absurd (cc);
+          listing = on-listing whole (roomy-whole whole).handles (stays-on (opened w));
         }

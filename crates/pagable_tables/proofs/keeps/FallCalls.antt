@@ -36,7 +36,8 @@ unpin-whole me h r whole call placed = elim call.does [
   | inr (row, owns, inl stays) ↦ alike-whole whole (alike-opened stays.2) placed
   | inr (row, owns, inr (pinned, falls)) ↦
       let unshared : is_shared modes.LooseUnpinned ≡ is_shared row.mode = ap is_shared (sym pinned) in
-      falls-opened (may-fall nobody whole (moded-whole whole h row modes.LooseUnpinned owns.live unshared (λ loose. refl) (λ is. refl)) (moded-on whole h row modes.LooseUnpinned owns.live unshared (λ loose. refl) (λ is. refl))) falls placed
+      falls-opened (may-fall nobody whole (moded-whole whole h row modes.LooseUnpinned owns.live unshared (λ loose. refl) (λ is. refl))
+      (moded-on whole h row modes.LooseUnpinned owns.live unshared (λ loose. refl) (λ is. refl))) falls placed
 ]
 
 -- ---- a key
@@ -98,7 +99,8 @@ module _ {w : Core} (whole : IsWhole w) (node : NodeNumber) (key : ℕ) (unshare
   pub keyed-on : GoesOn w (with_key w node key)
   keyed-on = record { cells = λ n is. kept is_some same-there n ∙ is; rows = λ n. omega arith }
 
-pub set-key-whole : {w w' : Core} (me : Owner) (h : HandleNumber) (key : ℕ) (r : Result (Unit {0}) Error) → IsWhole (opened w) → SetKeyCall w me h key r w' → ArePlaced (opened w') → IsWhole (opened w')
+pub set-key-whole : {w w' : Core} (me : Owner) (h : HandleNumber) (key : ℕ) (r : Result (Unit {0}) Error) → IsWhole (opened w) → SetKeyCall w me h key r w' → ArePlaced (opened w')
+    → IsWhole (opened w')
 set-key-whole {w} me h key r whole call placed = elim call.does [
   | inl refused ↦ alike-whole whole (alike-opened refused.stays) placed
   | inr (row, owns, inl stays) ↦ alike-whole whole (alike-opened stays.2) placed

@@ -1,8 +1,12 @@
 -- A world as it would be with the storage open: of it all is whole that is whole of tables, whether the storage was closed or not.
-use Rattle.std.proofs.Common.{ℕ, Bool, false, refl}
+use Rattle.std.proofs.Common.{◌≡◌, ℕ, Bool, false, List, [], ◌∷◌, refl, ap}
 use Rattle.std.specs.Prelude.{Result}
 use Rattle.pagable_model.specs.declared.error.Error.{Error}
+use Rattle.pagable_model.specs.declared.numbers.ArcRef.{ArcRef}
+use Rattle.pagable_world.specs.declared.handles.Owner.{Owner}
+use Rattle.pagable_world.specs.Plain.{or_else}
 use Rattle.pagable_world.specs.World.{Core, Alike}
+use Rattle.pagable_world.specs.Refusals.{references_fault, reference_fault}
 use Rattle.pagable_world.specs.Cascade.{Falls}
 use Rattle.pagable_world.specs.Pager.{IsWhole}
 use Rattle.pagable_tables.specs.Core.{ArePlaced}
@@ -29,5 +33,12 @@ alike-opened a =
     }
 
 -- what has fallen leaves it whole
-pub falls-opened : {before u w' : Core} {given : ℕ → Bool} {r : Result (Unit {0}) Error} → MayFall (opened before) (opened u) given → Falls before u given r w' → ArePlaced (opened w') → IsWhole (opened w')
+pub falls-opened : {before u w' : Core} {given : ℕ → Bool} {r : Result (Unit {0}) Error} → MayFall (opened before) (opened u) given → Falls before u given r w' → ArePlaced (opened w')
+    → IsWhole (opened w')
 falls-opened may f placed = settles (fallen-whole may f.gone f.entries f.set.holds f.new (λ n some. let m = (f.only n some).0 in (m.pinned, m.unshared, refl)) f.within) (alike-opened f.leaves) placed
+
+-- references are as good as they are
+pub references-opened : (w : Core) (owner : Owner) (seen : List ℕ) (refs : List ArcRef) → references_fault (opened w) owner seen refs ≡ references_fault w owner seen refs
+unfolding references_fault
+references-opened w owner seen [] = refl
+references-opened w owner seen (r ∷ rs) = ap (or_else (reference_fault w owner seen r)) (references-opened w owner (r.handle.0 ∷ seen) rs)

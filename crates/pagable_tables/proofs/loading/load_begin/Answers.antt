@@ -18,6 +18,8 @@ use Rattle.pagable_tables.proofs.Alive.{row-le-live}
 use Rattle.pagable_tables.proofs.Fitting.{handle_of, held-here}
 use Rattle.pagable_tables.proofs.Worlds.{still, owner-same}
 use Rattle.pagable_tables.proofs.Opened.{handle-first, no-fault, no-begin-fault, here-told}
+use Rattle.pagable_tables.proofs.keeps.LoadCalls.{begin-whole}
+use Rattle.pagable_tables.proofs.keeps.Placed.{whole-so}
 use Rattle.pagable_tables.proofs.loading.load_begin.Goals as goal
 
 pub returns-in-Err-clause-begun : goal.returns-in-Err-clause-begun
@@ -30,7 +32,7 @@ pub unreachable-requires : goal.unreachable-requires
 unreachable-requires c =
     let t = c.args.t.now.holdings in
     let row = c.in-Ok.at.row in
-    let w = c.requires.steady.fits.holding row.node.0 in
+    let w = c.requires.whole.steady.fits.holding row.node.0 in
     let a : counts_at t.nodes row.node.0 ≡ None = sym c.counts_of.ensures ∙ c.in_default.is in
     let b = ap holds_in a in
     let l = row-le-live (handle_of row.node.0) t.handles.places.items c.in-Ok.at.place row c.in-Ok.ensures.place in
@@ -45,7 +47,7 @@ returns-in-Ok-open_cell-clause-begun c stored closed failures =
     let y = c.in-Some.counts in
     let is : counts_at t.holdings.nodes row.node.0 ≡ Some y = sym c.counts_of.ensures ∙ c.in-Some.is in
     let own : Owns w c.args.me c.args.handle is_loose row = record { live = c.in-Ok.ensures.found; own = owner-same c.args.me row.owner c.in-Ok.ensures.owner; as_asked = search rules } in
-    let told : is_here w row.node.0 ≡ is_in_memory y.pins (key_in y.key) = here-told (counts_at t.holdings.nodes) (live t.holdings.handles.places.items) row.node.0 y (c.requires.steady.fits.pinned row.node.0) is in
+    let told : is_here w row.node.0 ≡ is_in_memory y.pins (key_in y.key) = here-told (counts_at t.holdings.nodes) (live t.holdings.handles.places.items) row.node.0 y (c.requires.whole.steady.fits.pinned row.node.0) is in
     let key = ap (λ o. if_there (λ (cell : Cell). cell.key) optional.None (cell_in o)) is ∙ c.in-Some-key_away.ensures.key in
     let typed = ap (λ o. if_there (λ (cell : Cell). Some cell.node_type) None (cell_in o)) is in
     let opened = subst (λ q. Alike (with_load (with_handle w row.node modes.LooseUnpinned (owners.Load c.in-Ok-open_cell.load)) c.in-Some-key_away.key (of_cell row.node y.node_type q) c.args.me) (core_of c.open_cell.new.t stored closed failures))
@@ -59,8 +61,14 @@ returns-in-Err-open_cell-clause-begun c stored closed failures =
     let row = c.in-Ok.at.row in
     let y = c.in-Some.counts in
     let is : counts_at t.holdings.nodes row.node.0 ≡ Some y = sym c.counts_of.ensures ∙ c.in-Some.is in
-    let told : is_here w row.node.0 ≡ is_in_memory y.pins (key_in y.key) = here-told (counts_at t.holdings.nodes) (live t.holdings.handles.places.items) row.node.0 y (c.requires.steady.fits.pinned row.node.0) is in
+    let told : is_here w row.node.0 ≡ is_in_memory y.pins (key_in y.key) = here-told (counts_at t.holdings.nodes) (live t.holdings.handles.places.items) row.node.0 y (c.requires.whole.steady.fits.pinned row.node.0) is in
     let away = ap (if_there (λ (r : HandleRow). is_here w r.node.0) false) c.in-Ok.ensures.found ∙ told ∙ c.in-Some-key_away.ensures.away in
     let none = no-fault w c.args.me c.args.handle is_loose row c.in-Ok.ensures.found c.in-Ok.ensures.owner (search rules) in
     let before = no-begin-fault w c.args.me c.args.handle (not (is_handle_here w c.args.handle)) none (search rules) (search rules) in
     record { begins = tt; refused = record { why = inr (c.in-Err-open_cell.ensures.refused, before, away); stays = c.in-Err-open_cell.ensures.stays stored closed failures } }
+
+pub returns-in-Ok-open_cell-clause-whole : goal.returns-in-Ok-open_cell-clause-whole
+returns-in-Ok-open_cell-clause-whole c = whole-so c.open_cell.ensures.steady (begin-whole c.args.me c.args.handle _ c.requires.whole.core c.requires.owner (returns-in-Ok-open_cell-clause-begun c (λ key. None) false 0))
+
+pub returns-in-Err-open_cell-clause-whole : goal.returns-in-Err-open_cell-clause-whole
+returns-in-Err-open_cell-clause-whole c = whole-so c.open_cell.ensures.steady (begin-whole c.args.me c.args.handle _ c.requires.whole.core c.requires.owner (returns-in-Err-open_cell-clause-begun c (λ key. None) false 0))

@@ -1,0 +1,117 @@
+-- Handles that references name come to another owner.
+use Rattle.std.proofs.Common.{◌≡◌, ℕ, ◌+◌, ◌<◌, ◌≤◌, ◌==◌, ◌||◌, Bool, true, false, List, [], ◌∷◌, ◌++◌, take, drop, drop-cons, get_or, length, suc, add-one, refl, ap, sym, ◌∙◌, arith, Some, None, if◌then◌else◌}
+use Rattle.std.proofs.lemmas.Bool.Decides.{nat_tests}
+use Rattle.std.specs.Prelude.{◌≢◌}
+use Rattle.std.proofs.lemmas.List.{drop_all}
+use Rattle.std.proofs.Math.Seq.{take-suc}
+use Rattle.pagable_model.specs.declared.error.Error.{Error}
+use Rattle.pagable_model.specs.declared.numbers.ArcRef.{ArcRef}
+use Rattle.pagable_model.specs.declared.numbers.HandleNumber.{HandleNumber}
+use Rattle.pagable_world.specs.declared.handles.HandleRow.{HandleRow}
+use Rattle.pagable_world.specs.declared.handles.Owner.{Owner}
+use Rattle.pagable_world.specs.Plain.{is_in, or_else}
+use Rattle.pagable_world.specs.Kinds.{find_row, is_handle}
+use Rattle.pagable_world.specs.World.{Core}
+use Rattle.pagable_world.specs.Refusals.{reference_fault, references_fault}
+use Rattle.pagable_world.specs.Cascade.{only_handle}
+use Rattle.pagable_world.specs.Calls.{moved, is_named_by}
+use Rattle.pagable_tables.proofs.Owned.{owned-by}
+
+-- no row has the number
+pub moved-none : (h : HandleNumber) (owner : Owner) (rows : List HandleRow) → find_row h.0 rows ≡ None → moved (only_handle h) owner rows ≡ rows
+unfolding find_row
+moved-none h owner [] is = refl
+moved-none h owner (x ∷ xs) is = by (is_handle h.0 x) refl is (moved-none h owner xs)
+  where
+    by : (b : Bool) → is_handle h.0 x ≡ b → (if b then Some x else find_row h.0 xs) ≡ None → (find_row h.0 xs ≡ None → moved (only_handle h) owner xs ≡ xs) → moved (only_handle h) owner (x ∷ xs) ≡ x ∷ xs
+    by true here is rest = absurd (cc)
+    by false here is rest = rw here (ap (λ l. x ∷ l) (rest is))
+
+pub moved-nobody : (owner : Owner) (rows : List HandleRow) → moved (is_named_by []) owner rows ≡ rows
+unfolding is_named_by
+moved-nobody owner [] = refl
+moved-nobody owner (x ∷ xs) = ap (λ l. x ∷ l) (moved-nobody owner xs)
+
+named-push : (rs : List ArcRef) (r : ArcRef) (q : ℕ) → is_named_by (rs ++ r ∷ []) q ≡ (r.handle.0 == q) || is_named_by rs q
+unfolding is_named_by
+named-push [] r q = refl
+named-push (x ∷ xs) r q = ap (λ b. (x.handle.0 == q) || b) (named-push xs r q) ∙ swap (x.handle.0 == q) (r.handle.0 == q) (is_named_by xs q)
+  where
+    swap : (a b d : Bool) → (a || (b || d)) ≡ (b || (a || d))
+    swap true true d = refl
+    swap true false d = refl
+    swap false true d = refl
+    swap false false d = refl
+
+-- one more
+moved-push : (rs : List ArcRef) (r : ArcRef) (owner : Owner) (rows : List HandleRow) → moved (only_handle r.handle) owner (moved (is_named_by rs) owner rows) ≡ moved (is_named_by (rs ++ r ∷ [])) owner rows
+moved-push rs r owner [] = refl
+moved-push rs r owner (x ∷ xs) = by (is_named_by rs x.number.0) (x.number.0 == r.handle.0) refl refl (moved-push rs r owner xs)
+  where
+    flip : (r.handle.0 == x.number.0) ≡ (x.number.0 == r.handle.0)
+    flip = grind (arith, nat_tests)
+
+    named : (b d : Bool) → is_named_by rs x.number.0 ≡ b → (x.number.0 == r.handle.0) ≡ d → is_named_by (rs ++ r ∷ []) x.number.0 ≡ d || b
+    named b d here same = named-push rs r x.number.0 ∙ ap (λ a. a || is_named_by rs x.number.0) (flip ∙ same) ∙ ap (λ a. d || a) here
+
+    by : (b d : Bool) → is_named_by rs x.number.0 ≡ b → (x.number.0 == r.handle.0) ≡ d → moved (only_handle r.handle) owner (moved (is_named_by rs) owner xs) ≡ moved (is_named_by (rs ++ r ∷ [])) owner xs
+        → moved (only_handle r.handle) owner (moved (is_named_by rs) owner (x ∷ xs)) ≡ moved (is_named_by (rs ++ r ∷ [])) owner (x ∷ xs)
+    by true true here same rest = let n = named true true here same in rw (here, same, n) (ap (λ l. owned-by owner x ∷ l) rest)
+    by true false here same rest = let n = named true false here same in rw (here, same, n) (ap (λ l. owned-by owner x ∷ l) rest)
+    by false true here same rest = let n = named false true here same in rw (here, same, n) (ap (λ l. owned-by owner x ∷ l) rest)
+    by false false here same rest = let n = named false false here same in rw (here, same, n) (ap (λ l. x ∷ l) rest)
+
+pub moved-take : (rs : List ArcRef) (i : ℕ) (d : ArcRef) (owner : Owner) (rows : List HandleRow) → i < length rs
+    → moved (only_handle (get_or rs i d).handle) owner (moved (is_named_by (take i rs)) owner rows) ≡ moved (is_named_by (take (i + 1) rs)) owner rows
+moved-take rs i d owner rows lt =
+    let a : take i rs ++ get_or rs i d ∷ [] ≡ take (i + 1) rs = sym (take-suc rs i d lt) ∙ ap (λ n. take n rs) (sym (add-one i)) in
+    moved-push (take i rs) (get_or rs i d) owner rows ∙ ap (λ l. moved (is_named_by l) owner rows) a
+
+-- the rest of the references, one on
+named-drop : (rs : List ArcRef) (i : ℕ) (d : ArcRef) (q : ℕ) → i < length rs → is_named_by (drop i rs) q ≡ ((get_or rs i d).handle.0 == q) || is_named_by (drop (i + 1) rs) q
+unfolding is_named_by
+named-drop rs i d q lt = rw (add-one, drop-cons rs i d) refl
+
+pub named-here : (rs : List ArcRef) (i : ℕ) (d : ArcRef) (q : ℕ) → i < length rs → (get_or rs i d).handle.0 ≡ q → is_named_by (drop i rs) q ≡ true
+named-here rs i d q lt is =
+    let a : ((get_or rs i d).handle.0 == q) ≡ true = grind (arith, nat_tests) in
+    named-drop rs i d q lt ∙ ap (λ b. b || is_named_by (drop (i + 1) rs) q) a
+
+pub named-past : (rs : List ArcRef) (i : ℕ) (d : ArcRef) (q : ℕ) → i < length rs → (get_or rs i d).handle.0 ≢ q → is_named_by (drop i rs) q ≡ is_named_by (drop (i + 1) rs) q
+named-past rs i d q lt other =
+    let a : ((get_or rs i d).handle.0 == q) ≡ false = grind (arith, nat_tests) in
+    named-drop rs i d q lt ∙ ap (λ b. b || is_named_by (drop (i + 1) rs) q) a
+
+pub named-end : (rs : List ArcRef) (i q : ℕ) → length rs ≤ i → is_named_by (drop i rs) q ≡ false
+unfolding is_named_by
+named-end rs i q past = ap (λ l. is_named_by l q) (drop_all i rs past)
+
+pub named-take : (rs : List ArcRef) (i : ℕ) (d : ArcRef) (q : ℕ) → i < length rs → is_named_by (take (i + 1) rs) q ≡ ((get_or rs i d).handle.0 == q) || is_named_by (take i rs) q
+named-take rs i d q lt = ap (λ l. is_named_by l q) (ap (λ n. take n rs) (add-one i) ∙ take-suc rs i d lt) ∙ named-push (take i rs) (get_or rs i d) q
+
+pub named-none : (q : ℕ) → is_named_by [] q ≡ false
+unfolding is_named_by
+named-none q = refl
+
+pub seen-more : (seen : List ℕ) (rs : List ArcRef) (i : ℕ) (d : ArcRef) → i < length rs → ((q : ℕ) → is_in seen q ≡ is_named_by (take i rs) q) → (q : ℕ) → is_in ((get_or rs i d).handle.0 ∷ seen) q ≡ is_named_by (take (i + 1) rs) q
+unfolding is_in
+seen-more seen rs i d lt same q = ap (λ b. ((get_or rs i d).handle.0 == q) || b) (same q) ∙ sym (named-take rs i d q lt)
+
+pub seen-none : (q : ℕ) → is_in [] q ≡ is_named_by [] q
+unfolding is_in is_named_by
+seen-none q = refl
+
+module _ (w : Core) (me : Owner) (seen : List ℕ) (rs : List ArcRef) (i : ℕ) where
+  fault-drop : (d : ArcRef) → i < length rs → references_fault w me seen (drop i rs) ≡ or_else (reference_fault w me seen (get_or rs i d)) (references_fault w me ((get_or rs i d).handle.0 ∷ seen) (drop (i + 1) rs))
+  unfolding references_fault
+  fault-drop d lt = rw (add-one, drop-cons rs i d) refl
+
+  pub fault-some : (d : ArcRef) (e : Error) → i < length rs → reference_fault w me seen (get_or rs i d) ≡ Some e → references_fault w me seen (drop i rs) ≡ Some e
+  fault-some d e lt is = fault-drop d lt ∙ ap (λ f. or_else f (references_fault w me ((get_or rs i d).handle.0 ∷ seen) (drop (i + 1) rs))) is
+
+  pub fault-none : (d : ArcRef) → i < length rs → reference_fault w me seen (get_or rs i d) ≡ None → references_fault w me seen (drop i rs) ≡ references_fault w me ((get_or rs i d).handle.0 ∷ seen) (drop (i + 1) rs)
+  fault-none d lt is = fault-drop d lt ∙ ap (λ f. or_else f (references_fault w me ((get_or rs i d).handle.0 ∷ seen) (drop (i + 1) rs))) is
+
+  pub fault-end : length rs ≤ i → references_fault w me seen (drop i rs) ≡ None
+  unfolding references_fault
+  fault-end past = ap (references_fault w me seen) (drop_all i rs past)

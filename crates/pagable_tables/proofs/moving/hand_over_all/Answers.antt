@@ -1,0 +1,25 @@
+use Rattle.std.proofs.Common.{refl, sym, ap, ◌∙◌, arith, take_all}
+use Rattle.pagable_world.specs.Calls.{moved, is_named_by}
+use Rattle.pagable_world.specs.Cascade.{only_handle}
+use Rattle.pagable_tables.specs.Live.{live}
+use Rattle.pagable_tables.proofs.Named.{moved-nobody, moved-take}
+use Rattle.pagable_tables.proofs.moving.hand_over_all.Goals as goal
+
+pub loop-reference-init : goal.loop-reference-init
+loop-reference-init c =
+    record { sound = c.requires; rows = sym (moved-nobody c.args.owner (live c.args.handles.now.places.items)); capacity = refl; next = λ q next. next }
+
+pub loop-reference-preserved : goal.loop-reference-preserved
+loop-reference-preserved c =
+    let i = c.loop-reference in
+    let e = c.hand_over_live.ensures in
+    record {
+      sound = e.sound;
+      rows = e.rows ∙ ap (moved (only_handle _) c.args.owner) i.invariant.rows ∙ moved-take c.args.references.now i.reference-index _ c.args.owner (live c.args.handles.now.places.items) (omega arith);
+      capacity = e.capacity ∙ i.invariant.capacity;
+      next = λ q next. e.next q (i.invariant.next q next);
+    }
+
+pub returns-clause-rows : goal.returns-clause-rows
+returns-clause-rows c =
+    c.loop-reference.invariant.rows ∙ ap (λ l. moved (is_named_by l) c.args.owner (live c.args.handles.now.places.items)) (take_all c.loop-reference.reference-index c.args.references.now (omega arith))

@@ -1,0 +1,7 @@
+use Rattle.std.proofs.Common.{sym}
+use Rattle.pagable_tables.specs.Live.{live}
+use Rattle.pagable_tables.proofs.Named.{moved-none}
+use Rattle.pagable_tables.proofs.moving.hand_over_live.Goals as goal
+
+pub returns-in-None-clause-rows : goal.returns-in-None-clause-rows
+returns-in-None-clause-rows c = sym (moved-none c.args.handle c.args.owner (live c.args.handles.now.places.items) c.in-None.ensures.none)

@@ -1,0 +1,37 @@
+use Rattle.std.proofs.Common.{ℕ, Bool, Option, get_or, sym, ◌∙◌, refl, arith, [], ◌∷◌}
+use Rattle.pagable_model.specs.declared.numbers.ArcRef.{ArcRef}
+use Rattle.pagable_world.specs.Plain.{Blob}
+use Rattle.pagable_tables.specs.Core.{core_of}
+use Rattle.pagable_tables.proofs.Named.{seen-more, seen-none, fault-some, fault-none, fault-end}
+use Rattle.pagable_tables.proofs.references.check_references.Goals as goal
+
+abbrev blank : ArcRef
+blank = record { kind = record { 0 = 0 }; node = record { 0 = 0 }; handle = record { 0 = 0 } }
+
+pub loop-i-init : goal.loop-i-init
+loop-i-init c = record { seen = []; same = seen-none; rest = λ stored closed failures. refl }
+
+pub returns-in-Some-clause-fault : goal.returns-in-Some-clause-fault
+returns-in-Some-clause-fault c stored closed failures =
+    let w = core_of c.args.t.now stored closed failures in
+    let l = c.loop-i in
+    let named = l.invariant.same _ ∙ sym c.is_named-is_seen.ensures in
+    let fault = sym (c.fault_of.ensures stored closed failures l.invariant.seen named) ∙ c.in-Some.is in
+    l.invariant.rest stored closed failures ∙ fault-some w c.args.me l.invariant.seen c.args.references.now l.i _ c.in-Some.e (omega arith) fault
+
+pub loop-i-preserved : goal.loop-i-preserved
+loop-i-preserved c =
+    let l = c.loop-i in
+    let rs = c.args.references.now in
+    let named = l.invariant.same _ ∙ sym c.is_named-is_seen.ensures in
+    let none = λ (stored : ℕ → Option Blob) (closed : Bool) (failures : ℕ). sym (c.fault_of.ensures stored closed failures l.invariant.seen named) ∙ c.in_default.is in
+    record {
+      seen = (get_or rs l.i blank).handle.0 ∷ l.invariant.seen;
+      same = seen-more l.invariant.seen rs l.i blank (omega arith) l.invariant.same;
+      rest = λ stored closed failures. l.invariant.rest stored closed failures ∙ fault-none (core_of c.args.t.now stored closed failures) c.args.me l.invariant.seen rs l.i blank (omega arith) (none stored closed failures);
+    }
+
+pub returns-clause-fit : goal.returns-clause-fit
+returns-clause-fit c stored closed failures =
+    let l = c.loop-i in
+    l.invariant.rest stored closed failures ∙ fault-end (core_of c.args.t.now stored closed failures) c.args.me l.invariant.seen c.args.references.now l.i (omega arith)

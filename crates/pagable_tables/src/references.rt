@@ -1,0 +1,64 @@
+//! Why the references of a value that is handed in are refused.
+
+ghost use Rattle.std.specs.Prelude.{◌≡◌, ℕ, Bool, List, Option, Some, None, OnOk, IfErr, []};
+ghost use Rattle.pagable_world.specs.Plain.{Blob, is_in};
+ghost use Rattle.pagable_world.specs.Refusals.{reference_fault, references_fault};
+ghost use Rattle.pagable_world.specs.Calls.{is_named_by};
+ghost use Rattle.pagable_tables.specs.Core.{core_of, IsWhole};
+
+use crate::kinds::{fits_mode, is_of};
+use crate::tables::Tables;
+use crate::turning::is_owner;
+use crate::{handles, nodes};
+use pagable_model::{ArcRef, Error, HandleNumber};
+use pagable_world::handles::Owner;
+
+/// Whether one of these references names the handle.
+fn is_named(references: &[ArcRef], handle: HandleNumber) -> bool
+    ensures { result ≡ is_named_by references.now handle.0 }
+{
+    for reference in references {
+        if reference.handle.0 == handle.0 {
+            return true;
+        }
+    }
+    false
+}
+
+/// Why a reference of a value is refused, where its handle was named before or wasn't.
+fn fault_of(t: &Tables, me: Owner, reference: ArcRef, is_seen: bool) -> Option<Error>
+    requires { IsWhole t.now }
+    ensures { (stored : ℕ → Option Blob) (closed : Bool) (failures : ℕ) (seen : List ℕ) → is_in seen reference.handle.0 ≡ is_seen → result ≡ reference_fault (core_of t.now stored closed failures) me seen reference }
+{
+    let Some(at) = handles::look(&t.holdings.handles, reference.handle) else {
+        return Some(Error::NoSuchHandle);
+    };
+    if at.row.node.0 != reference.node.0 {
+        return Some(Error::NoSuchHandle);
+    }
+    if !is_owner(me, at.row.owner) || is_seen {
+        return Some(Error::NotYours);
+    }
+    if !fits_mode(reference.kind, at.row.mode) {
+        return Some(Error::WrongMode);
+    }
+    if !is_of(nodes::counts_of(&t.holdings.nodes, reference.node.0), reference.kind) {
+        return Some(Error::WrongKind);
+    }
+    None
+}
+
+/// Refuses the references of a value that is handed in by the cause of the first that has one.
+pub fn check_references(t: &Tables, me: Owner, references: &[ArcRef]) -> Result<(), Error>
+    requires { IsWhole t.now }
+    ensures fit { OnOk result ((stored : ℕ → Option Blob) (closed : Bool) (failures : ℕ) → references_fault (core_of t.now stored closed failures) me [] references.now ≡ None) }
+    ensures fault { IfErr result (λ e. (stored : ℕ → Option Blob) (closed : Bool) (failures : ℕ) → references_fault (core_of t.now stored closed failures) me [] references.now ≡ Some e) }
+{
+    for i in 0..references.len() {
+        let is_seen = is_named(&references[..i], references[i].handle);
+        if let Some(e) = fault_of(t, me, references[i], is_seen) {
+            return Err(e);
+        }
+    }
+    Ok(())
+}
