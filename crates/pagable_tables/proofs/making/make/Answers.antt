@@ -56,9 +56,7 @@ returns-clause-made c stored closed failures =
       made = (
         record { above = refl; is_left = search rules },
         alike _ _ c.in-Ok.ensures.rows
-            (come-cells (counts_at t.nodes) (counts_at c.set_counts.new.nodes) (refs_at t.nodes) (refs_at c.set_counts.new.nodes)
-            (live t.handles.places.items) t.top x y c.requires.whole.steady.fits is (e.here ∙ ap Some made) e.others e.refs
-            (not-a-value (plain_of c.args.t.now) c.args.owner c.requires.holder))
+            (come-cells (counts_at t.nodes) (counts_at c.set_counts.new.nodes) (refs_at t.nodes) (refs_at c.set_counts.new.nodes) (live t.handles.places.items) t.top x y c.requires.whole.steady.fits is (e.here ∙ ap Some made) e.others e.refs (not-a-value (plain_of c.args.t.now) c.args.owner c.requires.holder))
             (record { handles = c.push.ensures.capacity; entries = omega arith }) refl,
       );
       refused = tt;
