@@ -69,7 +69,8 @@ fn set_key<N: Drop>(
 ) -> Result<(), Error>
     requires whole { IsWhole t.old }
     requires live { IsSome (counts_at t.old.holdings.nodes node.0) }
-    ensures falls { (stored : ℕ → Option Blob) (closed : Bool) (failures : ℕ) → lists ≡ not closed → Falls (core_of t.old stored closed failures) (with_key (core_of t.old stored closed failures) node key) nobody result (core_of t.new stored closed failures) }
+    ensures falls { (stored : ℕ → Option Blob) (closed : Bool) (failures : ℕ) → lists ≡ not closed
+        → Falls (core_of t.old stored closed failures) (with_key (core_of t.old stored closed failures) node key) nobody result (core_of t.new stored closed failures) }
     ensures steady { IsFalling t.new.holdings [] owns_nothing }
     ensures sheds { Sheds (counts_at t.old.holdings.nodes) (get nat_eq values.old) (counts_at t.new.holdings.nodes) (get nat_eq values.new) }
 {
@@ -89,7 +90,8 @@ pub fn set_data_key<N: Drop>(
     lists: bool,
 ) -> Result<(), Error>
     requires whole { IsWhole t.old }
-    ensures set { (stored : ℕ → Option Blob) (closed : Bool) (failures : ℕ) → lists ≡ not closed → SetKeyCall (core_of t.old stored closed failures) me handle key result (core_of t.new stored closed failures) }
+    ensures set { (stored : ℕ → Option Blob) (closed : Bool) (failures : ℕ) → lists ≡ not closed
+        → SetKeyCall (core_of t.old stored closed failures) me handle key result (core_of t.new stored closed failures) }
     ensures whole { IsWhole t.new }
     ensures sheds { Sheds (counts_at t.old.holdings.nodes) (get nat_eq values.old) (counts_at t.new.holdings.nodes) (get nat_eq values.new) }
 {

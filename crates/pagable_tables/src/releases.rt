@@ -37,7 +37,8 @@ pub fn give_back<N: Drop>(
     requires plain { is_valued at.row.owner ≡ false }
     requires free { is_owner owners.List at.row.owner ≡ false }
     ensures steady { IsFalling t.new [] owns_nothing }
-    ensures falls { (before w : Core) → SoFar before w nobody lists (record t.old { unlisted = None }) → length (live t.old.handles.places.items) ≤ length w.rows → Falls before w (only_handle at.row.number) result (with_tables w t.new) }
+    ensures falls { (before w : Core) → SoFar before w nobody lists (record t.old { unlisted = None }) → length (live t.old.handles.places.items) ≤ length w.rows
+        → Falls before w (only_handle at.row.number) result (with_tables w t.new) }
     ensures sheds { Sheds (counts_at t.old.nodes) (get nat_eq values.old) (counts_at t.new.nodes) (get nat_eq values.new) }
 {
     t.unlisted = None;
@@ -56,7 +57,8 @@ pub fn release<N: Drop>(
     requires whole { IsWhole t.old }
     requires plain { is_valued me ≡ false }
     requires free { is_owner owners.List me ≡ false }
-    ensures released { (stored : ℕ → Option Blob) (closed : Bool) (failures : ℕ) → lists ≡ not closed → ReleaseCall (core_of t.old stored closed failures) me handle result (core_of t.new stored closed failures) }
+    ensures released { (stored : ℕ → Option Blob) (closed : Bool) (failures : ℕ) → lists ≡ not closed
+        → ReleaseCall (core_of t.old stored closed failures) me handle result (core_of t.new stored closed failures) }
     ensures whole { IsWhole t.new }
     ensures sheds { Sheds (counts_at t.old.holdings.nodes) (get nat_eq values.old) (counts_at t.new.holdings.nodes) (get nat_eq values.new) }
 {

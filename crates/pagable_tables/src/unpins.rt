@@ -66,7 +66,8 @@ fn let_go<N: Drop>(
     requires place { slice_get t.old.holdings.handles.places.items at.place ≡ Some (alive at.row) }
     requires pinned { at.row.mode ≡ modes.LoosePinned }
     requires plain { is_valued at.row.owner ≡ false }
-    ensures falls { (stored : ℕ → Option Blob) (closed : Bool) (failures : ℕ) → lists ≡ not closed → Falls (core_of t.old stored closed failures) (with_mode (core_of t.old stored closed failures) at.row.number modes.LooseUnpinned) nobody result (core_of t.new stored closed failures) }
+    ensures falls { (stored : ℕ → Option Blob) (closed : Bool) (failures : ℕ) → lists ≡ not closed
+        → Falls (core_of t.old stored closed failures) (with_mode (core_of t.old stored closed failures) at.row.number modes.LooseUnpinned) nobody result (core_of t.new stored closed failures) }
     ensures steady { IsFalling t.new.holdings [] owns_nothing }
     ensures sheds { Sheds (counts_at t.old.holdings.nodes) (get nat_eq values.old) (counts_at t.new.holdings.nodes) (get nat_eq values.new) }
 {
@@ -85,7 +86,8 @@ pub fn unpin<N: Drop>(
 ) -> Result<(), Error>
     requires whole { IsWhole t.old }
     requires plain { is_valued me ≡ false }
-    ensures unpinned { (stored : ℕ → Option Blob) (closed : Bool) (failures : ℕ) → lists ≡ not closed → UnpinCall (core_of t.old stored closed failures) me handle result (core_of t.new stored closed failures) }
+    ensures unpinned { (stored : ℕ → Option Blob) (closed : Bool) (failures : ℕ) → lists ≡ not closed
+        → UnpinCall (core_of t.old stored closed failures) me handle result (core_of t.new stored closed failures) }
     ensures whole { IsWhole t.new }
     ensures sheds { Sheds (counts_at t.old.holdings.nodes) (get nat_eq values.old) (counts_at t.new.holdings.nodes) (get nat_eq values.new) }
 {

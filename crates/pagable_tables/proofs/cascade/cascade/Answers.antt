@@ -46,8 +46,15 @@ fall-preserved g c =
     let less = s.less in
     let few = i.2 in
     let fewer = steps-fewer c.fall.t c.step-done.new.t i.0 c.args.lists c.step-done.result s in
-    let so-far = c.fall.invariant.3 in
-    ((s.rest, s.falling, omega arith), λ before w given f. steps-on before w given c.args.lists c.fall.t c.step-done.new.t i.0 c.step-done.result (c.fall.invariant.1 before w given f) i.1 c.fall-test.true s, λ kept n. lasts-on (is_node c.step-done.result n) (counts_at c.fall.t.nodes n) (counts_at c.step-done.new.t.nodes n) _ _ _ (c.let_go.ensures n) (λ other. s.values n (not-node c.step-done.result n other)) (gone-node (λ m. has_value (counts_at c.step-done.new.t.nodes m)) c.step-done.result n s.gone) (c.fall.invariant.2 kept n), omega arith)
+    let so-far = c.fall.invariant.3 in (
+      (s.rest, s.falling, omega arith),
+      λ before w given f. steps-on before w given c.args.lists c.fall.t c.step-done.new.t i.0 c.step-done.result
+          (c.fall.invariant.1 before w given f) i.1 c.fall-test.true s,
+      λ kept n. lasts-on (is_node c.step-done.result n) (counts_at c.fall.t.nodes n)
+          (counts_at c.step-done.new.t.nodes n) _ _ _ (c.let_go.ensures n) (λ other. s.values n (not-node c.step-done.result n other))
+          (gone-node (λ m. has_value (counts_at c.step-done.new.t.nodes m)) c.step-done.result n s.gone) (c.fall.invariant.2 kept n),
+      omega arith,
+    )
 
 pub returns-clause-whole : goal.returns-clause-whole
 returns-clause-whole g c = let w = c.fall.invariant.0 in none-falls c.fall.t w.0 w.1 (omega arith)
@@ -58,4 +65,7 @@ returns-clause-falls g c before w given so-far =
     ended before w given c.args.lists c.fall.t (c.fall.invariant.1 before w given so-far) (none-falls c.fall.t i.0 i.1 (omega arith))
 
 pub returns-clause-sheds : goal.returns-clause-sheds
-returns-clause-sheds g c = let w = c.fall.invariant.0 in record { left = λ kept n. let l = c.fall.invariant.2 kept n in (l.0, l.1 (none-falls-in c.fall.t (none-falls c.fall.t w.0 w.1 (omega arith)) n)) }
+returns-clause-sheds g c = let w = c.fall.invariant.0 in record {
+  left = λ kept n. let l = c.fall.invariant.2 kept n in
+      (l.0, l.1 (none-falls-in c.fall.t (none-falls c.fall.t w.0 w.1 (omega arith)) n));
+}

@@ -15,7 +15,8 @@ there : (t : Holdings) (stack : List ℕ) → IsFalling t stack owns_nothing →
 there t [] w some none = some w.fits.chain
 there t (n ∷ ns) w some none =
     let top : t.top ≡ n = w.fits.chain.0 in
-    let fits : Fits (counts_at t.nodes) (refs_at t.nodes) (live t.handles.places.items) n (n ∷ ns) owns_nothing = subst (λ m. Fits (counts_at t.nodes) (refs_at t.nodes) (live t.handles.places.items) m (n ∷ ns) owns_nothing) top w.fits in
+    let fits : Fits (counts_at t.nodes) (refs_at t.nodes) (live t.handles.places.items) n (n ∷ ns) owns_nothing =
+    subst (λ m. Fits (counts_at t.nodes) (refs_at t.nodes) (live t.handles.places.items) m (n ∷ ns) owns_nothing) top w.fits in
     let waits = first-waits _ _ _ _ _ _ fits in
     let is : counts_at t.nodes n ≡ None = subst (λ m. counts_at t.nodes m ≡ None) top none in
     let a : falls_in (counts_at t.nodes n) ≡ false = ap falls_in is in
@@ -56,7 +57,8 @@ returns-then-counts-eq0 c (n ∷ ns) w =
       falling = record {
         sound = w.sound;
         next = w.next;
-        fits = done-fits at at' refs refs' rows top ns counts v.fits is (ap pins_in gone ∙ sym none) holds' (ap falls_in gone) (subst (λ o. Right o (refs' top)) (sym gone) e.no_refs) e.others same c.requires.some;
+        fits = done-fits at at' refs refs' rows top ns counts v.fits is (ap pins_in gone ∙ sym none) holds' (ap falls_in gone)
+            (subst (λ o. Right o (refs' top)) (sym gone) e.no_refs) e.others same c.requires.some;
       };
       shorter = omega arith;
       same = refl;
@@ -92,7 +94,8 @@ returns-else-counts-eq0 c (n ∷ ns) w =
       falling = record {
         sound = w.sound;
         next = w.next;
-        fits = done-fits at at' refs refs' rows top ns counts v.fits is (ap pins_in here) (ap holds_in here) (ap falls_in here) (subst (λ o. Right o (refs' top)) (sym here) (subst (λ r. Right (Some now) r) (sym bare) right)) e.others e.refs c.requires.some;
+        fits = done-fits at at' refs refs' rows top ns counts v.fits is (ap pins_in here) (ap holds_in here) (ap falls_in here)
+            (subst (λ o. Right o (refs' top)) (sym here) (subst (λ r. Right (Some now) r) (sym bare) right)) e.others e.refs c.requires.some;
       };
       shorter = omega arith;
       same = refl;

@@ -35,7 +35,8 @@ returns-clause-set g c stored closed failures e =
     }
 
 pub returns-clause-whole : goal.returns-clause-whole
-returns-clause-whole g c = whole-so c.set_key.ensures.steady (set-key-whole c.args.me c.args.handle c.args.key c.set_key.result c.requires.whole.core (returns-clause-set g c (λ key. None) (not c.args.lists) 0 (not-closed c.args.lists)))
+returns-clause-whole g c = whole-so c.set_key.ensures.steady (set-key-whole c.args.me c.args.handle c.args.key c.set_key.result c.requires.whole.core
+    (returns-clause-set g c (λ key. None) (not c.args.lists) 0 (not-closed c.args.lists)))
 
 pub returns-in-Err-clause-sheds : goal.returns-in-Err-clause-sheds
 returns-in-Err-clause-sheds g c = sheds-still c.args.t.now.holdings _ c.requires.whole.steady

@@ -23,7 +23,8 @@ returns-clause-falls g c before w f few =
     let t : Holdings = record c.args.t.now { unlisted = None } in
     let x = c.args.at.row in
     let e : GivesUp t [] x c.args.lists c.give_up.new.t = c.give_up.ensures [] (unowned t x [] c.requires.plain (aside c.args.t.now None [] owns_nothing c.requires.steady)) in
-    let so-far : SoFar before w (only_handle x.number) c.args.lists c.give_up.new.t = gives-on before w nobody c.args.lists t c.give_up.new.t [] x f c.requires.steady.fits.pinned c.requires.free few e in
+    let so-far : SoFar before w (only_handle x.number) c.args.lists c.give_up.new.t = gives-on before w nobody c.args.lists t c.give_up.new.t [] x f c.requires.steady.fits.pinned
+    c.requires.free few e in
     c.fall.ensures.falls before w (only_handle x.number) so-far
 
 pub returns-clause-sheds : goal.returns-clause-sheds

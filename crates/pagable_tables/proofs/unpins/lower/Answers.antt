@@ -74,9 +74,12 @@ returns c =
     let here : at' n ≡ Some (after more true listed old.top) = c.set_counts.ensures.here ∙ ap Some left in
     let others : (m : ℕ) → m ≢ n → at' m ≡ at m = λ m ne. c.set_counts.ensures.others m ne ∙ ap (λ s. counts_at s m) nodes in
     let same : (m : ℕ) → refs' m ≡ refs m = λ m. c.set_counts.ensures.refs m ∙ ap (λ s. refs_at s m) nodes in
-    let some : 1 ≤ counts.pins = (let a = w.fits.pinned n in let d = ap pins_in is in let l = row-le-live (pin_of n) old.handles.places.items c.args.at.place x c.requires.place in let h = pin-here x in let p = ap (λ m. one (is_pinning m)) c.requires.pinned in omega arith) in
-    let held : 1 ≤ counts.holds = (let a = w.fits.holding n in let d = ap holds_in is in let l = row-le-live (handle_of n) old.handles.places.items c.args.at.place x c.requires.place in let h = held-here x in omega arith) in
-    let top : c.top_after-t.result ≡ (if b then n else old.top) = c.top_after-t.ensures ∙ ap (λ (l : Counts). if is_new counts.is_falling l.is_falling then n else mid.top) left ∙ ap (λ t. if is_new counts.is_falling (after more true listed old.top).is_falling then n else t) kept ∙ new-top more true listed old.top n b refl in
+    let some : 1 ≤ counts.pins = (let a = w.fits.pinned n in let d = ap pins_in is in let l = row-le-live (pin_of n) old.handles.places.items c.args.at.place x c.requires.place in
+    let h = pin-here x in let p = ap (λ m. one (is_pinning m)) c.requires.pinned in omega arith) in
+    let held : 1 ≤ counts.holds = (let a = w.fits.holding n in let d = ap holds_in is in let l =
+    row-le-live (handle_of n) old.handles.places.items c.args.at.place x c.requires.place in let h = held-here x in omega arith) in
+    let top : c.top_after-t.result ≡ (if b then n else old.top) = c.top_after-t.ensures ∙ ap (λ (l : Counts). if is_new counts.is_falling l.is_falling then n else mid.top) left
+    ∙ ap (λ t. if is_new counts.is_falling (after more true listed old.top).is_falling then n else t) kept ∙ new-top more true listed old.top n b refl in
     let sums : (f : HandleRow → ℕ) → sum_by f rows' + f x ≡ sum_by f rows + f (unpinned x) + (if listed then f (entry (old.last_handle + 1) x.node) else 0) =
     λ f. let a = c.set.ensures.sums f in let d = ap (sum_by f) e.rows in let g = with-entry f (live c.set.new.handles.places.items) listed (old.last_handle + 1) x.node in omega arith in
     record {
@@ -101,7 +104,8 @@ returns c =
       falling = record {
         sound = e.sound;
         next = e.next;
-        fits = subst (λ t. Fits at' refs' rows' t (if b then n ∷ [] else []) owns_nothing) (sym top) (lower-fits at at' refs refs' rows rows' old.top x counts listed (old.last_handle + 1) w.fits is c.requires.pinned c.requires.plain sums here others same some b refl);
+        fits = subst (λ t. Fits at' refs' rows' t (if b then n ∷ [] else []) owns_nothing) (sym top)
+            (lower-fits at at' refs refs' rows rows' old.top x counts listed (old.last_handle + 1) w.fits is c.requires.pinned c.requires.plain sums here others same some b refl);
       };
       long = long-if b n [];
     }
