@@ -36,6 +36,8 @@ mod Unpinning
 mod KeyPut
 mod Seen
 mod Handed
+mod Born
+mod NewNodes
 mod KeySet
 mod Nothing
 mod Taken

@@ -19,7 +19,7 @@ use Rattle.pagable_world.specs.Calls.{is_usable, offer_fault}
 use Rattle.pagable_tables.proofs.Pins.{handle-first, spent-late, no-fault, earlier-first}
 
 -- of two late causes any is late
-late : (a b : Option Error) (m : ℕ) → ((f : Error) → a ≡ Some f → m < rank f) → ((f : Error) → b ≡ Some f → m < rank f) → (f : Error) → earlier a b ≡ Some f → m < rank f
+pub late : (a b : Option Error) (m : ℕ) → ((f : Error) → a ≡ Some f → m < rank f) → ((f : Error) → b ≡ Some f → m < rank f) → (f : Error) → earlier a b ≡ Some f → m < rank f
 late None b m one two f is = two f is
 late (Some e) None m one two f is = one f is
 late (Some e) (Some g) m one two f is = by (nat_lt (rank g) (rank e)) is
@@ -55,3 +55,20 @@ module _ (w : Core) (me : Owner) (kind : Kind) (key : ℕ) (h : HandleNumber) wh
     where
       same : refused_if (not (is_type (type_of kind.0) (Some (type_of kind.0)))) errors.WrongKind ≡ None
       same = let b : (type_of kind.0 == type_of kind.0) ≡ true = grind (arith, nat_tests) in rw b refl
+
+-- the cache knows the node under the kind and the key, and all else as before
+pub learned : (known known' : ℕ → ℕ → Option NodeNumber) (kind key : ℕ) (n : NodeNumber) → known' kind key ≡ Some n → ((k q : ℕ) → (k ≢ kind) ⊎ (q ≢ key) → known' k q ≡ known k q)
+    → (k q : ℕ) → option_map (λ (n : NodeNumber). n.0) (known' k q) ≡ (if k == kind && q == key then Some n.0 else option_map (λ (n : NodeNumber). n.0) (known k q))
+learned known known' kind key n here others k q = elim (cases_eq k kind) [
+  | inl e ↦ elim (cases_eq q key) [
+    | inl f ↦
+        let a : (k == kind) ≡ true = grind (arith, nat_tests) in
+        let b : (q == key) ≡ true = grind (arith, nat_tests) in
+        rw (a, b) (ap (λ i. option_map (λ (n : NodeNumber). n.0) (known' i q)) e ∙ ap (λ i. option_map (λ (n : NodeNumber). n.0) (known' kind i)) f ∙ ap (option_map (λ (n : NodeNumber). n.0)) here)
+    | inr f ↦
+        let a : (k == kind) ≡ true = grind (arith, nat_tests) in
+        let b : (q == key) ≡ false = grind (arith, nat_tests) in
+        rw (a, b) (ap (option_map (λ (n : NodeNumber). n.0)) (others k q (inr f)))
+  ]
+  | inr e ↦ let a : (k == kind) ≡ false = grind (arith, nat_tests) in rw a (ap (option_map (λ (n : NodeNumber). n.0)) (others k q (inl e)))
+]

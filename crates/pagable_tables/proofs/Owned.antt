@@ -14,8 +14,7 @@ use Rattle.pagable_world.specs.Kinds.{find_row, is_handle, is_owner, is_owned_by
 use Rattle.pagable_tables.specs.declared.rows.Counts.{Counts}
 use Rattle.pagable_tables.specs.declared.rows.Place.{Place}
 use Rattle.pagable_tables.specs.Live.{live, alive, IsBefore}
-use Rattle.pagable_tables.specs.Owning.{Passes}
-use Rattle.pagable_tables.specs.Falling.{Fits, owns, owns_nothing, is_valued}
+use Rattle.pagable_tables.specs.Falling.{Fits, owns_nothing, is_valued}
 use Rattle.pagable_tables.proofs.Alive.{none-found, only-row}
 use Rattle.pagable_tables.proofs.Coming.{owned-by-none}
 use Rattle.pagable_tables.proofs.Fitting.{pin_of, handle_of, is_owned}
@@ -23,22 +22,19 @@ use Rattle.pagable_tables.proofs.Fitting.{pin_of, handle_of, is_owned}
 abbrev pub owned-by : Owner → HandleRow → HandleRow
 owned-by owner x = record x { owner = owner }
 
-pub move-fits : (at : ℕ → Option Counts) (refs : ℕ → List ArcRef) (rows rows' : List HandleRow) (top : ℕ) (extra more : ℕ → ℕ → ℕ) (x : HandleRow) (owner : Owner)
-    → ((f : HandleRow → ℕ) → sum_by f rows' + f x ≡ sum_by f rows + f (owned-by owner x)) → Passes x owner extra more → Fits at refs rows top [] extra → Fits at refs rows' top [] more
-move-fits at refs rows rows' top extra more x owner sums less fits =
+-- neither owner is a value
+pub move-fits : (at : ℕ → Option Counts) (refs : ℕ → List ArcRef) (rows rows' : List HandleRow) (top : ℕ) (x : HandleRow) (owner : Owner)
+    → ((f : HandleRow → ℕ) → sum_by f rows' + f x ≡ sum_by f rows + f (owned-by owner x)) → is_valued x.owner ≡ false → is_valued owner ≡ false → Fits at refs rows top [] owns_nothing → Fits at refs rows' top [] owns_nothing
+move-fits at refs rows rows' top x owner sums from into fits =
     record {
       pinned = λ n. let a = fits.pinned n in let b = sums (pin_of n) in omega arith;
       holding = λ n. let a = fits.holding n in let b = sums (handle_of n) in omega arith;
-      owned = λ n q. let a = fits.owned n q in let b = sums (is_owned n q) in let d = less n q in omega arith;
+      owned = λ n q. let a = fits.owned n q in let b = sums (is_owned n q) in let d = owned-by-none n q x from in let e = owned-by-none n q (owned-by owner x) into in omega arith;
       chain = fits.chain;
       marked = fits.marked;
       right = fits.right;
       from_one = fits.from_one;
     }
-
--- neither owner is a value
-pub no-values : (x : HandleRow) (owner : Owner) → is_valued x.owner ≡ false → is_valued owner ≡ false → Passes x owner owns_nothing owns_nothing
-no-values x owner e f n q = let a = owned-by-none n q x e in let b = owned-by-none n q (owned-by owner x) f in omega arith
 
 -- the list's owner is none, and what it has is there
 pub list-owner : (o : Owner) → is_owner owners.List o ≡ true → is_valued o ≡ false

@@ -4,6 +4,7 @@
 
 pub mod arriving;
 pub mod begins;
+pub mod births;
 pub mod cache;
 pub mod cascade;
 pub mod causes;

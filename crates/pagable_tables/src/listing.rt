@@ -1,9 +1,8 @@
 //! The list of cells that wait for page-out: entries come and are taken.
 
-ghost use Rattle.std.specs.Prelude.{◌≡◌, ℕ, [], Bool, Option, false, length};
+ghost use Rattle.std.specs.Prelude.{◌≡◌, ℕ, Bool, Option, false, length};
 ghost use Rattle.pagable_world.specs.Plain.{Blob};
 ghost use Rattle.pagable_world.specs.Calls.{ScheduleCall, TakeCall};
-ghost use Rattle.pagable_tables.specs.Falling.{IsFalling, owns_nothing};
 ghost use Rattle.pagable_tables.specs.Core.{core_of, plain_of, IsWhole, MayHold};
 
 use crate::handles;
@@ -28,7 +27,7 @@ pub fn schedule_for_paging(t: &mut Tables, me: Owner, handle: HandleNumber) -> R
     requires whole { IsWhole t.old }
     requires holder { MayHold (plain_of t.old) me }
     ensures scheduled { (stored : ℕ → Option Blob) (failures : ℕ) → ScheduleCall (core_of t.old stored false failures) me handle result (core_of t.new stored false failures) }
-    ensures steady { IsFalling t.new.holdings [] owns_nothing }
+    ensures whole { IsWhole t.new }
 {
     let at = match own(t, me, handle) {
         Ok(at) => at,
@@ -50,7 +49,7 @@ pub fn take_pending(t: &mut Tables, me: Owner, place: usize) -> Option<HandleNum
     requires whole { IsWhole t.old }
     requires holder { MayHold (plain_of t.old) me }
     ensures taken { (stored : ℕ → Option Blob) (closed : Bool) (failures : ℕ) → TakeCall (core_of t.old stored closed failures) me place result (core_of t.new stored closed failures) }
-    ensures steady { IsFalling t.new.holdings [] owns_nothing }
+    ensures whole { IsWhole t.new }
 {
     if place >= t.holdings.list.len() {
         return None;

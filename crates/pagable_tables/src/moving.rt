@@ -1,10 +1,10 @@
 //! Handles that come to another owner.
 
-ghost use Rattle.std.specs.Prelude.{◌≡◌, ℕ, [], slice_get, Some, vec_capacity};
+ghost use Rattle.std.specs.Prelude.{◌≡◌, ℕ, slice_get, Some, vec_capacity, false};
 ghost use Rattle.pagable_world.specs.Cascade.{only_handle};
 ghost use Rattle.pagable_world.specs.Calls.{moved, is_named_by};
-ghost use Rattle.pagable_tables.specs.Falling.{IsFalling};
-ghost use Rattle.pagable_tables.specs.Owning.{Passes};
+ghost use Rattle.pagable_tables.specs.Falling.{is_valued};
+ghost use Rattle.pagable_tables.specs.Owning.{StandsWith};
 ghost use Rattle.pagable_tables.specs.Live.{live, alive, AreSound, IsNext};
 ghost use Rattle.pagable_tables.specs.declared.holdings.Holdings.{Holdings};
 
@@ -22,7 +22,7 @@ pub fn hand_over(handles: &mut Handles, at: HandleAt, owner: Owner)
     ensures rows { live handles.new.places.items ≡ moved (only_handle at.row.number) owner (live handles.old.places.items) }
     ensures capacity { vec_capacity handles.new.places ≡ vec_capacity handles.old.places }
     ensures next { (q : ℕ) → IsNext q handles.old.places.items → IsNext q handles.new.places.items }
-    ensures falling { (t : Holdings) (extra more : ℕ → ℕ → ℕ) → Passes at.row owner extra more → IsFalling (record t { handles = handles.old }) [] extra → IsFalling (record t { handles = handles.new }) [] more }
+    ensures stands { (t : Holdings) → is_valued at.row.owner ≡ false → is_valued owner ≡ false → StandsWith t handles.old → StandsWith t handles.new }
 {
     let row = HandleRow { owner, ..at.row };
     handles::set(handles, at, row);

@@ -1,12 +1,13 @@
 use Rattle.std.proofs.Common.{sym, subst, false, None}
 use Rattle.pagable_tables.specs.Core.{plain_of, Suits}
-use Rattle.pagable_tables.proofs.Recalled.{recalls, not-recalled, usable-suits}
+use Rattle.pagable_tables.proofs.Recalled.{recalls, not-recalled}
+use Rattle.pagable_tables.proofs.keeps.CacheCalls.{known-suits}
 use Rattle.pagable_tables.proofs.known.cache_get.Goals as goal
 
 pub make-requires-clause-suits : goal.make-requires-clause-suits
 make-requires-clause-suits c =
     let is = sym (c.in-Some.ensures (λ key. None) false 0) in
-    subst (Suits (plain_of c.args.t.now) c.in-Some.node) (sym c.mode_of.ensures) (usable-suits c.args.kind c.args.key c.in-Some.node c.requires.whole.core is)
+    subst (Suits (plain_of c.args.t.now) c.in-Some.node) (sym c.mode_of.ensures) (known-suits c.requires.whole.core c.args.kind.0 c.args.key c.in-Some.node.0 is)
 
 pub returns-in-Ok-clause-recalled : goal.returns-in-Ok-clause-recalled
 returns-in-Ok-clause-recalled c stored closed failures =

@@ -1,17 +1,25 @@
-use Rattle.std.proofs.Common.{◌≡◌, ◌∙◌, sym, subst, refl, false, None, inl, inr}
+use Rattle.std.proofs.Common.{◌≡◌, ◌∙◌, ℕ, ap, sym, subst, refl, false, None, Ok, inl, inr, arith, rules}
+use Rattle.std.specs.Option.{option_map}
+use Rattle.pagable_model.specs.declared.numbers.NodeNumber.{NodeNumber}
+use Rattle.pagable_world.specs.World.{usable}
 use Rattle.pagable_world.specs.Kinds.{fits_mode}
 use Rattle.pagable_world.specs.Refusals.{Owns}
-use Rattle.pagable_world.specs.Calls.{offer_fault, recall_fault}
+use Rattle.pagable_world.specs.Calls.{offer_fault, recall_fault, with_cached, OfferCall}
+use Rattle.pagable_tables.specs.ByNumber.{known_at}
 use Rattle.pagable_tables.specs.Core.{core_of, plain_of, Suits}
-use Rattle.pagable_tables.proofs.Offers.{offer-last}
+use Rattle.pagable_tables.proofs.Offers.{offer-last, learned}
+use Rattle.pagable_tables.proofs.Worlds.{same-cache}
+use Rattle.pagable_tables.proofs.keeps.Placed.{whole-so}
+use Rattle.pagable_tables.proofs.keeps.Told.{told-whole}
 use Rattle.pagable_tables.proofs.Pins.{no-fault}
-use Rattle.pagable_tables.proofs.Recalled.{recalls, not-recalled, usable-suits}
+use Rattle.pagable_tables.proofs.Recalled.{recalls, not-recalled}
+use Rattle.pagable_tables.proofs.keeps.CacheCalls.{known-suits, offer-whole}
 use Rattle.pagable_tables.proofs.known.cache_put.Goals as goal
 
 pub make-requires-clause-suits : goal.make-requires-clause-suits
 make-requires-clause-suits c =
     let is = sym (c.in-Some.ensures (λ key. None) false 0) in
-    subst (Suits (plain_of c.args.t.now) c.in-Some.node) (sym c.mode_of.ensures) (usable-suits c.args.kind c.args.key c.in-Some.node c.requires.whole.core is)
+    subst (Suits (plain_of c.args.t.now) c.in-Some.node) (sym c.mode_of.ensures) (known-suits c.requires.whole.core c.args.kind.0 c.args.key c.in-Some.node.0 is)
 
 pub returns-in-Ok-make-clause-offered : goal.returns-in-Ok-make-clause-offered
 returns-in-Ok-make-clause-offered c stored failures =
@@ -33,3 +41,50 @@ returns-in-Err-make-clause-offered c stored failures =
     let cause : offer_fault w c.args.me c.args.kind c.args.key c.args.handle ≡ recall_fault w c.args.kind c.args.key =
     offer-last w c.args.me c.args.kind c.args.key c.args.handle c.in-Ok.row none o.live c.in-Ok.ensures.typed in
     record { answers = tt; refused = record { why = elim call.refused.why [ inl a ↦ inl (cause ∙ a) | inr b ↦ inr (b.0, cause ∙ b.1, (refl, inr b.2.1)) ]; stays = call.refused.stays } }
+
+pub returns-in_default-clause-offered : goal.returns-in_default-clause-offered
+returns-in_default-clause-offered c stored failures =
+    let t = c.args.t.now in
+    let w = core_of t stored false failures in
+    let row = c.in-Ok.row in
+    let o = c.in-Ok.ensures.owns in
+    let owns : Owns w c.args.me c.args.handle (fits_mode c.args.kind.0) row = record { live = o.live; own = o.own; as_asked = o.as_asked } in
+    let none : usable w c.args.kind.0 c.args.key ≡ None = search rules in
+    let known = learned (known_at t.cache) (known_at c.learn.new.cache) c.args.kind.0 c.args.key row.node c.in-Ok-learn.ensures.here c.in-Ok-learn.ensures.others in
+    record {
+      answers = (
+        row,
+        owns,
+        c.in-Ok.ensures.typed,
+        (
+          none,
+          record {
+            rows = refl;
+            cells = λ n. refl;
+            list = refl;
+            cache = same-cache (with_cached w c.args.kind c.args.key row.node) _ refl (λ n. refl) known;
+            stored = λ q. refl;
+            closed = refl;
+            failures = refl;
+            loads = λ l. refl;
+            workers = λ v. refl;
+            last = refl;
+            places = record { handles = omega arith; entries = omega arith };
+          },
+        ),
+      );
+      refused = tt;
+    }
+
+pub returns-in_default-clause-whole : goal.returns-in_default-clause-whole
+returns-in_default-clause-whole c =
+    let w = c.requires.whole in
+    let (row, owns, typed, learns) = (returns-in_default-clause-offered c (λ key. None) 0).answers in
+    let call : OfferCall (plain_of c.args.t.now) c.args.me c.args.kind c.args.key c.args.handle (Ok None) _ = record { answers = (row, owns, typed, (refl, learns.0, learns.1)); refused = tt } in
+    whole-so w.steady (offer-whole c.args.me c.args.kind c.args.key c.args.handle (Ok None) w.core c.requires.holder call)
+
+pub returns-in_default-learn-clause-whole : goal.returns-in_default-learn-clause-whole
+returns-in_default-learn-clause-whole c =
+    let w = c.requires.whole in
+    let same = λ (kind key : ℕ). ap (option_map (λ (n : NodeNumber). n.0)) (c.in_default-learn.ensures.err kind key) in
+    whole-so w.steady (told-whole w.core refl (λ n. refl) refl (λ kind key n is. sym (same kind key) ∙ is) refl (λ l. refl) (λ v. refl) refl)
