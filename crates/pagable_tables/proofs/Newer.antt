@@ -15,7 +15,7 @@ use Rattle.pagable_world.specs.declared.rows.Mode.TheVariants as modes
 use Rattle.pagable_world.specs.declared.answers.Beginning.{Beginning}
 use Rattle.pagable_world.specs.declared.answers.Beginning.TheVariants as beginnings
 use Rattle.pagable_model.specs.declared.numbers.Kind.{Kind}
-use Rattle.pagable_world.specs.Plain.{Blob, if_there, is_in}
+use Rattle.pagable_world.specs.Plain.{if_there, is_in}
 use Rattle.pagable_world.specs.Kinds.{is_owner, is_owned_by, find_row, mode_of}
 use Rattle.pagable_world.specs.World.{Core, Last, Alike}
 use Rattle.pagable_world.specs.Pager as pager
@@ -25,7 +25,7 @@ use Rattle.pagable_world.specs.LoadCalls.{is_owned_in, numbers_of, DropCall, Han
 use Rattle.pagable_tables.specs.declared.rows.LoadRow.{LoadRow}
 use Rattle.pagable_tables.specs.declared.tables.Tables.{Tables}
 use Rattle.pagable_tables.specs.ByNumber.{load_at}
-use Rattle.pagable_tables.specs.Core.{core_of, plain_of, load_in}
+use Rattle.pagable_tables.specs.Core.{plain_of, load_in, Makes}
 use Rattle.pagable_tables.specs.Later.{AreLater}
 use Rattle.pagable_tables.proofs.Regiven.{loaded, loaded-left, no-entry}
 use Rattle.pagable_tables.proofs.Taken.{loaded-moved, and-left}
@@ -141,3 +141,7 @@ pub recall-newer : {w w' : Core} (me : Owner) (kind : Kind) (key : ℕ) (r : Res
 recall-newer {w} me kind key (Ok (Some k)) call = let (n, is, next, leaves) = call.answers in newer-then (newer-handle w (record { 0 = n }) (mode_of kind.0) me) (newer-alike leaves)
 recall-newer me kind key (Ok None) call = newer-alike call.answers.1
 recall-newer me kind key (Err e) call = newer-alike call.refused.stays
+
+pub makes-newer : {w w' : Core} (node : NodeNumber) (mode : Mode) (owner : Owner) (r : Result HandleNumber Error) → Makes w node mode owner r w' → OnlyNewer w w'
+makes-newer {w} node mode owner (Ok k) m = newer-then (newer-handle w node mode owner) (newer-alike m.made.1)
+makes-newer node mode owner (Err e) m = newer-alike m.refused.stays

@@ -11,6 +11,7 @@ ghost use Rattle.pagable_world.specs.Calls.{RecallCall, offer_fault};
 ghost use Rattle.pagable_tables.specs.Falling.{IsFalling, owns_nothing};
 ghost use Rattle.pagable_tables.specs.Offering.{Offered};
 ghost use Rattle.pagable_tables.specs.Core.{core_of, plain_of, IsWhole, MayHold};
+ghost use Rattle.pagable_tables.specs.Later.{AreLater};
 
 use crate::kinds::{fits_mode, is_of, is_pinned_kind, mode_of};
 use crate::lookups::is_here;
@@ -48,6 +49,7 @@ pub fn cache_get(
     requires holder { MayHold (plain_of t.old) me }
     ensures recalled { (stored : ℕ → Option Blob) (closed : Bool) (failures : ℕ) → RecallCall (core_of t.old stored closed failures) me kind key result (core_of t.new stored closed failures) }
     ensures whole { IsWhole t.new }
+    ensures later { AreLater t.old → AreLater t.new }
 {
     let Some(node) = usable_of(t, kind, key) else {
         return Ok(None);

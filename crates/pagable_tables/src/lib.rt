@@ -2,7 +2,6 @@
 //! handles are given up with all that goes with them. No call of it knows of values or of the storage.
 #![tactic(auto)]
 
-pub mod arriving;
 pub mod begins;
 pub mod cache;
 pub mod cascade;
