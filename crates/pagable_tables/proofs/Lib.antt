@@ -27,6 +27,7 @@ mod Regiven
 mod Pins
 mod Offers
 mod Named
+mod Born
 mod keeps
 mod Lowered
 mod Dropped

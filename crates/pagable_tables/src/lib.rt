@@ -3,6 +3,7 @@
 #![tactic(auto)]
 
 pub mod begins;
+pub mod births;
 pub mod cache;
 pub mod cascade;
 pub mod causes;
