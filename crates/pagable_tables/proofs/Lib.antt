@@ -40,3 +40,4 @@ mod KeySet
 mod Taken
 mod Valued
 mod Newer
+mod Adopted

@@ -1,0 +1,52 @@
+//! What a load reads becomes nodes.
+
+ghost use Rattle.std.specs.Prelude.{◌≡◌, ℕ, ◌⊎◌, ◌<◌, [], Bool, Option, IfOk, IfErr, None, not, true};
+ghost use Rattle.pagable_world.specs.declared.handles.Owner.TheVariants as owners;
+ghost use Rattle.pagable_world.specs.Plain.{Blob};
+ghost use Rattle.pagable_world.specs.Kinds.{is_pinning, mode_of};
+ghost use Rattle.pagable_world.specs.World.{Alike, greatest};
+ghost use Rattle.pagable_world.specs.Refusals.{references_fault, Refused};
+ghost use Rattle.pagable_world.specs.Calls.{IsNext, birth_fault};
+ghost use Rattle.pagable_world.specs.LoadCalls.{adopted, LazyCall};
+ghost use Rattle.pagable_tables.specs.Falling.{IsFalling, owns_nothing, key_in};
+ghost use Rattle.pagable_tables.specs.Core.{core_of, plain_of, IsWhole, MayHold};
+
+use crate::births::{bear, first_counts};
+use crate::cache;
+use crate::kinds::mode_of;
+use crate::tables::Tables;
+use pagable_model::{ArcRef, DataKey, Error, HandleNumber, Kind, LoadNumber, NodeNumber};
+use pagable_world::handles::Owner;
+
+/// A new node with a handle of the load's, which the cache knows from now on, where it is to learn. It is refused only where a number is spent, or by memory.
+fn adopt_new(
+    t: &mut Tables,
+    load: LoadNumber,
+    kind: Kind,
+    key: DataKey,
+    own_key: u128,
+    references: Vec<ArcRef>,
+    lists: bool,
+) -> Result<HandleNumber, Error>
+    requires whole { IsWhole t.old }
+    requires holder { MayHold (plain_of t.old) (owners.Load load) }
+    requires fit { references_fault (plain_of t.old) (owners.Load load) [] references.items ≡ None }
+    requires bare { (own_key ≡ 0) ⊎ (references.items ≡ []) ⊎ (is_pinning (mode_of kind.0) ≡ true) }
+    ensures next { IfOk result (λ k. (stored : ℕ → Option Blob) (closed : Bool) (failures : ℕ) → (t.old.last_node < greatest) × IsNext k (core_of t.old stored closed failures)) }
+    ensures adopted { IfOk result (λ k. (stored : ℕ → Option Blob) (closed : Bool) (failures : ℕ) → lists ≡ not closed → Alike (adopted (core_of t.old stored closed failures) load kind key (key_in own_key) references.items) (core_of t.new stored closed failures)) }
+    ensures refused { IfErr result (λ e. (stored : ℕ → Option Blob) (closed : Bool) (failures : ℕ) → Refused (birth_fault (core_of t.old stored closed failures)) None (Unit {0}) (core_of t.old stored closed failures) e (core_of t.new stored closed failures)) }
+    ensures steady { IsFalling t.new.holdings [] owns_nothing }
+{
+    let Ok(()) = cache::reserve(&mut t.cache) else {
+        return Err(Error::OutOfMemory);
+    };
+    let mode = mode_of(kind);
+    let counts = first_counts(kind.0 / 3, own_key, mode);
+    match bear(t, Owner::Load(load), counts, references, mode) {
+        Ok(handle) => {
+            cache::learn_if(&mut t.cache, lists, kind, key, NodeNumber(t.last_node));
+            Ok(handle)
+        }
+        Err(e) => Err(e),
+    }
+}
