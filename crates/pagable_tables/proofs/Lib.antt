@@ -41,3 +41,4 @@ mod Taken
 mod Valued
 mod Newer
 mod Adopted
+mod Lazily

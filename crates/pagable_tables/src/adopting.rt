@@ -13,10 +13,14 @@ ghost use Rattle.pagable_tables.specs.Core.{core_of, plain_of, IsWhole, MayHold}
 
 use crate::births::{bear, first_counts};
 use crate::cache;
-use crate::kinds::mode_of;
+use crate::kinds::{is_loose_kind, mode_of};
+use crate::known::usable_of;
+use crate::loading::load_row;
+use crate::making::make;
 use crate::tables::Tables;
 use pagable_model::{ArcRef, DataKey, Error, HandleNumber, Kind, LoadNumber, NodeNumber};
 use pagable_world::handles::Owner;
+use std::alloc::Global;
 
 /// A new node with a handle of the load's, which the cache knows from now on, where it is to learn. It is refused only where a number is spent, or by memory.
 fn adopt_new(
@@ -32,9 +36,9 @@ fn adopt_new(
     requires holder { MayHold (plain_of t.old) (owners.Load load) }
     requires fit { references_fault (plain_of t.old) (owners.Load load) [] references.items ≡ None }
     requires bare { (own_key ≡ 0) ⊎ (references.items ≡ []) ⊎ (is_pinning (mode_of kind.0) ≡ true) }
-    ensures next { IfOk result (λ k. (stored : ℕ → Option Blob) (closed : Bool) (failures : ℕ) → (t.old.last_node < greatest) × IsNext k (core_of t.old stored closed failures)) }
-    ensures adopted { IfOk result (λ k. (stored : ℕ → Option Blob) (closed : Bool) (failures : ℕ) → lists ≡ not closed → Alike (adopted (core_of t.old stored closed failures) load kind key (key_in own_key) references.items) (core_of t.new stored closed failures)) }
-    ensures refused { IfErr result (λ e. (stored : ℕ → Option Blob) (closed : Bool) (failures : ℕ) → Refused (birth_fault (core_of t.old stored closed failures)) None (Unit {0}) (core_of t.old stored closed failures) e (core_of t.new stored closed failures)) }
+    ensures next { (stored : ℕ → Option Blob) (closed : Bool) (failures : ℕ) → IfOk result (λ k. (t.old.last_node < greatest) × IsNext k (core_of t.old stored closed failures)) }
+    ensures adopted { (stored : ℕ → Option Blob) (closed : Bool) (failures : ℕ) → lists ≡ not closed → IfOk result (λ k. Alike (adopted (core_of t.old stored closed failures) load kind key (key_in own_key) references.items) (core_of t.new stored closed failures)) }
+    ensures refused { (stored : ℕ → Option Blob) (closed : Bool) (failures : ℕ) → IfErr result (λ e. Refused (birth_fault (core_of t.old stored closed failures)) None (Unit {0}) (core_of t.old stored closed failures) e (core_of t.new stored closed failures)) }
     ensures steady { IsFalling t.new.holdings [] owns_nothing }
 {
     let Ok(()) = cache::reserve(&mut t.cache) else {
@@ -49,4 +53,35 @@ fn adopt_new(
         }
         Err(e) => Err(e),
     }
+}
+
+/// A handle of the load's, of the cell that the cache gives for a loose kind and a key, or of a new one that has this key and no value. It is refused where the load isn't
+/// an own open one, the kind isn't a loose one, a number is spent, or memory is wanting.
+pub fn load_lazy(
+    t: &mut Tables,
+    me: Owner,
+    load: LoadNumber,
+    kind: Kind,
+    key: DataKey,
+    lists: bool,
+    alloc: Global,
+) -> Result<HandleNumber, Error>
+    requires whole { IsWhole t.old }
+    ensures lazily { (stored : ℕ → Option Blob) (closed : Bool) (failures : ℕ) → lists ≡ not closed → LazyCall (core_of t.old stored closed failures) me load kind key result (core_of t.new stored closed failures) }
+    ensures steady { IsFalling t.new.holdings [] owns_nothing }
+{
+    let _row = match load_row(t, me, load) {
+        Ok(row) => row,
+        Err(e) => return Err(e),
+    };
+    if !is_loose_kind(kind) {
+        return Err(Error::WrongKind);
+    }
+    if let Some(node) = usable_of(t, kind, key) {
+        return make(t, node, mode_of(kind), Owner::Load(load));
+    }
+    if t.last_node == u64::MAX || t.holdings.last_handle == u64::MAX {
+        return Err(Error::NumbersSpent);
+    }
+    adopt_new(t, load, kind, key, key.get(), Vec::new(alloc), lists)
 }

@@ -23,7 +23,7 @@ use pagable_model::{DataKey, Error, HandleNumber, Kind, NodeNumber};
 use pagable_world::handles::{HandleRow, Owner};
 
 /// The node that the cache gives for a kind and a key. An entry counts only while its node lives and, as a pin, has its value.
-fn usable_of(t: &Tables, kind: Kind, key: DataKey) -> Option<NodeNumber>
+pub fn usable_of(t: &Tables, kind: Kind, key: DataKey) -> Option<NodeNumber>
     requires { IsWhole t.now }
     ensures { (stored : ℕ → Option Blob) (closed : Bool) (failures : ℕ) → option_map (λ (n : NodeNumber). n.0) result ≡ usable (core_of t.now stored closed failures) kind.0 key }
 {
