@@ -10,6 +10,7 @@ ghost use Rattle.pagable_world.specs.Calls.{IsNext, birth_fault};
 ghost use Rattle.pagable_world.specs.LoadCalls.{adopted, LazyCall};
 ghost use Rattle.pagable_tables.specs.Falling.{IsFalling, owns_nothing, key_in};
 ghost use Rattle.pagable_tables.specs.Core.{core_of, plain_of, IsWhole, MayHold};
+ghost use Rattle.pagable_tables.specs.Later.{AreLater};
 
 use crate::births::{bear, first_counts};
 use crate::cache;
@@ -40,6 +41,7 @@ fn adopt_new(
     ensures adopted { (stored : ℕ → Option Blob) (closed : Bool) (failures : ℕ) → lists ≡ not closed → IfOk result (λ k. Alike (adopted (core_of t.old stored closed failures) load kind key (key_in own_key) references.items) (core_of t.new stored closed failures)) }
     ensures refused { (stored : ℕ → Option Blob) (closed : Bool) (failures : ℕ) → IfErr result (λ e. Refused (birth_fault (core_of t.old stored closed failures)) None (Unit {0}) (core_of t.old stored closed failures) e (core_of t.new stored closed failures)) }
     ensures steady { IsFalling t.new.holdings [] owns_nothing }
+    ensures loads { t.new.loads ≡ t.old.loads }
 {
     let Ok(()) = cache::reserve(&mut t.cache) else {
         return Err(Error::OutOfMemory);
@@ -67,8 +69,10 @@ pub fn load_lazy(
     alloc: Global,
 ) -> Result<HandleNumber, Error>
     requires whole { IsWhole t.old }
+    requires later { AreLater t.old }
     ensures lazily { (stored : ℕ → Option Blob) (closed : Bool) (failures : ℕ) → lists ≡ not closed → LazyCall (core_of t.old stored closed failures) me load kind key result (core_of t.new stored closed failures) }
-    ensures steady { IsFalling t.new.holdings [] owns_nothing }
+    ensures whole { IsWhole t.new }
+    ensures later { AreLater t.new }
 {
     let _row = match load_row(t, me, load) {
         Ok(row) => row,

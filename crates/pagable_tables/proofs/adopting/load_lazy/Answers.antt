@@ -1,4 +1,4 @@
-use Rattle.std.proofs.Common.{◌≡◌, [], arith, ap, sym, ◌∙◌, subst, false, None, inl, inr, rules}
+use Rattle.std.proofs.Common.{◌≡◌, ℕ, not, [], arith, ap, sym, ◌∙◌, subst, false, None, inl, inr, rules}
 use Rattle.std.specs.Prelude.{IfOk}
 use Rattle.pagable_world.specs.World.{Alike}
 use Rattle.pagable_world.specs.declared.handles.Owner.TheVariants as owners
@@ -8,6 +8,13 @@ use Rattle.pagable_tables.specs.Core.{core_of, plain_of, load_in, Suits}
 use Rattle.pagable_tables.specs.Falling.{key_in}
 use Rattle.pagable_tables.proofs.Lazily.{lazy-not-own, lazy-not-loose, lazy-known, lazy-spent, lazy-new, key-there}
 use Rattle.pagable_tables.proofs.Recalled.{usable-suits}
+use Rattle.indexmap.specs.IndexMap.{IndexMap}
+use Rattle.pagable_tables.specs.ByNumber.{load_at}
+use Rattle.pagable_tables.specs.declared.rows.LoadRow.{LoadRow}
+use Rattle.pagable_tables.proofs.Begun.{not-closed}
+use Rattle.pagable_tables.proofs.Newer.{lazy-newer, later-so}
+use Rattle.pagable_tables.proofs.keeps.AdoptCalls.{lazy-whole}
+use Rattle.pagable_tables.proofs.keeps.Placed.{whole-so}
 use Rattle.pagable_tables.proofs.adopting.load_lazy.Goals as goal
 use Rattle.pagable_tables.proofs.adopting.load_lazy.Goals.{then-t-via-then-t, then-t-via-else-t+then-t-2}
 
@@ -46,3 +53,12 @@ returns-clause-lazily c stored closed failures e =
     let two = subst (λ o. IfOk c.adopt_new.result (λ k. Alike (adopted w l c.args.kind c.args.key o []) w')) (ap key_in c.get.ensures.value ∙ key-there c.args.key (let a = c.get.ensures.value in let b = c.get.ensures.above in omega arith)) one in
     lazy-new w c.args.me l (load_in c.in-Ok.row) c.args.kind c.args.key (c.in-Ok.ensures.own stored closed failures) (sym c.if-not-is_loose_kind.ensures) (sym (c.in_default.ensures stored closed failures)) c.adopt_new.result w'
     (search rules) (search rules) (c.adopt_new.ensures.next stored closed failures) two (c.adopt_new.ensures.refused stored closed failures)
+
+pub returns-clause-whole : goal.returns-clause-whole
+returns-clause-whole c =
+    whole-so c.adopt_new.ensures.steady (lazy-whole c.args.me c.args.load c.args.kind c.args.key c.adopt_new.result c.requires.whole.core (returns-clause-lazily c (λ key. None) (not c.args.lists) 0 (not-closed c.args.lists)))
+
+pub returns-clause-later : goal.returns-clause-later
+returns-clause-later c =
+    let n = lazy-newer c.args.me c.args.load c.args.kind c.args.key c.adopt_new.result (returns-clause-lazily c (λ key. None) (not c.args.lists) 0 (not-closed c.args.lists)) in
+    later-so c.requires.later (record { last = n.last; owned = n.owned }) (λ l load is. sym (ap (λ (m : IndexMap ℕ LoadRow _). load_at m l) c.adopt_new.ensures.loads) ∙ is)
