@@ -28,6 +28,7 @@ mod Pins
 mod Offers
 mod Named
 mod Born
+mod NewNodes
 mod keeps
 mod Lowered
 mod Dropped

@@ -73,10 +73,57 @@ pub fn bear(
     let Ok(()) = handles::push(&mut t.holdings.handles, row) else {
         unreachable!();
     };
-    let Ok(()) = nodes::add(&mut t.holdings.nodes, node.0, NodeRow { counts, references }) else {
+    let Ok(()) = nodes::add(
+        &mut t.holdings.nodes,
+        node.0,
+        NodeRow { counts, references },
+    ) else {
         unreachable!();
     };
     t.holdings.last_handle = number.0;
     t.last_node = node.0;
     Ok(number)
+}
+
+/// A new node of a value with these references, whose handles move to it, and one handle of it. It is refused by the cause of the first reference that has
+/// one, where a number is spent, or by memory; nothing changes then, and the value stays with the one who has it.
+pub fn new_node(
+    t: &mut Tables,
+    me: Owner,
+    node_type: u32,
+    references: Vec<ArcRef>,
+    mode: Mode,
+) -> Result<HandleNumber, Error>
+    requires whole { IsWhole t.old }
+    requires holder { MayHold (plain_of t.old) me }
+    ensures born { (stored : ℕ → Option Blob) (closed : Bool) (failures : ℕ) → BirthOf (core_of t.old stored closed failures) me node_type references.items mode result (core_of t.new stored closed failures) }
+    ensures steady { IsFalling t.new.holdings [] owns_nothing }
+{
+    if let Err(e) = check_references(t, me, &references) {
+        return Err(e);
+    }
+    match bear(t, me, first_counts(node_type, 0, mode), references, mode) {
+        Ok(handle) => Ok(handle),
+        Err(e) => Err(e),
+    }
+}
+
+/// A new cell that has a key and no value, with one unpinned handle. It is refused where a number is spent, or by memory.
+pub fn new_away(
+    t: &mut Tables,
+    alloc: Global,
+    me: Owner,
+    node_type: u32,
+    key: DataKey,
+) -> Result<HandleNumber, Error>
+    requires whole { IsWhole t.old }
+    requires holder { MayHold (plain_of t.old) me }
+    ensures born { (stored : ℕ → Option Blob) (closed : Bool) (failures : ℕ) → AwayBirthCall (core_of t.old stored closed failures) me node_type key result (core_of t.new stored closed failures) }
+    ensures steady { IsFalling t.new.holdings [] owns_nothing }
+{
+    let counts = first_counts(node_type, key.get(), Mode::LooseUnpinned);
+    match bear(t, me, counts, Vec::new(alloc), Mode::LooseUnpinned) {
+        Ok(handle) => Ok(handle),
+        Err(e) => Err(e),
+    }
 }

@@ -28,5 +28,5 @@ returns-clause-steady c =
     let given = c.hand_over_all.ensures.rows ∙ named ∙ ap (moved (is_named_by rs) (owner_value n)) c.reserve.ensures.rows in
     let rows = c.in-Ok-push.ensures.rows ∙ ap (λ l. l ++ x ∷ []) given in
     let fits = born-fits (plain_of u) me rs w.core.handles.ordered c.requires.fit (not-a-value (plain_of u) me c.requires.holder) at (counts_at c.add.new.nodes) refs (refs_at c.add.new.nodes) t.top x c.args.counts w.steady.fits refl
-        c.requires.counts c.requires.bare (omega arith) free added.here (λ q other. added.others q other ∙ room.counts q) added.refs (λ q other. added.other_refs q other ∙ room.refs q) in
+    c.requires.counts c.requires.bare (omega arith) free added.here (λ q other. added.others q other ∙ room.counts q) added.refs (λ q other. added.other_refs q other ∙ room.refs q) in
     record { sound = c.push.ensures.sound; next = c.in-Ok-push.ensures.next; fits = rows-told (counts_at c.add.new.nodes) (refs_at c.add.new.nodes) _ _ t.top rows fits }
