@@ -24,7 +24,7 @@ use pagable_model::{Error, HandleNumber, LoadNumber};
 use pagable_world::handles::Owner;
 
 /// The handle of this number is given up, if the load owns it, with all that goes with it.
-fn give_next(t: &mut Holdings, load: LoadNumber, handle: HandleNumber, lists: bool)
+pub fn give_next(t: &mut Holdings, load: LoadNumber, handle: HandleNumber, lists: bool)
     requires { IsFalling t.old [] owns_nothing }
     ensures steady { IsFalling t.new [] owns_nothing }
     ensures fewer { length (live t.new.handles.places.items) ≤ length (live t.old.handles.places.items) }
