@@ -43,3 +43,4 @@ mod Valued
 mod Newer
 mod Adopted
 mod Lazily
+mod GivenNamed
