@@ -42,3 +42,6 @@ mod KeySet
 mod Nothing
 mod Taken
 mod Newer
+mod Adopted
+mod Lazily
+mod GivenNamed
