@@ -92,6 +92,34 @@ fn append(
     }
 }
 
+/// Appends a count, and then so many drawn values.
+fn append_all(
+    alloc: Global,
+    drawn: Drawn,
+    seed: u64,
+    count: u32,
+    out: &mut PagableVecFlavor,
+) -> Result<(), Error> {
+    let mut draws = Draws::new(seed);
+    out.write_u32(count)?;
+    for place in 0..count {
+        append(alloc, drawn, place, &mut draws, out)?;
+    }
+    Ok(())
+}
+
+/// The name of a type, the seed, and what is drawn, by the name of an input.
+fn plan_of(name: &str) -> Option<(&'static str, u64, Drawn)> {
+    match name {
+        "numbers" => Some(("Vec<u64>", 1, Drawn::Number)),
+        "bytes" => Some(("Vec<u8>", 2, Drawn::Byte)),
+        "texts" => Some(("Vec<String>", 3, Drawn::Text)),
+        "maps" => Some(("BTreeMap<u64,BTreeMap<u64,u64>>", 4, Drawn::Map)),
+        "ordered" => Some(("IndexMap<String,u32>", 5, Drawn::Entry)),
+        _ => None,
+    }
+}
+
 /// The name of a type, and the bytes of a value of it that holds so many drawn ones; None for another name than `numbers`,
 /// `bytes`, `texts`, `maps` and `ordered`. The entries of a map stand in the order in which they are drawn.
 pub fn input_of(
@@ -99,19 +127,10 @@ pub fn input_of(
     name: &str,
     count: u32,
 ) -> Result<Option<(&'static str, Vec<u8>)>, Error> {
-    let (name_of_type, seed, drawn) = match name {
-        "numbers" => ("Vec<u64>", 1, Drawn::Number),
-        "bytes" => ("Vec<u8>", 2, Drawn::Byte),
-        "texts" => ("Vec<String>", 3, Drawn::Text),
-        "maps" => ("BTreeMap<u64,BTreeMap<u64,u64>>", 4, Drawn::Map),
-        "ordered" => ("IndexMap<String,u32>", 5, Drawn::Entry),
-        _ => return Ok(None),
+    let Some((name_of_type, seed, drawn)) = plan_of(name) else {
+        return Ok(None);
     };
     let mut out = PagableVecFlavor::new(alloc);
-    let mut draws = Draws::new(seed);
-    out.write_u32(count)?;
-    for place in 0..count {
-        append(alloc, drawn, place, &mut draws, &mut out)?;
-    }
+    append_all(alloc, drawn, seed, count, &mut out)?;
     Ok(Some((name_of_type, out.finalize())))
 }

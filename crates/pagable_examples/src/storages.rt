@@ -66,6 +66,10 @@ impl<E: Env, S: PagableStorage<E>> PagableStorage<E> for CountingStorage<S> {
         self.inner.close();
     }
 
+    fn has_closed(&self) -> bool {
+        self.inner.has_closed()
+    }
+
     fn failures(&self) -> u64 {
         self.inner.failures()
     }
@@ -148,6 +152,10 @@ impl<E: Env, S: PagableStorage<E>> PagableStorage<E> for FailingStorage<S> {
     #[tactic(auto, using(crate::proofs::Refusing::refusing))]
     fn close(&mut self) {
         self.inner.close();
+    }
+
+    fn has_closed(&self) -> bool {
+        self.inner.has_closed()
     }
 
     fn failures(&self) -> u64 {

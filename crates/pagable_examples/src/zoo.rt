@@ -17,11 +17,11 @@ pub struct Zoo {
     pub animals: TypetagRegistry<Animal, AnimalReader>,
 }
 
-/// The entries of these values. Their indices don't count yet.
-fn entries_of<T: Copy>(
+/// The registry of these values. The indices of their entries don't count yet.
+fn registry_of<T: Copy + Ord>(
     alloc: Global,
     values: &[T],
-) -> Result<Vec<StaticValueEntry<T>>, AllocError> {
+) -> Result<StaticValueRegistry<T>, Error> {
     let mut entries = Vec::new(alloc);
     for value in values {
         entries.push(StaticValueEntry {
@@ -29,7 +29,7 @@ fn entries_of<T: Copy>(
             index: 0,
         })?;
     }
-    Ok(entries)
+    StaticValueRegistry::from_entries(alloc, entries)
 }
 
 /// A registration of each reader under its own tag, in their order.
@@ -54,13 +54,14 @@ impl Zoo {
         blobs: &[&'static [u8]],
         readers: &[AnimalReader],
     ) -> Result<Zoo, Error> {
-        let words = entries_of(alloc, words)?;
-        let blobs = entries_of(alloc, blobs)?;
+        let words = registry_of(alloc, words)?;
+        let blobs = registry_of(alloc, blobs)?;
         let readers = registrations_of(alloc, readers)?;
+        let animals = TypetagRegistry::from_registrations(readers);
         Ok(Zoo {
-            words: StaticValueRegistry::from_entries(alloc, words)?,
-            blobs: StaticValueRegistry::from_entries(alloc, blobs)?,
-            animals: TypetagRegistry::from_registrations(readers),
+            words,
+            blobs,
+            animals,
         })
     }
 }

@@ -1,5 +1,5 @@
 -- What trees feel of each call that doesn't close the storage, by the call and its reply.
-use Rattle.std.proofs.Common.{◌≡◌, ℕ, Bool, true, false, List, [], refl, ap, sym, ◌∙◌, inl, inr}
+use Rattle.std.proofs.Common.{◌≡◌, ℕ, Bool, true, false, List, [], refl, ap, sym, subst, ◌∙◌, inl, inr}
 use Rattle.std.specs.Prelude.{Option, Some, None, ◌⊎◌, Result, Ok, Err}
 use Rattle.pagable_world.specs.Plain.{Error, Kind, ArcRef, HandleNumber, LoadNumber, NodeNumber}
 use Rattle.pagable_world.specs.declared.handles.Owner.{Owner}
@@ -22,9 +22,10 @@ use Rattle.pagable_world.specs.LoadCalls.{AdoptCall, LazyCall, EndCall, Installs
 use Rattle.pagable_world.specs.Events.{Does}
 use Rattle.pagable_world.specs.Pager.{CallBrings, IsNewNode}
 use Rattle.pagable_world.specs.Runs.{KeepsOpen}
+use Rattle.pagable_world.specs.OneWorker.{LeavesCache}
 use Rattle.pagable_laws.specs.TreeSteps.{Change, nothing_felt, sets_key, knows_node, bears_node, bears_known, CallFeels, feels-nothing, feels-birth, feels-away, feels-key, feels-known, feels-adopted, feels-lazy, feels-end, StaysAway}
 use Rattle.pagable_laws.proofs.Trees.{same_some}
-use Rattle.pagable_laws.proofs.Goes.{le-self, Quiet, Goes, NotLoads, rows-self, rows-mode, Changed, found-changed, quiet-then, alike, only-rows, fell, fell-anyhow, a-handle, quiet-goes, goes-quiet, born, keyed, goes-known, adopts}
+use Rattle.pagable_laws.proofs.Goes.{le-self, Quiet, Goes, NotLoads, rows-self, rows-mode, Changed, found-changed, quiet-then, alike, only-rows, fell, fell-anyhow, a-handle, quiet-goes, goes-quiet, born, keyed, goes-known, adopts, KnowsNext}
 use Rattle.pagable_laws.proofs.GoodReferences.{good, alike-away, fell-away}
 use Rattle.pagable_laws.proofs.Calling.{own-mode, made-handle, some-moved, closed-load, was-asked, stores, clones, pins, begins, begins-key, gets-known, asks, closes}
 
@@ -284,3 +285,10 @@ module _ {N B W : Type 0} (m : Seen N B W) (w : Core) (me : Owner) (free : NotLo
   calls-go calls.Room (replies.Length n) stays c = quiet (λ n x b. absurd b) (alike c.1)
   calls-go calls.Room reply stays c = absurd c
   calls-go calls.Close reply stays c = absurd stays
+
+-- the cache gets to know an old node only where the caller puts it there
+pub call-knows : (W : Type 0) {N B : Type 0} {v : Values N} {w w' : Core} {me : Owner} {call : Call N B} {reply : Reply N B} {c : Change} → CallFeels v w me call reply w' c → LeavesCache {N = N} {B = B} {W = W} (events.Call call) → KnowsNext c w
+call-knows W {N} {B} (feels-known kind key h row called replied owns typed) leaves = absurd (subst (λ x. LeavesCache {N = N} {B = B} {W = W} (events.Call x)) called leaves)
+call-knows W (feels-adopted l kind key x k called replied typed are) leaves = λ k2 q n known. known.2
+call-knows W (feels-lazy l kind key k called replied) leaves = λ k2 q n known. known.2
+call-knows W feels leaves = λ k q n known. absurd known

@@ -27,6 +27,7 @@ use Rattle.pagable_laws.proofs.PinSteps.{pins-hold}
 use Rattle.pagable_laws.proofs.EventSteps.{does-feels}
 use Rattle.pagable_laws.proofs.ReadingStepsHeld.{event-held}
 use Rattle.pagable_laws.proofs.ReadingStepsGive.{reads-give}
+use Rattle.pagable_laws.proofs.KnownSteps.{ReadingsAsked, event-asked}
 
 module _ {N E B W : Type 0} (m : Seen N B W) (s s' : MachineState N E) (trees trees' : ℕ → Tree) (whole : IsMachineWhole m.values s') (stands : StandsFor m.values s' trees') where
   given-tree : (k : HandleNumber) → HasPin s'.pager.core k → GivesTree m.values s'.pager trees' k
@@ -49,10 +50,11 @@ pub record IsGoingOn {N E : Type 0} (v : Values N) (s : MachineState N E) (trees
   pub fits : WorkFits v s trees
   pub held : KeysHeld (world_of s)
   pub reads : ReadingsHeld (world_of s)
+  pub asked : ReadingsAsked v.types (world_of s)
 
 module _ {N E B W : Type 0} (m : Seen N B W) (lawful : IsLawful m.values) (readable : ReadsItsTypes m.values.types) where
   pub idle-goes : (s : MachineState N E) (trees : ℕ → Tree) → IsMachineWhole m.values s → IsIdle s → HoldsSettled m.values s.pager → StandsFor m.values s trees → IsGoingOn m.values s trees
-  idle-goes s trees whole idle settled stands = record { whole = whole; work = idle-stands s idle; settled = settled; stands = stands; given = λ reading is. absurd (none-reads reading is); fits = fits-at-first m.values s trees idle; held = held-at-first s idle; reads = λ reading is. absurd (none-reads reading is) }
+  idle-goes s trees whole idle settled stands = record { whole = whole; work = idle-stands s idle; settled = settled; stands = stands; given = λ reading is. absurd (none-reads reading is); fits = fits-at-first m.values s trees idle; held = held-at-first s idle; reads = λ reading is. absurd (none-reads reading is); asked = λ reading is. absurd (none-reads reading is) }
     where
       none-reads : (reading : Reading) → IsReadingOf s.work reading → ⊥
       none-reads reading (of_caller l is) = let f = idle.readings l in cc
@@ -70,7 +72,7 @@ module _ {N E B W : Type 0} (m : Seen N B W) (lawful : IsLawful m.values) (reada
       let ready = keys-ready m.values s trees readable on.fits on.held in
       let a = keeps-trees m lawful readable s x.after trees x.event x.reply on.stands on.given on.settled on.whole does.whole ready premised.well does.moves feels in
       let turns = event-turns m (world_of s) (world_of x.after) on.work (λ v w there. (on.whole.walkings v w there).table.1) x.event x.reply does.step.happens in
-      let fits = fits-on m s x.after trees a.after (record { kept = feels.core.stored; last = feels.core.nodes; trees = a.keeps }) on.fits on.whole on.stands.pager on.settled readable on.work x.event x.reply turns does.writes in
+      let fits = fits-on m s x.after trees a.after (record { kept = feels.core.stored; last = feels.core.nodes; trees = a.keeps }) on.fits on.whole on.stands.pager on.settled readable lawful on.work x.event x.reply turns does.writes in
       let held = held-on m s x.after x.event x.reply turns on.whole premised.stays_open does on.held in
       let pins = pins-hold m (world_of s) (world_of x.after) x.event x.reply on.whole.pager.whole.handles does.step.happens in
       let keys = keys-right m s x.after trees a.after on.fits fits on.whole does.whole a.stands on.held held x.event x.reply does.step.happens in
@@ -79,7 +81,7 @@ module _ {N E B W : Type 0} (m : Seen N B W) (lawful : IsLawful m.values) (reada
       record {
         trees' = a.after;
         after = record { keeps = a.keeps; stands = a.stands; so = so };
-        on = record { whole = does.whole; work = turns-stand m turns on.work; settled = premised.settled; stands = a.stands; given = a.given; fits = fits; held = held; reads = event-held m.values on.reads x.event x.reply feels.core feels.feels };
+        on = record { whole = does.whole; work = turns-stand m turns on.work; settled = premised.settled; stands = a.stands; given = a.given; fits = fits; held = held; reads = event-held m.values on.reads x.event x.reply feels.core feels.feels; asked = event-asked m.values on.asked x.event x.reply feels.feels };
       }
 
   stay : (s : MachineState N E) (trees : ℕ → Tree) (moments : List (Moment N E B W)) → IsGoingOn m.values s trees → AreMoments m s moments → TreesAlong m (IsRight m.values) s trees moments

@@ -1,12 +1,12 @@
 -- Heights that are known are those of trees; so where a place and a height pass the limit, the task leads down too long a path.
-use Rattle.std.proofs.Common.{◌≡◌, ℕ, zero, suc, ◌+◌, ◌<◌, ◌≤◌, ◌==◌, ◌||◌, Bool, true, false, not, List, [], ◌∷◌, ◌⊎◌, inl, inr, if◌then◌else◌, refl, sym, ap, subst, ◌∙◌, arith}
+use Rattle.std.proofs.Common.{◌≡◌, ℕ, zero, suc, ◌+◌, ◌<◌, ◌≤◌, ◌==◌, ◌||◌, Bool, true, false, not, List, [], ◌∷◌, ◌⊎◌, inl, inr, if◌then◌else◌, refl, sym, ap, subst, arith}
 use Rattle.std.specs.Prelude.{max, Some, None, Option, Err}
 use Rattle.pagable_model.specs.Meaning.{number, integer, text, pattern, none, pair, variant, reference, followed}
 use Rattle.pagable_model.specs.Deep.{is_eager, longest_path, above, height, deepest_path}
 use Rattle.pagable_model.specs.Writing.{kind_of_arc}
 use Rattle.pagable_model.specs.declared.error.Error.TheVariants as errors
 use Rattle.pagable_world.specs.declared.handles.HandleRow.{HandleRow}
-use Rattle.pagable_world.specs.Plain.{ArcRef, Error, Identity, Meaning, Tree, Types, Among, type_of, if_there, or_else}
+use Rattle.pagable_world.specs.Plain.{ArcRef, Identity, Meaning, Tree, Types, Among, type_of, if_there, or_else}
 use Rattle.pagable_world.specs.Kinds.{identity_of, fits_mode}
 use Rattle.pagable_world.specs.World.{Core, Shelf, Written, Todo, to_start, to_finish, to_item, Task, of_item, of_entry, Values, is_identity, row_at, type_at}
 use Rattle.pagable_world.specs.Refusals.{row_fault, is_type, refused_if}

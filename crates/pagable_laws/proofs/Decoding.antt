@@ -31,7 +31,7 @@ not-read None (errors.Storage kind) own is = cc
 not-read (Some k) (errors.Storage kind) own is = cc
 not-read key e own is = cc
 
-read-gives : (key : Option ℕ) (r : Result (Meaning ArcRef × Rest Answer) Error) (own : Meaning ArcRef) → next_by key r ≡ reads own → (after : Rest Answer) × (r ≡ Ok (own, after))
+pub read-gives : (key : Option ℕ) (r : Result (Meaning ArcRef × Rest Answer) Error) (own : Meaning ArcRef) → next_by key r ≡ reads own → (after : Rest Answer) × (r ≡ Ok (own, after))
 read-gives key (Ok (m, after)) own is = let same : m ≡ own = cc in (after, rw same refl)
 read-gives key (Err e) own is = absurd (not-read key e own is)
 

@@ -1,5 +1,5 @@
 -- No key is answered of what leads down too long a path, or to a value that has no form; and why a claim is too deep.
-use Rattle.std.proofs.Common.{◌≡◌, ℕ, ◌⊎◌, List, [], ◌∷◌, Some, Ok, Err, sym, ap, subst, ◌∙◌}
+use Rattle.std.proofs.Common.{◌≡◌, ℕ, ◌⊎◌, List, [], ◌∷◌, Some, Ok, Err, sym, subst, ◌∙◌}
 use Rattle.pagable_world.specs.Plain.{Identity, Tree}
 use Rattle.pagable_world.specs.declared.events.Event.{Event}
 use Rattle.pagable_world.specs.declared.events.Event.TheVariants as events
@@ -84,7 +84,7 @@ module _ {N B W E : Type 0} (m : Seen N B W) (s s' : MachineState N E) (trees tr
 
 -- what follows of each moment where heights are low holds along each chain
 module _ {N B W E : Type 0} (m : Seen N B W) (lawful : IsLawful m.values) (readable : ReadsItsTypes m.values.types) (P : Fact N E B W) where
-  abbrev Follows : Type 0
+  abbrev pub Follows : Type 0
   Follows =
       (s s' : MachineState N E) (trees trees' : ℕ → Tree) (event : Event N B W) (reply : EventReply N B W) → IsGoingOn m.values s trees → HeightsIn
       (world_of s) → Happens m (world_of s) event reply (world_of s')
@@ -102,7 +102,7 @@ module _ {N B W E : Type 0} (m : Seen N B W) (lawful : IsLawful m.values) (reada
         along follows x.after g.trees' xs g.on (heights-on m s x.after trees on.fits low on.work x.event x.reply turns) more,
       )
 
-  along-first : Follows → (s : MachineState N E) (moments : List (Moment N E B W)) (trees : ℕ → Tree) → IsMachineWhole m.values s → IsIdle s → AreMoments m s moments
+  pub along-first : Follows → (s : MachineState N E) (moments : List (Moment N E B W)) (trees : ℕ → Tree) → IsMachineWhole m.values s → IsIdle s → AreMoments m s moments
       → StandsFor m.values s trees → HoldsSettled m.values s.pager
       → TreesAlong m P s trees moments
   along-first follows s moments trees whole idle chain stands settled = along follows s trees moments (idle-goes m lawful readable s trees whole idle settled stands) (heights-at-first s idle) chain

@@ -21,14 +21,15 @@ use Rattle.pagable_world.specs.LoadCalls.{BeginsKey}
 use Rattle.pagable_world.specs.Events.{ReadingsAre, Stays, begun_readings, KeyStarted, Starts, new_walking, Ends, WorkerSteps, Happens, with_worker}
 use Rattle.pagable_world.specs.Pager.{MachineState, world_of, IsWhole, HandlesAreWhole, IsMachineWhole, IsNewNode, EventBrings, TodoBrings, IsReadingOf, of_caller, of_worker}
 use Rattle.pagable_world.specs.Runs.{KeepsOpen, Does}
+use Rattle.pagable_world.specs.OneWorker.{LeavesCache}
 use Rattle.pagable_laws.specs.TreeSteps.{Change, nothing_felt, CoreGoes, SameNode, NewNode, StaysAway, KeepsReadings, EventFeels, by-call, by-reading, by-key, by-nothing, StepFeels, IsFresh}
 use Rattle.pagable_laws.specs.PageOutLaws.{WorkFits, Waits, Walks, Ground}
 use Rattle.pagable_laws.proofs.Trees.{same_some}
-use Rattle.pagable_laws.proofs.Goes.{Quiet, Goes, Kept, NotLoads, rows-self, quiet-then, quiet-goes, goes-quiet, alike, fell-anyhow, at-updated}
+use Rattle.pagable_laws.proofs.Goes.{Quiet, Goes, Kept, NotLoads, rows-self, quiet-then, quiet-goes, goes-quiet, alike, fell-anyhow, at-updated, KnowsNext}
 use Rattle.pagable_laws.proofs.GoodReferences.{alike-away}
 use Rattle.pagable_laws.proofs.Calling.{some-moved, begins, begins-key}
-use Rattle.pagable_laws.proofs.Called.{calls-go}
-use Rattle.pagable_laws.proofs.ReadingSteps.{reading-feels, feels-alike}
+use Rattle.pagable_laws.proofs.Called.{calls-go, call-knows}
+use Rattle.pagable_laws.proofs.ReadingSteps.{reading-feels, feels-alike, reading-knows}
 use Rattle.pagable_laws.proofs.ReadingStepsMachine.{reading-was, steps-load, stepped-load, steps-worker, stepped-worker}
 use Rattle.pagable_laws.proofs.WalkSteps.{NoLoad, WaitsWell, front_reading, LoadsAnew, started, WalkFeels, walk-loads, walk-sets, walk-rests, walk-goes}
 
@@ -115,6 +116,7 @@ pub record EventGoes {N B W : Type 0} (m : Seen N B W) (u : World) (event : Even
   pub change : Change
   pub goes : Goes change u.core u'.core
   pub feels : IsWhole u.core → AllWaitWell u → EventFeels m.values u event reply u' change
+  pub knows : IsWhole u.core → LeavesCache event → KnowsNext change u.core
 
 module _ {N B W : Type 0} (m : Seen N B W) (u u' : World) where
   abbrev EG : Event N B W → EventReply N B W → Type 0
@@ -122,7 +124,7 @@ module _ {N B W : Type 0} (m : Seen N B W) (u u' : World) where
 
   rests : {event : Event N B W} {reply : EventReply N B W} → ((n : ℕ) (x : N) → EventBrings m.values u event n x → IsNewNode u.core n ⊎ StaysAway u.core u'.core n)
       → KeepsReadings u u' → Quiet u.core u'.core → EG event reply
-  rests brings keeps q = record { change = nothing_felt; goes = quiet-goes nothing_felt q; feels = λ whole well. by-nothing brings keeps }
+  rests brings keeps q = record { change = nothing_felt; goes = quiet-goes nothing_felt q; feels = λ whole well. by-nothing brings keeps; knows = λ whole leaves k q n known. absurd known }
 
   stays : {event : Event N B W} {reply : EventReply N B W} → Stays u u' → EG event reply
   stays s = rests (λ n x b. inr (alike-away s.core n)) (keeps-all u u' s.readings s.work.walkings) (alike s.core)
@@ -134,11 +136,11 @@ module _ {N B W : Type 0} (m : Seen N B W) (u u' : World) where
       (starts-quiet u u' t task core v q s)
 
   load-starts : (h : HandleNumber) (r : Result Beginning Error) → Happens m u (events.LoadStart h) (answers.Started r) u' → EG (events.LoadStart h) (answers.Started r)
-  load-starts h r is = record { change = nothing_felt; goes = begins r is.step; feels = λ whole well. by-nothing (λ n x b. absurd b) (keeps-all u u' is.readings is.work.walkings) }
+  load-starts h r is = record { change = nothing_felt; goes = begins r is.step; feels = λ whole well. by-nothing (λ n x b. absurd b) (keeps-all u u' is.readings is.work.walkings); knows = λ whole leaves k q n known. absurd known }
 
   key-starts : (key t : ℕ) (r : Result Beginning Error) → KeyStarted u key t r u' → EG (events.LoadKey key t) (answers.Started r)
-  key-starts key t (Err e) is = record { change = nothing_felt; goes = begins-key (Err e) is.step; feels = λ whole well. by-nothing (λ n x b. absurd b) (keeps-all u u' is.refused is.work.walkings) }
-  key-starts key t (Ok b) is = record { change = nothing_felt; goes = begins-key (Ok b) is.step; feels = λ whole well. by-nothing (λ n x b. absurd b) (keeps-begun u u' t b is.begun (within b is.step.begins) is.work.walkings) }
+  key-starts key t (Err e) is = record { change = nothing_felt; goes = begins-key (Err e) is.step; feels = λ whole well. by-nothing (λ n x b. absurd b) (keeps-all u u' is.refused is.work.walkings); knows = λ whole leaves k q n known. absurd known }
+  key-starts key t (Ok b) is = record { change = nothing_felt; goes = begins-key (Ok b) is.step; feels = λ whole well. by-nothing (λ n x b. absurd b) (keeps-begun u u' t b is.begun (within b is.step.begins) is.work.walkings); knows = λ whole leaves k q n known. absurd known }
     where
       within : (b : Beginning) → BeginsKey u.core owners.Caller key b u'.core → (l : LoadNumber) (k : ℕ) → b ≡ beginnings.Load l k → l.0 ≤ u'.core.last.load
       within beginnings.InMemory does l k is = absurd does
@@ -156,6 +158,7 @@ module _ {N B W : Type 0} (m : Seen N B W) (u u' : World) where
         change = f.change;
         goes = f.goes;
         feels = λ whole well. by-reading f.change x.reading reply.ended x.frames (stepped-load x {B = B} {W = W} whole (events.LoadStep l) refl) f.opens (f.feels whole.handles) (steps-load x);
+        knows = λ whole leaves. reading-knows (f.feels whole.handles);
       }
 
   module _ (k : WorkerNumber) (reply : WorkerReply W) (s : WorkerSteps m u k reply u') where
@@ -182,12 +185,12 @@ module _ {N B W : Type 0} (m : Seen N B W) (u u' : World) where
     worker-steps : EG (events.WorkerStep k) (answers.WorkerMoved (Ok reply))
     worker-steps =
         let f = walk-goes m k.0 site s.after s.walking.todo reply.took s.does.does in
-        record { change = f.change; goes = goes-quiet f.goes (ends-quiet reply.answer k.0 s.ends); feels = λ whole well. worker-feels f.change (f.feels refl (well k.0 s.walking s.at)) whole }
+        record { change = f.change; goes = goes-quiet f.goes (ends-quiet reply.answer k.0 s.ends); feels = λ whole well. worker-feels f.change (f.feels refl (well k.0 s.walking s.at)) whole; knows = λ whole leaves. f.knows whole.handles }
 
   pub event-goes : (event : Event N B W) (reply : EventReply N B W) → KeepsOpen event → Happens m u event reply u' → EG event reply
   event-goes (events.Call call) (answers.CallReply r) open_still is =
       let g = calls-go m u.core owners.Caller caller-free u'.core call r open_still is.step.does in
-      record { change = g.change; goes = g.goes; feels = λ whole well. by-call g.change call r refl refl g.feels (keeps-all u u' is.readings is.work.walkings) }
+      record { change = g.change; goes = g.goes; feels = λ whole well. by-call g.change call r refl refl g.feels (keeps-all u u' is.readings is.work.walkings); knows = λ whole leaves. call-knows W g.feels leaves }
   event-goes (events.LoadStart h) (answers.Started r) open_still is = load-starts h r is
   event-goes (events.LoadKey key t) (answers.Started r) open_still is = key-starts key t r is
   event-goes (events.LoadStep l) (answers.LoadMoved (Ok reply)) open_still is = load-steps l reply is

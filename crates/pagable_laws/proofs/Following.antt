@@ -1,10 +1,13 @@
 -- A form of a node's value is one of its tree: over its references it is followed to their nodes' trees, and with their keys it stands under the tree's own.
-use Rattle.std.proofs.Common.{◌≡◌, ℕ, zero, suc, ◌<◌, ◌≤◌, ◌&&◌, Bool, true, false, List, [], ◌∷◌, map, Option, Some, None, Result, Ok, refl, sym, ap, subst, ◌∙◌, inr, arith}
-use Rattle.std.specs.Prelude.{is_some, nat_lt}
+use Rattle.std.proofs.Common.{◌≡◌, ℕ, zero, suc, ◌+◌, ◌<◌, ◌≤◌, ◌==◌, ◌&&◌, Bool, true, false, List, [], ◌∷◌, map, Option, Some, None, Result, Ok, refl, sym, ap, subst, ◌∙◌, inr, arith}
+use Rattle.std.specs.Prelude.{is_some, nat_lt, slice_get}
 use Rattle.std.proofs.lemmas.Bool.Decides.{nat_tests}
 use Rattle.std.proofs.lemmas.List.{append-nil}
+use Rattle.std.proofs.lemmas.List.Sums.{sum_by-cons}
+use Rattle.std.proofs.lemmas.Option.{get_or_from_slice_get, slice_get_within}
 use Rattle.pagable_model.specs.declared.error.Error.{Error}
 use Rattle.pagable_model.specs.Meaning.{reference, rename}
+use Rattle.pagable_model.specs.References.{references_in}
 use Rattle.pagable_model.specs.Reading.{Rest, deepest}
 use Rattle.pagable_model.specs.Form.{Form}
 use Rattle.pagable_model.specs.Writing.{kind_of_arc}
@@ -12,9 +15,10 @@ use Rattle.pagable_model.specs.Canonical.{IsReadable, Throughout}
 use Rattle.pagable_model.specs.Deep.{Kid, kid, kind_of_kid}
 use Rattle.pagable_model.specs.Trees.{KeyRef, key_ref, IsFollowed, number-followed, integer-followed, text-followed, pattern-followed, none-followed, pair-followed, variant-followed, reference-followed}
 use Rattle.pagable_model.specs.Merkle.{unfolded, TreeForm, blob_of, KeyOf, key-of, KeysOf, no-keys, more-keys, kind_of_ref, key_of_ref, StoredAs}
-use Rattle.pagable_world.specs.Plain.{ArcRef, Identity, Meaning, Shape, Tree, tree, Types, type_of, Among, if_there}
-use Rattle.pagable_world.specs.Kinds.{identity_of, held}
-use Rattle.pagable_world.specs.World.{Core, Cell, Shelf, Slot, Outcome, published, Written, Values, digest, type_at}
+use Rattle.pagable_world.specs.Plain.{ArcRef, Identity, Meaning, Shape, Tree, tree, Types, type_of, Among, if_there, one, times}
+use Rattle.pagable_world.specs.declared.handles.HandleRow.{HandleRow}
+use Rattle.pagable_world.specs.Kinds.{identity_of, held, is_handle, is_owned_by, owner_value}
+use Rattle.pagable_world.specs.World.{Core, Cell, Shelf, Slot, Outcome, published, Written, Values, IsLawful, digest, type_at}
 use Rattle.pagable_world.specs.Workers.{IsPublished}
 use Rattle.pagable_world.specs.Pager.{PagerState, WellFormed, HandlesAreWhole, NodeStands, here, away, MeaningStands, number-stands, integer-stands, text-stands, pattern-stands, none-stands, pair-stands, variant-stands, followed-stands, reference-stands, Represents, IsWrittenOf, kids_of}
 use Rattle.pagable_world.specs.Runs.{HoldsSettled, ReadsItsTypes}
@@ -26,6 +30,7 @@ use Rattle.pagable_laws.proofs.Along.{Along, pair-along, variant-along, referenc
 use Rattle.pagable_laws.proofs.Related.{Out, both-given, both-refused, first-refused, both-looked-up, read_par}
 use Rattle.pagable_laws.proofs.Natural.{keeps_forms}
 use Rattle.pagable_laws.proofs.Trees.{same_some, one_tree}
+use Rattle.pagable_laws.proofs.Sums.{same-number, sum-le, sum-zero}
 
 -- ---- the references in a form's meaning are those of the form, and none is followed
 
@@ -105,6 +110,38 @@ first-true false b is = absurd (cc)
 
 -- ---- what was written
 
+-- no two rows have one number
+rows-once : (q : ℕ) (rows : List HandleRow) → ((i j : ℕ) (a b : HandleRow) → i < j → slice_get rows i ≡ Some a → slice_get rows j ≡ Some b → a.number.0 < b.number.0) → times (is_handle q) rows ≤ 1
+rows-once q [] apart = omega arith
+rows-once q (h ∷ hs) apart =
+    at (is_handle q h) refl (rows-once q hs (λ i j a b lt x y. apart (suc i) (suc j) a b (omega (arith, lt)) x y)) (sum_by-cons (λ (x : HandleRow). one (is_handle q x)) h hs)
+  where
+    off : h.number.0 ≡ q → (x : HandleRow) (i : ℕ) → slice_get hs i ≡ Some x → (b : Bool) → is_handle q x ≡ b → one (is_handle q x) ≡ 0
+    off same x i there false e = ap one e
+    off same x i there true e = absurd (let lt = apart 0 (suc i) h x (omega arith) refl there in let is = same-number x.number.0 q e in omega (arith, lt, is, same))
+
+    at : (b : Bool) → is_handle q h ≡ b → times (is_handle q) hs ≤ 1 → times (is_handle q) (h ∷ hs) ≡ one (is_handle q h) + times (is_handle q) hs → times (is_handle q) (h ∷ hs) ≤ 1
+    at false e le sum = let f : one (is_handle q h) ≡ 0 = ap one e in omega (arith, le, sum, f)
+    at true e le sum =
+        let none = sum-zero (λ (x : HandleRow). one (is_handle q x)) hs (λ x among. off (same-number h.number.0 q e) x among.0 among.1 (is_handle q x) refl) in
+        let f : one (is_handle q h) ≡ 1 = ap one e in
+        omega (arith, none, sum, f)
+
+handles-once : {w : Core} → HandlesAreWhole w → (q : ℕ) → times (is_handle q) w.rows ≤ 1
+handles-once {w} whole q = rows-once q w.rows (λ i j a b lt at there.
+    let n = get_or_from_slice_get w.rows i a a at in
+    let k = get_or_from_slice_get w.rows j b a there in
+    let o = whole.ordered i j a lt (slice_get_within w.rows j b there) in
+    less _ _ (ap (λ (h : HandleRow). h.number.0) n) (ap (λ (h : HandleRow). h.number.0) k) o)
+  where
+    less : (x y : ℕ) {m n : ℕ} → x ≡ m → y ≡ n → x < y → m < n
+    less x y a b lt = omega (arith, a, b, lt)
+
+one-less : (a b : Bool) → one (a && b) ≤ one a
+one-less true true = omega arith
+one-less true false = omega arith
+one-less false b = omega arith
+
 module _ {N E : Type 0} {v : Values N} {s : PagerState N E} {trees : ℕ → Tree} (rs : List ArcRef)
     (heads : (r : ArcRef) (b : Meaning ⊥) → Among rs r → NodeStands v s r.node.0 (tree (type_of r.kind.0) b) → (trees r.node.0).meaning ≡ b) where
   follows-to : {x n : Meaning ArcRef} {a : Meaning ⊥} → MeaningStands v s x a → Along ⊥ (λ r c. Among rs r) x n → FollowsTo trees rs x a
@@ -118,7 +155,16 @@ module _ {N E : Type 0} {v : Values N} {s : PagerState N E} {trees : ℕ → Tre
   follows-to (followed-stands i x a h) (followed-along j x2 a2 f k) = absurd f
   follows-to (reference-stands r a h) (reference-along r2 c among) = reference-follows r a among (heads r a among h)
 
-module _ {N E : Type 0} {v : Values N} {s : PagerState N E} {trees : ℕ → Tree} (represents : Represents v s trees) (whole : WellFormed v s) (settled : HoldsSettled v s) (reads : ReadsItsTypes v.types) where
+module _ {N E : Type 0} {v : Values N} {s : PagerState N E} {trees : ℕ → Tree} (represents : Represents v s trees) (whole : WellFormed v s) (settled : HoldsSettled v s) (reads : ReadsItsTypes v.types) (lawful : IsLawful v) where
+  -- a value names no handle twice
+  names-once : (n : ℕ) (x : N) (own : Meaning ArcRef) → s.values n ≡ Some x → v.means x own → (q : ℕ) → times (λ (r : ArcRef). r.handle.0 == q) (references_in own) ≤ 1
+  names-once n x own there means q =
+      let a = lawful.refers x own means (λ r. r.handle.0 == q) in
+      let b = whole.inside n x q there in
+      let c = sum-le (λ (h : HandleRow). one (is_handle q h && is_owned_by (owner_value n) h)) (λ (h : HandleRow). one (is_handle q h)) s.core.rows (λ h among. one-less (is_handle q h) (is_owned_by (owner_value n) h)) in
+      let d = handles-once whole.whole.handles q in
+      omega (arith, a, b, c, d)
+
   refers : (n : ℕ) (x : N) (r : ArcRef) → s.values n ≡ Some x → Among (v.references x) r → (r.node.0 ≤ s.core.last.node) × ((b : Meaning ⊥) → NodeStands v s r.node.0 (tree (type_of r.kind.0) b) → (trees r.node.0).meaning ≡ b)
   refers n x r there among =
       let is = whole.references n x r there among in
@@ -141,6 +187,7 @@ module _ {N E : Type 0} {v : Values N} {s : PagerState N E} {trees : ℕ → Tre
         form = w.form.form;
         follows = follows-to written.references (λ r b among stands. (refers n w.x r w.held (of-value r among)).1 b stands) meant alone.1;
         given = λ r among. (refers n w.x r w.held (of-value r among)).0;
+        once = names-once n w.x w.form.own w.held w.form.means;
       }
   wrote-of n written t is (away n2 key t2 none_there keyed fits) w = let f = w.held in absurd (cc)
 

@@ -1,6 +1,5 @@
 -- Where a key is known, the tree has a form, and so has each that it reaches.
 use Rattle.std.proofs.Common.{◌≡◌, ℕ, Bool, true, false, List, refl, sym, ap, subst, ◌∙◌, inl, inr}
-use Rattle.std.specs.Prelude.{Some}
 use Rattle.pagable_model.specs.Meaning.{pair, variant, followed}
 use Rattle.pagable_model.specs.Merkle.{TreeForm}
 use Rattle.pagable_world.specs.Plain.{ArcRef, Identity, Meaning, Tree, tree, type_of, Among}

@@ -64,6 +64,10 @@ pub record Goes (c : Change) (w w' : Core) : Type 0 where
   pub rows : RowsGo w.last.handle w.rows w'.rows
   pub shut : IsShut w → IsShut w'
 
+-- the cache gets to know no node by the change but the next one
+abbrev pub KnowsNext : Change → Core → Type 0
+KnowsNext c w = (kind key n : ℕ) → Knows c w kind key n → n ≡ w.last.node + 1
+
 pub le-self : (n : ℕ) → n ≤ n
 le-self n = omega arith
 

@@ -17,7 +17,7 @@ use Rattle.pagable_laws.specs.TreeSteps.{AreGood, StaysAway}
 use Rattle.pagable_laws.proofs.Sums.{same-number}
 use Rattle.pagable_laws.proofs.Goes.{Quiet, alike, fell}
 
-or-none : {X : Type 0} (a b : Option X) → or_else a b ≡ None → (a ≡ None) × (b ≡ None)
+pub or-none : {X : Type 0} (a b : Option X) → or_else a b ≡ None → (a ≡ None) × (b ≡ None)
 or-none None b is = (refl, is)
 or-none (Some x) b is = absurd (cc)
 

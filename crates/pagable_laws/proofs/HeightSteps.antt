@@ -24,7 +24,7 @@ use Rattle.pagable_laws.proofs.Holding.{SameSlots}
 use Rattle.pagable_laws.proofs.Coming.{StandsIn, OwnTurn, rests, begins, steps, EventTurns, updated-at}
 use Rattle.pagable_laws.proofs.Shelves.{keys-grow}
 use Rattle.pagable_laws.proofs.Publishing.{at-number}
-use Rattle.pagable_laws.proofs.Heights.{IsLow, IsAttained, AllLow, FirstLow, SlotLow, SlotsLow, place_over, WaitsLow, WroteLow, PlacedLow, TodoLow, low-on, attained-on, slots-low-on, slots-low-but, slots-low-failed, todo-low-on, all-low, started-low, started-item-low, given-low, given-known-low, opened-low}
+use Rattle.pagable_laws.proofs.Heights.{IsLow, IsAttained, FirstLow, SlotLow, SlotsLow, place_over, WaitsLow, WroteLow, TodoLow, low-on, attained-on, slots-low-on, slots-low-but, slots-low-failed, todo-low-on, all-low, started-low, started-item-low, given-low, given-known-low, opened-low}
 
 -- what one step of a worker leaves
 record DidLow (shelf : Shelf) (todo : List Todo) : Type 0 where

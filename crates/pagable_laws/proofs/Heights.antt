@@ -4,7 +4,7 @@ use Rattle.std.specs.Prelude.{nat_eq, drop, max}
 use Rattle.std.proofs.lemmas.Bool.{cases_lt}
 use Rattle.pagable_world.specs.Plain.{ArcRef, Identity, Among, if_there, is_eager, above, longest_path}
 use Rattle.pagable_world.specs.Kinds.{identity_of}
-use Rattle.pagable_world.specs.World.{Shelf, Slot, published, failed, no_result, Written, Open, Todo, to_start, to_pin, to_load, to_write, to_finish, to_item, to_set, to_publish, to_release, to_fail, Task}
+use Rattle.pagable_world.specs.World.{Shelf, Slot, published, failed, Written, Open, Todo, to_start, to_pin, to_load, to_write, to_finish, to_item, to_set, to_publish, to_release, to_fail, Task}
 use Rattle.pagable_world.specs.Workers.{IsPublished, place_below, next_start, give, give_known, is_open_outcome, with_outcome, with_failed}
 use Rattle.pagable_laws.specs.PageOutLaws.{Expects}
 use Rattle.pagable_laws.proofs.Changing.{ShelfGrows, some-same, PutsSlot, put-cases}

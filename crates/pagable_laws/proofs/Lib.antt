@@ -8,7 +8,7 @@ pub mod Prefix
 mod OneForm
 mod Preimages
 mod Along
-mod Trees
+pub mod Trees
 mod Merkle
 mod Tame
 mod Local
@@ -19,15 +19,15 @@ mod AnyOrder
 mod JsonNumbers
 mod Inside
 mod Computed
-mod Sums
-mod Existing
+pub mod Sums
+pub mod Existing
 mod Two
 mod Joining
 mod Nexts
-mod Goes
-mod Outlasting
+pub mod Goes
+pub mod Outlasting
 mod PinSteps
-mod GoodReferences
+pub mod GoodReferences
 mod Calling
 mod Called
 mod ReadingStepsRows
@@ -37,7 +37,7 @@ mod ReadingStepsKinds
 mod ReadingStepsBound
 mod ReadingStepsWaiting
 mod ReadingStepsWithin
-mod ReadingStepsHanding
+pub mod ReadingStepsHanding
 mod ReadingStepsHeld
 mod ReadingStepsGive
 mod WalkSteps
@@ -61,7 +61,7 @@ mod Following
 mod Naming
 mod Held
 mod KeysGoing
-mod Sparing
+pub mod Sparing
 mod SparingCalls
 mod SparingSteps
 mod Shelves
@@ -69,12 +69,15 @@ mod Stepping
 mod Publishing
 mod Leading
 mod TreesGoing
-mod Taking
+pub mod Taking
 mod Felt
 mod Answering
 mod Brought
 mod Staying
 mod Lasting
+mod Stopping
+mod Asking
+mod KnownSteps
 mod Chains
 mod Tested
 mod Whole
@@ -96,3 +99,15 @@ mod HeightSteps
 mod Shallow
 mod Climbing
 mod Deeply
+pub mod Usable
+mod UsableCalls
+mod UsableSteps
+mod Identities
+mod Known
+mod Sound
+mod Soundly
+mod Apart
+mod LoadsLive
+mod LoadsReady
+mod OnePiece
+mod DeepLoads

@@ -23,7 +23,7 @@ use Rattle.pagable_laws.proofs.Goes.{le-more, found-number, none-in-new}
 abbrev pub NotValues : Owner → Type 0
 NotValues o = (n : NodeNumber) → o ≡ owners.Value n → ⊥
 
-not-owned : (n : ℕ) (o : Owner) → NotValues o → is_owner (owner_value n) o ≡ false
+pub not-owned : (n : ℕ) (o : Owner) → NotValues o → is_owner (owner_value n) o ≡ false
 not-owned n owners.Caller free = refl
 not-owned n (owners.Value m) free = absurd (free m refl)
 not-owned n owners.List free = refl
@@ -96,7 +96,7 @@ found-by q row P front later (h ∷ hs) found = at (λ f. found-by q row P front
     at rest true is found = front h hs is (same_some _ _ found)
     at rest false is found = later h hs is (rest found)
 
-find-both : (q : ℕ) (xs ys : List HandleRow) → find_row q (xs ++ ys) ≡ or_else (find_row q xs) (find_row q ys)
+pub find-both : (q : ℕ) (xs ys : List HandleRow) → find_row q (xs ++ ys) ≡ or_else (find_row q xs) (find_row q ys)
 unfolding find_row
 find-both q [] ys = refl
 find-both q (h ∷ hs) ys = at (find-both q hs ys) (is_handle q h) refl
@@ -133,7 +133,7 @@ none-above last q rows few above = at (find_row q rows) refl
     at None e = e
     at (Some h) e = let a = few h (among-found q rows h e) in let b = found-number q rows h e in absurd (omega arith)
 
-once : (rows : List HandleRow) → AllPairs IsHandleBefore rows → (a b : HandleRow) → Among rows a → Among rows b → a.number.0 ≡ b.number.0 → a ≡ b
+pub once : (rows : List HandleRow) → AllPairs IsHandleBefore rows → (a b : HandleRow) → Among rows a → Among rows b → a.number.0 ≡ b.number.0 → a ≡ b
 once rows ordered a b (i, at) (j, there) same =
     let n = get_or_from_slice_get rows i a a at in
     let k = get_or_from_slice_get rows j b a there in
@@ -174,7 +174,7 @@ module _ (test : HandleRow → Bool) (f : HandleRow → HandleRow) (same : (h : 
       at true = same h
       at false = refl
 
-  found-after : (q : ℕ) (rows : List HandleRow) (row : HandleRow) → find_row q rows ≡ Some row → find_row q (changed test f rows) ≡ Some (after row)
+  pub found-after : (q : ℕ) (rows : List HandleRow) (row : HandleRow) → find_row q rows ≡ Some row → find_row q (changed test f rows) ≡ Some (after row)
   found-after q rows row found =
       found-by q row (λ xs. find_row q (changed test f xs) ≡ Some (after row)) (λ h hs is e. find-front q (after h) _ (still h is) ∙ ap (λ (x : HandleRow). Some (after x)) e) (λ h hs is a. find-later q (after h) _ (still h is) ∙ a) rows found
     where
@@ -217,7 +217,7 @@ stands-new last rows row few next =
 
 -- ---- a cascade
 
-found-kept : (gone : ℕ → Bool) (q : ℕ) (rows : List HandleRow) (row : HandleRow) → gone q ≡ false → find_row q rows ≡ Some row → find_row q (left_rows gone rows) ≡ Some row
+pub found-kept : (gone : ℕ → Bool) (q : ℕ) (rows : List HandleRow) (row : HandleRow) → gone q ≡ false → find_row q rows ≡ Some row → find_row q (left_rows gone rows) ≡ Some row
 found-kept gone q rows row kept found = found-by q row (λ xs. find_row q (left_rows gone xs) ≡ Some row) front (λ h hs is a. later h hs is a (gone h.number.0) refl) rows found
   where
     front : (h : HandleRow) (hs : List HandleRow) → is_handle q h ≡ true → h ≡ row → find_row q (left_rows gone (h ∷ hs)) ≡ Some row
@@ -227,7 +227,7 @@ found-kept gone q rows row kept found = found-by q row (λ xs. find_row q (left_
     later h hs is a true goes = rw goes a
     later h hs is a false goes = rw goes (find-later q h _ is ∙ a)
 
-among-kept : {X : Type 0} (test : X → Bool) (xs : List X) (x : X) → Among (filter test xs) x → Among xs x
+pub among-kept : {X : Type 0} (test : X → Bool) (xs : List X) (x : X) → Among (filter test xs) x → Among xs x
 among-kept test [] x among = among
 among-kept {X} test (y ∷ ys) x among = at (λ a. among-kept test ys x a) (test y) among
   where

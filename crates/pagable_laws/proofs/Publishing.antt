@@ -10,7 +10,7 @@ use Rattle.pagable_world.specs.declared.events.EventReply.{EventReply}
 use Rattle.pagable_world.specs.declared.events.Took.TheVariants as took
 use Rattle.pagable_world.specs.declared.events.Took.{Took}
 use Rattle.pagable_world.specs.declared.events.WorkerReply.{WorkerReply}
-use Rattle.pagable_world.specs.World.{Shelf, Task, of_item, of_entry, Walking, Values, Seen}
+use Rattle.pagable_world.specs.World.{Shelf, Task, of_item, of_entry, Walking, Values, Seen, IsLawful}
 use Rattle.pagable_world.specs.Workers.{Site, claim_fault, first_todo, answer_after}
 use Rattle.pagable_world.specs.Events.{Ends, WorkerSteps}
 use Rattle.pagable_world.specs.Order.{step_of}
@@ -55,7 +55,7 @@ took-writes {W = W} m s n (events.WorkerStep u) (answers.WorkerMoved (Ok r)) tak
 took-writes m s n event reply taken is writes = absurd (cc)
 
 module _ {N B W E : Type 0} (m : Seen N B W) (s s' : MachineState N E) (trees trees' : ℕ → Tree) (goes : GroundGoes (ground_of s trees) (ground_of s' trees')) (fit : WorkFits m.values s trees)
-    (whole : IsMachineWhole m.values s) (represents : Represents m.values s.pager trees) (settled : HoldsSettled m.values s.pager) (reads : ReadsItsTypes m.values.types) where
+    (whole : IsMachineWhole m.values s) (represents : Represents m.values s.pager trees) (settled : HoldsSettled m.values s.pager) (reads : ReadsItsTypes m.values.types) (lawful : IsLawful m.values) where
   abbrev g' : Ground
   g' = ground_of s' trees'
 
@@ -66,7 +66,7 @@ module _ {N B W E : Type 0} (m : Seen N B W) (s s' : MachineState N E) (trees tr
       (live.1, same_some _ _ (sym (represents.typed r.node.0 live.0) ∙ typed))
 
   wrote-it : (taken : Took W) → TookWrites m.values m.written_of s.pager taken → (i : Identity) (out : W) → taken ≡ took.Write i (Ok out) → WroteTree m.values.types (ground_of s trees) i.node.0 (m.written_of out)
-  wrote-it taken writes i out is = wrote represents whole.pager settled reads i.node.0 (m.written_of out) (subst (λ (t : Took W). TookWrites m.values m.written_of s.pager t) is writes)
+  wrote-it taken writes i out is = wrote represents whole.pager settled reads lawful i.node.0 (m.written_of out) (subst (λ (t : Took W). TookWrites m.values m.written_of s.pager t) is writes)
 
   starts-well : (shelf : Shelf) (task : Task) → Walks m.values g' shelf task (first_todo task)
   unfolding Waits KeysSoFar

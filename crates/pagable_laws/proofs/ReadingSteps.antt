@@ -13,7 +13,7 @@ use Rattle.pagable_world.specs.Loads.{Does, Meets, Fails, RefusesRoot, LoadIs, I
 use Rattle.pagable_world.specs.Pager.{HandlesAreWhole}
 use Rattle.pagable_laws.specs.TreeSteps.{Change, nothing_felt, bears_known, ReadingFeels, reads-root, reads-blob, gets-known, gets-lazy, makes-known, makes-node, reading-ends}
 use Rattle.pagable_laws.proofs.Trees.{same_some}
-use Rattle.pagable_laws.proofs.Goes.{Quiet, Goes, NotLoads, quiet-then, quiet-goes, goes-quiet, alike, a-handle, fell-anyhow, adopts}
+use Rattle.pagable_laws.proofs.Goes.{Quiet, Goes, NotLoads, quiet-then, quiet-goes, goes-quiet, alike, a-handle, fell-anyhow, adopts, KnowsNext}
 use Rattle.pagable_laws.proofs.Calling.{asks, closes, gets-known as was-known}
 use Rattle.pagable_laws.proofs.Called.{hands-over, ends-quiet}
 use Rattle.pagable_laws.proofs.ReadingStepsRows.{got-known, got-fallen, got-born, gets-alike, is-cached}
@@ -147,3 +147,8 @@ feels-alike (gets-lazy kind key row needs got answer is) a = gets-lazy kind key 
 feels-alike (makes-known x reads n row known got answer is) a = makes-known x reads n row known (gets-alike got a) answer is
 feels-alike (makes-node x reads row got answer is) a = makes-node x reads row (gets-alike got a) answer is
 feels-alike (reading-ends end answer is) a = reading-ends end answer is
+
+pub reading-knows : {N : Type 0} {v : Values N} {w w' : Core} {reading : Reading} {answer : Option (LoadAnswer N)} {frames : List Frame} {c : Change} → ReadingFeels v w reading answer frames w' c → KnowsNext c w
+reading-knows (gets-lazy kind key row needs got answer is) = λ k q n known. known.2
+reading-knows (makes-node x reads row got answer is) = λ k q n known. known.2
+reading-knows feels = λ k q n known. absurd known

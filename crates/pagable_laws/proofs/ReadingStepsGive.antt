@@ -29,7 +29,7 @@ use Rattle.pagable_laws.proofs.ReadingStepsMachine.{reading-stands}
 use Rattle.pagable_laws.proofs.ReadingStepsHanding.{reads-hold}
 
 -- the tree of each node that was got is of its kind's type
-got-typed : {types : Types} {stored : ℕ → Option Blob} {trees : ℕ → Tree} (frame : Frame) → FrameFits types stored trees frame → (r : ArcRef) → Among frame.got r → (trees r.node.0).type ≡ type_of r.kind.0
+pub got-typed : {types : Types} {stored : ℕ → Option Blob} {trees : ℕ → Tree} (frame : Frame) → FrameFits types stored trees frame → (r : ArcRef) → Among frame.got r → (trees r.node.0).type ≡ type_of r.kind.0
 got-typed frame fits r (place, is) =
     let few = inside frame.got place r is in
     let most = fits.few in

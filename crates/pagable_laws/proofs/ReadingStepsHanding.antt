@@ -28,7 +28,7 @@ use Rattle.pagable_laws.proofs.Sums.{self-number}
 
 -- ---- nothing is said against the handles
 
-neither : (a b : Option Error) → earlier a b ≡ None → (a ≡ None) × (b ≡ None)
+pub neither : (a b : Option Error) → earlier a b ≡ None → (a ≡ None) × (b ≡ None)
 neither None b is = (refl, is)
 neither (Some e) None is = absurd (cc)
 neither (Some e) (Some f) is = absurd (at (nat_lt (rank f) (rank e)) is)

@@ -78,6 +78,14 @@ ask-alike kind key (both-faulty e) is = absurd (cc)
 pub asks-by-kinds : (types : Types) (t : ℕ) (blob : Blob) (got : List ArcRef) (kind : Kind) (key : ℕ) → next_of types t blob got ≡ asks kind key → after_kinds types t blob (kinds_of got) ≡ asks kind key
 asks-by-kinds types t blob got kind key is = ask-alike kind key (next-alike types t blob got) is
 
+faulty-alike : {a b : Next} (e : Error) → SameNext a b → a ≡ is_faulty e → b ≡ is_faulty e
+faulty-alike e (both-read a b) is = absurd (cc)
+faulty-alike e (both-ask k q) is = absurd (cc)
+faulty-alike e (both-faulty f) is = is
+
+pub faulty-by-kinds : (types : Types) (t : ℕ) (blob : Blob) (got : List ArcRef) (e : Error) → next_of types t blob got ≡ is_faulty e → after_kinds types t blob (kinds_of got) ≡ is_faulty e
+faulty-by-kinds types t blob got e is = faulty-alike e (next-alike types t blob got) is
+
 pub kinds-pushed : (got : List ArcRef) (r : ArcRef) → kinds_of (got ++ r ∷ []) ≡ kinds_of got ++ r.kind.0 ∷ []
 kinds-pushed [] r = refl
 kinds-pushed (x ∷ xs) r = ap (λ (ks : List ℕ). x.kind.0 ∷ ks) (kinds-pushed xs r)

@@ -54,7 +54,7 @@ none-above {w} whole q row above found =
     let same = found-number q w.rows row found in
     absurd (omega (arith, few, same, above))
 
-cached-rows : (w : Core) (kind : Kind) (key : ℕ) (n : NodeNumber) → ((with_cached_if_open w kind key n).rows ≡ w.rows) × ((with_cached_if_open w kind key n).last ≡ w.last)
+pub cached-rows : (w : Core) (kind : Kind) (key : ℕ) (n : NodeNumber) → ((with_cached_if_open w kind key n).rows ≡ w.rows) × ((with_cached_if_open w kind key n).last ≡ w.last)
 cached-rows w kind key n = at w.closed
   where
     at : (b : Bool) → ((if b then w else with_cached w kind key n).rows ≡ w.rows) × ((if b then w else with_cached w kind key n).last ≡ w.last)

@@ -1,9 +1,9 @@
 -- Where heights are low, no path from a tree whose key is known is too long.
-use Rattle.std.proofs.Common.{◌≡◌, ℕ, ◌+◌, ◌<◌, ◌≤◌, Bool, true, false, List, [], ◌∷◌, length, if◌then◌else◌, refl, sym, ap, subst, ◌∙◌, arith}
+use Rattle.std.proofs.Common.{◌≡◌, ℕ, ◌+◌, ◌<◌, ◌≤◌, Bool, true, false, List, [], ◌∷◌, if◌then◌else◌, refl, sym, subst, ◌∙◌, arith}
 use Rattle.std.specs.Prelude.{max, Some, None, Ok, Err}
 use Rattle.pagable_model.specs.Meaning.{number, integer, text, pattern, none, pair, variant, reference, followed}
 use Rattle.pagable_model.specs.Deep.{is_eager, longest_path, above, height, deepest_path}
-use Rattle.pagable_world.specs.Plain.{ArcRef, Identity, Meaning, Tree, Among}
+use Rattle.pagable_world.specs.Plain.{ArcRef, Identity, Meaning, Tree}
 use Rattle.pagable_world.specs.declared.events.Took.TheVariants as took
 use Rattle.pagable_world.specs.declared.events.Took.{Took}
 use Rattle.pagable_world.specs.declared.events.WorkerAnswer.TheVariants as finals
@@ -12,8 +12,8 @@ use Rattle.pagable_world.specs.World.{Shelf, Fault, was_refused, was_failed, Tod
 use Rattle.pagable_world.specs.Workers.{Site, Does, IsPublished, answer_after}
 use Rattle.pagable_world.specs.Pager.{MachineState, world_of}
 use Rattle.pagable_world.specs.OneWorker.{IsLongBelow, IsTooDeepTask}
-use Rattle.pagable_laws.specs.PageOutLaws.{Ground, FollowsTo, number-follows, integer-follows, text-follows, pattern-follows, none-follows, pair-follows, variant-follows, reference-follows, Waits, Walks, IsOfEntry, WorkFits}
-use Rattle.pagable_laws.proofs.Heights.{IsLow, AllLow, SlotsLow, FirstLow, WaitsLow, TodoLow, all-low}
+use Rattle.pagable_laws.specs.PageOutLaws.{Ground, FollowsTo, pair-follows, variant-follows, reference-follows, Waits, Walks, IsOfEntry, WorkFits}
+use Rattle.pagable_laws.proofs.Heights.{IsLow, AllLow, WaitsLow, TodoLow, all-low}
 use Rattle.pagable_laws.proofs.HeightSteps.{HeightsIn}
 
 -- the height of the meaning is within this, and no path in it is too long

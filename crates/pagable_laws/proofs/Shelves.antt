@@ -71,6 +71,7 @@ module _ {N : Type 0} (v : Values N) {g g' : Ground} (goes : GroundGoes g g') wh
         form = w.form;
         follows = follows-on (λ r among. goes.trees r.node.0 (w.given r among)) (subst (λ (t : Tree). FollowsTo g.trees written.references w.own t.meaning) (sym same) w.follows);
         given = λ r among. let le = w.given r among in let more = goes.last in omega arith;
+        once = w.once;
       }
 
   module _ {shelf shelf' : Shelf} (keys : KeepsKeys shelf shelf') where

@@ -89,7 +89,7 @@ module _ (v : ℕ) where
   spares-mode h r mode other owns = let free = other-handle h r other owns in record { each = λ q row own s. mode-free h mode (free.each q row own s) s }
 
   -- references of another's name none of the worker's handles
-  named-among : (rs : List ArcRef) (q : ℕ) → is_named_by rs q ≡ true → (r : ArcRef) × Among rs r × (r.handle.0 ≡ q)
+  pub named-among : (rs : List ArcRef) (q : ℕ) → is_named_by rs q ≡ true → (r : ArcRef) × Among rs r × (r.handle.0 ≡ q)
   unfolding is_named_by
   named-among [] q is = absurd (cc)
   named-among (r ∷ rs) q is = by (λ e. named-among rs q e) (r.handle.0 == q) refl is

@@ -37,7 +37,7 @@ row-held w k row is =
     let b : one (is_at row.node.0 row) ≡ 1 = rw (self-number row.node.0) refl in
     omega (arith, a, b)
 
-row-pins : (w : Core) (k : HandleNumber) (row : HandleRow) → row_at w k ≡ Some row → is_pinning row.mode ≡ true → 0 < pins row.node.0 w.rows
+pub row-pins : (w : Core) (k : HandleNumber) (row : HandleRow) → row_at w k ≡ Some row → is_pinning row.mode ≡ true → 0 < pins row.node.0 w.rows
 row-pins w k row is pinning =
     let a = at-most-sum (λ h. one (is_pin row.node.0 h)) w.rows row (found-among k.0 w.rows row is) in
     let b : one (is_pin row.node.0 row) ≡ 1 = rw (self-number row.node.0, pinning) refl in

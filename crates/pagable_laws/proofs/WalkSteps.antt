@@ -16,10 +16,10 @@ use Rattle.pagable_world.specs.Workers.{Site, Does, PinsAtOnce, PinsByLoad, PinR
 use Rattle.pagable_world.specs.Pager.{HandlesAreWhole, TodoBrings}
 use Rattle.pagable_laws.specs.TreeSteps.{Change, nothing_felt, sets_key, ReadingFeels, IsFresh}
 use Rattle.pagable_laws.proofs.Trees.{same_some}
-use Rattle.pagable_laws.proofs.Goes.{Quiet, Goes, NotLoads, quiet-then, quiet-goes, quiet-begins, goes-quiet, alike, fell, fell-anyhow, keyed}
+use Rattle.pagable_laws.proofs.Goes.{Quiet, Goes, NotLoads, quiet-then, quiet-goes, quiet-begins, goes-quiet, alike, fell, fell-anyhow, keyed, KnowsNext}
 use Rattle.pagable_laws.proofs.Calling.{clones, pins, begins, stores}
 use Rattle.pagable_laws.proofs.Called.{schedules}
-use Rattle.pagable_laws.proofs.ReadingSteps.{reading-feels}
+use Rattle.pagable_laws.proofs.ReadingSteps.{reading-feels, reading-knows}
 use Rattle.pagable_laws.proofs.ReadingStepsMachine.{LoadsTodo, loads-todo}
 
 pub works-free : (v : ℕ) → NotLoads (owner_worker v)
@@ -90,6 +90,7 @@ pub record WalkFelt {N B W : Type 0} (m : Seen N B W) (v : ℕ) (s s' : Site) (t
   pub change : Change
   pub goes : Goes change s.core s'.core
   pub feels : s.todo ≡ todo → WaitsWell todo → WalkFeels m v s s' todo change
+  pub knows : HandlesAreWhole s.core → KnowsNext change s.core
 
 gives-back : {w w' : Core} (v : ℕ) (back : Option HandleNumber) → GivesBack w v back w' → Quiet w w'
 gives-back v None a = alike a
@@ -126,7 +127,7 @@ module _ {N B W : Type 0} (m : Seen N B W) (v : ℕ) (s s' : Site) where
   -- nothing is felt, and this stands at the front afterwards
   begun : {todo : List Todo} (next : List Todo) → ((n : ℕ) (x : N) → TodoBrings m.values s.core todo n x → ⊥)
       → s'.todo ≡ next → (WaitsWell todo → front_reading next ≡ None) → Goes nothing_felt s.core s'.core → WF todo
-  begun next none is other g = record { change = nothing_felt; goes = g; feels = λ front well. walk-rests none (no-load s' next is (other well)) }
+  begun next none is other g = record { change = nothing_felt; goes = g; feels = λ front well. walk-rests none (no-load s' next is (other well)); knows = λ whole k q n known. absurd known }
 
   rests : {todo : List Todo} (next : List Todo) → ((n : ℕ) (x : N) → TodoBrings m.values s.core todo n x → ⊥)
       → s'.todo ≡ next → (WaitsWell todo → front_reading next ≡ None) → Quiet s.core s'.core → WF todo
@@ -138,7 +139,7 @@ module _ {N B W : Type 0} (m : Seen N B W) (v : ℕ) (s s' : Site) where
   loads-on r place through reading below step does =
       let t = loads-todo m v s s' r place through reading below step does in
       let f = reading-feels m s.core (owner_worker v) (works-free v) s'.core reading t.answer t.frames t.does in
-      record { change = f.change; goes = f.goes; feels = λ front well. walk-loads f.change r place through reading below refl t f.opens f.feels }
+      record { change = f.change; goes = f.goes; feels = λ front well. walk-loads f.change r place through reading below refl t f.opens f.feels; knows = λ whole. reading-knows (f.feels whole) }
 
   sets : (r : ArcRef) (through : HandleNumber) (key height : ℕ) (below next : List Todo) (told : Result (Unit {0}) Error)
       → SetKeyCall s.core (owner_worker v) through key told s'.core → s'.todo ≡ next → front_reading next ≡ None → WF (to_set r through key height ∷ below)
@@ -149,6 +150,7 @@ module _ {N B W : Type 0} (m : Seen N B W) (v : ℕ) (s s' : Site) where
       change = sets_key row.node.0 key;
       goes = goes-quiet (keyed s.core row.node key) (fell f);
       feels = λ front well. walk-sets r through key height below row refl owns.live owns.own loose (no-load s' next is other);
+      knows = λ whole k q n known. absurd known;
     }
   ]
 
@@ -161,6 +163,7 @@ module _ {N B W : Type 0} (m : Seen N B W) (v : ℕ) (s s' : Site) where
         feels = λ front well. walk-rests (λ n x b. b) (λ reading e.
             let same : fresh l t ≡ reading = same_some _ _ (ap front_reading (sym is) ∙ e) in
             subst (λ x. IsFresh s'.core x) same (refl, refl, begun-number v r through l does));
+        knows = λ whole k q n known. absurd known;
       }
 
   pub walk-goes : (todo : List Todo) (step : Took W) → Does m v s todo step s' → WF todo
@@ -168,7 +171,7 @@ module _ {N B W : Type 0} (m : Seen N B W) (v : ℕ) (s s' : Site) where
   walk-goes (to_start r place ∷ below) (took.Claim i (Ok (claims.Known key height))) (is, c) = let t = c.finds.1.2 in rests _ (λ n x b. b) t.list_is (given-known r key height below) (alike t.pager_stays)
   walk-goes (to_start r place ∷ below) (took.Claim i (Ok claims.Waiting)) (is, c) =
       let t = c.finds.1.2 in
-      record { change = nothing_felt; goes = quiet-goes nothing_felt (alike t.pager_stays); feels = λ front well. walk-rests (λ n x b. b) (no-load s' _ (t.list_is ∙ front) refl) }
+      record { change = nothing_felt; goes = quiet-goes nothing_felt (alike t.pager_stays); feels = λ front well. walk-rests (λ n x b. b) (no-load s' _ (t.list_is ∙ front) refl); knows = λ whole k q n known. absurd known }
   walk-goes (to_start r place ∷ below) (took.Claim i (Ok claims.AlreadyFailed)) (is, c) = let t = c.finds.1.2 in rests _ (λ n x b. b) t.list_is (λ well. refl) (alike t.pager_stays)
   walk-goes (to_start r place ∷ below) (took.Claim i (Err f)) (is, c) = let t = c.refused.1 in rests _ (λ n x b. b) t.list_is (λ well. refl) (alike t.pager_stays)
   walk-goes (to_start r place ∷ below) step does = absurd does

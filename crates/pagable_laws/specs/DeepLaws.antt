@@ -1,15 +1,18 @@
 -- The laws of paths that are too long and of values that have no form.
-use Rattle.std.specs.Prelude.{ℕ, ◌≡◌, ◌≢◌, ◌⊎◌, List, Some, Ok, Err}
+use Rattle.std.specs.Prelude.{ℕ, ◌≡◌, ◌≢◌, ◌⊎◌, List, ◌∷◌, Some, Ok, Err}
 use Rattle.pagable_model.specs.declared.error.Error.TheVariants as errors
 use Rattle.pagable_world.specs.declared.events.Event.TheVariants as events
 use Rattle.pagable_world.specs.declared.events.EventReply.TheVariants as answers
+use Rattle.pagable_world.specs.declared.events.LoadAnswer.TheVariants as ends
 use Rattle.pagable_world.specs.declared.events.Took.TheVariants as took
-use Rattle.pagable_world.specs.Plain.{Identity, Tree}
-use Rattle.pagable_world.specs.World.{Shelf, Slot, Walking, Seen, IsLawful}
+use Rattle.pagable_world.specs.Plain.{Error, ArcRef, HandleNumber, Identity, Tree}
+use Rattle.pagable_world.specs.World.{Shelf, Slot, Reading, Todo, to_load, Walking, OpenLoad, Values, Seen, IsLawful}
+use Rattle.pagable_world.specs.Events.{reading_at}
+use Rattle.pagable_world.specs.Order.{ReadsTooDeep}
 use Rattle.pagable_world.specs.Workers.{IsOpenSlot, ComesBack}
-use Rattle.pagable_world.specs.Pager.{MachineState, IsMachineWhole, IsIdle, StandsFor}
+use Rattle.pagable_world.specs.Pager.{MachineState, world_of, IsMachineWhole, IsIdle, StandsFor}
 use Rattle.pagable_world.specs.Runs.{ReadsItsTypes, HoldsSettled, Moment, AreMoments, Fact, TreesAlong}
-use Rattle.pagable_world.specs.OneWorker.{IsTooDeepTask, KeyIsShallow}
+use Rattle.pagable_world.specs.OneWorker.{IsTooDeepTask, KeyIsShallow, IsOfChance, IsLoadOfPagedOut}
 
 -- A worker answers no key of an item or cell that leads down too long a path or to a value that has no form, however loads and workers take turns.
 abbrev pub ShallowLaw : {N B W : Type 0} → (E : Type 0) → Seen N B W → Type 0
@@ -52,3 +55,60 @@ DeepClaimLaw {N} {B} {W} E m =
     → ReadsItsTypes m.values.types
     → HoldsSettled m.values start.pager
     → TreesAlong m ClaimIsDeep start trees moments
+
+-- what is told of a handle: it is gone, another's, or of another mode or type
+abbrev pub IsOfHandles : Error → Type 0
+IsOfHandles errors.NoSuchHandle = Unit {0}
+IsOfHandles errors.NotYours = Unit {0}
+IsOfHandles errors.WrongMode = Unit {0}
+IsOfHandles errors.WrongKind = Unit {0}
+IsOfHandles e = ⊥
+
+-- A load of a cell whose key a page-out set is refused by chance, or since a handle of its own or the caller's isn't as it was: never by a blob, a key or a path.
+abbrev pub LoadIsFaultless : {N E B W : Type 0} → Fact N E B W
+LoadIsFaultless s trees (events.LoadStep l) (answers.LoadMoved (Ok reply)) s' trees' =
+    (load : OpenLoad) (e : Error) → s.pager.core.loads l.0 ≡ Some load → IsLoadOfPagedOut s load → reply.ended ≡ Some (ends.Refused e) → IsOfChance e ⊎ IsOfHandles e
+LoadIsFaultless s trees event reply s' trees' = Unit {0}
+
+-- So it is along every chain, however loads and workers take turns.
+abbrev pub FaultlessLaw : {N B W : Type 0} → (E : Type 0) → Seen N B W → Type 0
+FaultlessLaw {N} {B} {W} E m =
+    (start : MachineState N E) (moments : List (Moment N E B W)) (trees : ℕ → Tree)
+    → IsMachineWhole m.values start
+    → IsIdle start
+    → AreMoments m start moments
+    → StandsFor m.values start trees
+    → IsLawful m.values
+    → ReadsItsTypes m.values.types
+    → HoldsSettled m.values start.pager
+    → TreesAlong m LoadIsFaultless start trees moments
+
+-- A load of the caller's or of a worker's is refused as too deep only where the reading of its key comes to a blob that lies too deep, or to one that enters a level too many.
+abbrev pub LoadIsDeep : {N E B W : Type 0} → Values N → Fact N E B W
+LoadIsDeep v s trees (events.LoadStep l) (answers.LoadMoved (Ok reply)) s' trees' =
+    (reading : Reading) (load : OpenLoad)
+    → reading_at (world_of s) l ≡ Some reading
+    → s.pager.core.loads l.0 ≡ Some load
+    → reply.ended ≡ Some (ends.Refused errors.TooDeep)
+    → ReadsTooDeep v.types s.pager.core.stored reading.node_type load.key
+LoadIsDeep v s trees (events.WorkerStep n) (answers.WorkerMoved (Ok reply)) s' trees' =
+    (walking : Walking) (r : ArcRef) (place : ℕ) (through : HandleNumber) (reading : Reading) (below : List Todo) (load : OpenLoad) (i : Identity)
+    → s.work.walkings n.0 ≡ Some walking
+    → walking.todo ≡ to_load r place through reading ∷ below
+    → s.pager.core.loads reading.load.0 ≡ Some load
+    → reply.took ≡ took.Pin i (Err errors.TooDeep)
+    → ReadsTooDeep v.types s.pager.core.stored reading.node_type load.key
+LoadIsDeep v s trees event reply s' trees' = Unit {0}
+
+-- So it is along every chain, however loads and workers take turns.
+abbrev pub DeepLoadLaw : {N B W : Type 0} → (E : Type 0) → Seen N B W → Type 0
+DeepLoadLaw {N} {B} {W} E m =
+    (start : MachineState N E) (moments : List (Moment N E B W)) (trees : ℕ → Tree)
+    → IsMachineWhole m.values start
+    → IsIdle start
+    → AreMoments m start moments
+    → StandsFor m.values start trees
+    → IsLawful m.values
+    → ReadsItsTypes m.values.types
+    → HoldsSettled m.values start.pager
+    → TreesAlong m (LoadIsDeep m.values) start trees moments

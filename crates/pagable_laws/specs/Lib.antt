@@ -15,3 +15,4 @@ pub mod KeyRuns
 pub mod TwoLevels
 pub mod LevelLaws
 pub mod DeepLaws
+pub mod LoadLaws

@@ -1,11 +1,12 @@
 -- What tables and workers hold of a page-out, by trees: an invariant of runs, and what follows from it of published and answered keys.
-use Rattle.std.specs.Prelude.{ℕ, ℤ, ◌≡◌, ◌≤◌, List, [], ◌∷◌, drop, length, Option, Some}
+use Rattle.std.specs.Prelude.{ℕ, ℤ, ◌≡◌, ◌≤◌, ◌==◌, List, [], ◌∷◌, drop, length, Option, Some}
 use Rattle.pagable_model.specs.Meaning.{number, integer, text, pattern, none, pair, variant, reference, followed}
 use Rattle.pagable_model.specs.Reading.{deepest}
+use Rattle.pagable_model.specs.References.{references_in}
 use Rattle.pagable_model.specs.Form.{Form}
 use Rattle.pagable_model.specs.Writing.{kind_of_arc}
 use Rattle.pagable_model.specs.Merkle.{blob_of, KeyOf, StoredTree}
-use Rattle.pagable_world.specs.Plain.{ArcRef, Identity, Blob, Meaning, Shape, Tree, Types, type_of, Among}
+use Rattle.pagable_world.specs.Plain.{ArcRef, Identity, Blob, Meaning, Shape, Tree, Types, type_of, Among, times}
 use Rattle.pagable_world.specs.Kinds.{identity_of}
 use Rattle.pagable_world.specs.World.{Shelf, Slot, published, Written, Todo, to_start, to_pin, to_load, to_write, to_finish, to_item, to_set, to_publish, to_release, to_fail, Task, of_item, of_entry, Walking, Values, digest}
 use Rattle.pagable_world.specs.Workers.{IsPublished}
@@ -37,7 +38,7 @@ pub data FollowsTo (trees : ℕ → Tree) (rs : List ArcRef) : Meaning ArcRef �
   variant-follows : (i : ℕ) (x : Meaning ArcRef) (a : Meaning ⊥) → FollowsTo trees rs x a → FollowsTo trees rs (variant i x) (variant i a)
   reference-follows : (r : ArcRef) (a : Meaning ⊥) → Among rs r → (trees r.node.0).meaning ≡ a → FollowsTo trees rs (reference r) (followed r.kind.0 a)
 
--- What was written is a form of the node's tree over its references, whose nodes were all given.
+-- What was written is a form of the node's tree over its references, whose nodes were all given. The value that it is a form of names no handle twice.
 pub record WroteTree (types : Types) (g : Ground) (n : ℕ) (written : Written) : Type 0 where
   pub shape : Shape
   pub own : Meaning ArcRef
@@ -45,6 +46,7 @@ pub record WroteTree (types : Types) (g : Ground) (n : ℕ) (written : Written) 
   pub form : Form ArcRef kind_of_arc types.parts deepest shape own written.bytes written.references
   pub follows : FollowsTo g.trees written.references own (g.trees n).meaning
   pub given : (r : ArcRef) → Among written.references r → r.node.0 ≤ g.last
+  pub once : (q : ℕ) → times (λ (r : ArcRef). r.handle.0 == q) (references_in own) ≤ 1
 
 -- under the key, which is that of the node's tree, stands what was written over the keys that are known of its references
 pub record BlobStands {N : Type 0} (v : Values N) (g : Ground) (shelf : Shelf) (n : ℕ) (written : Written) (key : ℕ) : Type 0 where

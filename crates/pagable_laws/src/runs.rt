@@ -1,7 +1,9 @@
 //! The laws of runs: what holds of every chain of moments, however loads and workers take turns.
 
 ghost use Rattle.pagable_world.specs.Headline.{HeadlineLaw};
-ghost use Rattle.pagable_laws.specs.DeepLaws.{ShallowLaw, DeepClaimLaw};
+ghost use Rattle.pagable_world.specs.OneWorker.{OneIdentityLaw};
+ghost use Rattle.pagable_laws.specs.DeepLaws.{ShallowLaw, DeepClaimLaw, DeepLoadLaw, FaultlessLaw};
+ghost use Rattle.pagable_laws.specs.LoadLaws.{SoundLaw};
 
 use crate::world::SeenAs;
 
@@ -20,4 +22,27 @@ pub fn keys_are_shallow<N: SeenAs<B, W>, B, W, E>()
 #[tactic(auto, using(crate::proofs::Deeply::deep_claim_law))]
 pub fn deep_claims_have_a_cause<N: SeenAs<B, W>, B, W, E>()
     ensures { DeepClaimLaw E N.seen }
+{}
+
+/// A load is refused as too deep only where the reading of its key comes to a blob that lies too deep, or to one that enters a level too many.
+#[tactic(auto, using(crate::proofs::DeepLoads::deep_load_law))]
+pub fn deep_loads_have_a_cause<N: SeenAs<B, W>, B, W, E>()
+    ensures { DeepLoadLaw E N.seen }
+{}
+
+/// A load of a cell whose key a page-out set is refused by chance or by a handle: never by a blob that it reads, by a key or by a path.
+#[tactic(auto, using(crate::proofs::Soundly::faultless_law))]
+pub fn loads_are_faultless<N: SeenAs<B, W>, B, W, E>()
+    ensures { FaultlessLaw E N.seen }
+{}
+
+/// A load of a cell whose key a page-out set is refused by chance alone, where each load begins in the chain and is done in one piece.
+#[tactic(auto, using(crate::proofs::OnePiece::sound_law))]
+pub fn loads_are_sound<N: SeenAs<B, W>, B, W, E>()
+    ensures { SoundLaw E N.seen }
+{}
+
+/// Two references that are got through one cache, which reading alone fills, have one identity only if kind and key are the same, and then always while the node is held.
+pub fn one_identity<N: SeenAs<B, W>, B, W, E>()
+    ensures { OneIdentityLaw E N.seen }
 {}

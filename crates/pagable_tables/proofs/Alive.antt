@@ -30,7 +30,8 @@ pub live-filter : (ss : List Place) → live (filter is_live_place ss) ≡ live 
 live-filter [] = refl
 live-filter (s ∷ ss) = by s.is_live (live-filter ss)
   where
-    by : (b : Bool) → live (filter is_live_place ss) ≡ live ss → live (cond b (record { row = s.row; is_live = b } ∷ filter is_live_place ss) (filter is_live_place ss)) ≡ (if b then s.row ∷ live ss else live ss)
+    by : (b : Bool) → live (filter is_live_place ss) ≡ live ss → live (cond b (record { row = s.row; is_live = b } ∷ filter is_live_place ss) (filter is_live_place ss))
+        ≡ (if b then s.row ∷ live ss else live ss)
     by true h = ap (λ l. s.row ∷ l) (h)
     by false h = h
 
@@ -38,7 +39,8 @@ pub length-live-filter : (ss : List Place) → length (filter is_live_place ss) 
 length-live-filter [] = refl
 length-live-filter (s ∷ ss) = by s.is_live (length-live-filter ss)
   where
-    by : (b : Bool) → length (filter is_live_place ss) ≡ length (live ss) → length (cond b (record { row = s.row; is_live = b } ∷ filter is_live_place ss) (filter is_live_place ss)) ≡ length (if b then s.row ∷ live ss else live ss)
+    by : (b : Bool) → length (filter is_live_place ss) ≡ length (live ss) → length (cond b (record { row = s.row; is_live = b } ∷ filter is_live_place ss)
+        (filter is_live_place ss)) ≡ length (if b then s.row ∷ live ss else live ss)
     by true h = ap suc (h)
     by false h = h
 
@@ -54,7 +56,8 @@ pub live-push : (ss : List Place) (row : HandleRow) → live (ss ++ alive row �
 live-push [] row = refl
 live-push (s ∷ ss) row = by s.is_live (live-push ss row)
   where
-    by : (b : Bool) → live (ss ++ alive row ∷ []) ≡ live ss ++ row ∷ [] → (if b then s.row ∷ live (ss ++ alive row ∷ []) else live (ss ++ alive row ∷ [])) ≡ (if b then s.row ∷ live ss else live ss) ++ row ∷ []
+    by : (b : Bool) → live (ss ++ alive row ∷ []) ≡ live ss ++ row ∷ [] → (if b then s.row ∷ live (ss ++ alive row ∷ []) else live (ss ++ alive row ∷ []))
+        ≡ (if b then s.row ∷ live ss else live ss) ++ row ∷ []
     by true h = ap (λ l. s.row ∷ l) h
     by false h = h
 
@@ -108,7 +111,8 @@ earlier s ss i row ordered at =
     omega arith
 
 -- a place that is killed
-pub live-kill : (ss : List Place) (i : ℕ) (row : HandleRow) → AllPairs IsBefore ss → slice_get ss i ≡ Some (alive row) → live (set ss i (record { row = row; is_live = false })) ≡ without row.number.0 (live ss)
+pub live-kill : (ss : List Place) (i : ℕ) (row : HandleRow) → AllPairs IsBefore ss → slice_get ss i ≡ Some (alive row)
+    → live (set ss i (record { row = row; is_live = false })) ≡ without row.number.0 (live ss)
 live-kill [] i row ordered at = absurd (cc)
 live-kill (s ∷ ss) zero row ordered at =
     let live' : s.is_live ≡ true = cc in
@@ -122,7 +126,9 @@ live-kill (s ∷ ss) (suc i) row ordered at = by s.is_live (live-kill ss i row (
     here : (s.row.number.0 == row.number.0) ≡ false
     here = let a = earlier s ss i row ordered at in grind (arith, nat_tests)
 
-    by : (b : Bool) → live (set ss i (record { row = row; is_live = false })) ≡ without row.number.0 (live ss) → (if b then s.row ∷ live (set ss i (record { row = row; is_live = false })) else live (set ss i (record { row = row; is_live = false }))) ≡ without row.number.0 (if b then s.row ∷ live ss else live ss)
+    by : (b : Bool) → live (set ss i (record { row = row; is_live = false })) ≡ without row.number.0 (live ss)
+        → (if b then s.row ∷ live (set ss i (record { row = row; is_live = false })) else live (set ss i (record { row = row; is_live = false })))
+        ≡ without row.number.0 (if b then s.row ∷ live ss else live ss)
     by true rest = rw here (ap (λ l. s.row ∷ l) rest)
     by false rest = rest
 
@@ -141,12 +147,14 @@ live-set (s ∷ ss) (suc i) row new ordered at = by s.is_live (live-set ss i row
     here : (s.row.number.0 == row.number.0) ≡ false
     here = let a = earlier s ss i row ordered at in grind (arith, nat_tests)
 
-    by : (b : Bool) → live (set ss i (alive new)) ≡ replaced row.number.0 new (live ss) → (if b then s.row ∷ live (set ss i (alive new)) else live (set ss i (alive new))) ≡ replaced row.number.0 new (if b then s.row ∷ live ss else live ss)
+    by : (b : Bool) → live (set ss i (alive new)) ≡ replaced row.number.0 new (live ss) → (if b then s.row ∷ live (set ss i (alive new)) else live (set ss i (alive new)))
+        ≡ replaced row.number.0 new (if b then s.row ∷ live ss else live ss)
     by true rest = rw here (ap (λ l. s.row ∷ l) rest)
     by false rest = rest
 
 -- sums after a place changes
-pub sum-live-set : (f : HandleRow → ℕ) (ss : List Place) (i : ℕ) (row : HandleRow) (new : Place) → slice_get ss i ≡ Some (alive row) → sum_by f (live (set ss i new)) + f row ≡ sum_by f (live ss) + weigh f new
+pub sum-live-set : (f : HandleRow → ℕ) (ss : List Place) (i : ℕ) (row : HandleRow) (new : Place) → slice_get ss i ≡ Some (alive row)
+    → sum_by f (live (set ss i new)) + f row ≡ sum_by f (live ss) + weigh f new
 sum-live-set f ss i row new at =
     let lt = slice_get_within ss i (alive row) at in
     let e = sum_by-set (weigh f) ss i new (alive row) lt in
@@ -181,7 +189,8 @@ none-live q [] h = refl
 none-live q (s ∷ ss) h = by s.is_live refl (none-live q ss (λ k d lt e. h (suc k) d (omega arith) e))
   where
     by : (b : Bool) → s.is_live ≡ b → find_row q (live ss) ≡ None → find_row q (if b then s.row ∷ live ss else live ss) ≡ None
-    by true e rest = let other : s.row.number.0 ≡ q → ⊥ = λ (n : s.row.number.0 ≡ q). true≢false (sym e ∙ h 0 s (omega arith) n) in let differs : (s.row.number.0 == q) ≡ false = grind (arith, nat_tests) in rw differs rest
+    by true e rest = let other : s.row.number.0 ≡ q → ⊥ = λ (n : s.row.number.0 ≡ q). true≢false (sym e ∙ h 0 s (omega arith) n) in
+        let differs : (s.row.number.0 == q) ≡ false = grind (arith, nat_tests) in rw differs rest
     by false e rest = rest
 
 -- the row at a live place is the one of its number
@@ -209,7 +218,8 @@ apart : (k m : ℕ) → k ≢ m → (k < m) ⊎ (m < k)
 apart k m h = grind arith
 
 -- the number at a dead place is no other's
-pub dead-only : (q : ℕ) (ss : List Place) (m : ℕ) (s : Place) → AllPairs IsBefore ss → m < length ss → s ≡ get_or ss m s → s.row.number.0 ≡ q → s.is_live ≡ false → (k : ℕ) (d : Place) → k < length ss → (get_or ss k d).row.number.0 ≡ q → (get_or ss k d).is_live ≡ false
+pub dead-only : (q : ℕ) (ss : List Place) (m : ℕ) (s : Place) → AllPairs IsBefore ss → m < length ss → s ≡ get_or ss m s → s.row.number.0 ≡ q → s.is_live ≡ false
+    → (k : ℕ) (d : Place) → k < length ss → (get_or ss k d).row.number.0 ≡ q → (get_or ss k d).is_live ≡ false
 dead-only q ss m s ordered lt is number dead k d klt e =
     let at : get_or ss m d ≡ s = get_or_default ss m d s lt ∙ sym is in
     let number' : (get_or ss m d).row.number.0 ≡ q = ap (λ (x : Place). x.row.number.0) at ∙ number in
@@ -235,7 +245,8 @@ unfolding find_row
 none-found q [] e = refl
 none-found q (h ∷ hs) e = by (is_handle q h) refl e (none-found q hs)
   where
-    by : (b : Bool) → is_handle q h ≡ b → (if b then Some h else find_row q hs) ≡ None → (find_row q hs ≡ None → sum_by (λ h. one (is_handle q h)) hs ≡ 0) → sum_by (λ h. one (is_handle q h)) (h ∷ hs) ≡ 0
+    by : (b : Bool) → is_handle q h ≡ b → (if b then Some h else find_row q hs) ≡ None → (find_row q hs ≡ None → sum_by (λ h. one (is_handle q h)) hs ≡ 0)
+        → sum_by (λ h. one (is_handle q h)) (h ∷ hs) ≡ 0
     by true same none rest = absurd (cc)
     by false same none rest = let a = sum_by-cons (λ (h : HandleRow). one (is_handle q h)) h hs in let b = rest none in let d = ap one same in omega arith
 
@@ -249,7 +260,8 @@ sum-without q (h ∷ hs) = by (is_handle q h) refl (sum-without q hs)
     by false e rest = let a = sum_by-cons (λ (h : HandleRow). one (is_handle q h)) h (without q hs) in let b = ap one e in omega arith
 
 -- a number is used once, so what weighs only at the number weighs at its row alone
-pub only-row : (f : HandleRow → ℕ) (ss : List Place) (i : ℕ) (row : HandleRow) → AllPairs IsBefore ss → slice_get ss i ≡ Some (alive row) → ((h : HandleRow) → f h ≤ one (is_handle row.number.0 h)) → sum_by f (live ss) ≡ f row
+pub only-row : (f : HandleRow → ℕ) (ss : List Place) (i : ℕ) (row : HandleRow) → AllPairs IsBefore ss → slice_get ss i ≡ Some (alive row)
+    → ((h : HandleRow) → f h ≤ one (is_handle row.number.0 h)) → sum_by f (live ss) ≡ f row
 only-row f ss i row ordered at less =
     let dead : Place = record { row = row; is_live = false } in
     let e = sum-live-set f ss i row dead at in
@@ -271,7 +283,8 @@ changed-rest q f (s ∷ ss) h = by s.is_live (changed-rest q f ss (All-tail (λ 
     by false rest = rest
 
 -- a number is one row's, so what is done to rows of the number is done to that row
-pub changed-known : (f : HandleRow → HandleRow) (ss : List Place) (i : ℕ) (row : HandleRow) → AllPairs IsBefore ss → slice_get ss i ≡ Some (alive row) → changed (is_handle row.number.0) (λ _. f row) (live ss) ≡ changed (is_handle row.number.0) f (live ss)
+pub changed-known : (f : HandleRow → HandleRow) (ss : List Place) (i : ℕ) (row : HandleRow) → AllPairs IsBefore ss → slice_get ss i ≡ Some (alive row)
+    → changed (is_handle row.number.0) (λ _. f row) (live ss) ≡ changed (is_handle row.number.0) f (live ss)
 changed-known f [] i row ordered at = absurd (cc)
 changed-known f (s ∷ ss) zero row ordered at =
     let live' : s.is_live ≡ true = cc in
@@ -286,6 +299,7 @@ changed-known f (s ∷ ss) (suc i) row ordered at = by s.is_live (changed-known 
     here : (s.row.number.0 == row.number.0) ≡ false
     here = let a = earlier s ss i row ordered at in grind (arith, nat_tests)
 
-    by : (b : Bool) → changed (is_handle row.number.0) (λ _. f row) (live ss) ≡ changed (is_handle row.number.0) f (live ss) → changed (is_handle row.number.0) (λ _. f row) (if b then s.row ∷ live ss else live ss) ≡ changed (is_handle row.number.0) f (if b then s.row ∷ live ss else live ss)
+    by : (b : Bool) → changed (is_handle row.number.0) (λ _. f row) (live ss) ≡ changed (is_handle row.number.0) f (live ss)
+        → changed (is_handle row.number.0) (λ _. f row) (if b then s.row ∷ live ss else live ss) ≡ changed (is_handle row.number.0) f (if b then s.row ∷ live ss else live ss)
     by true rest = rw here (ap (λ l. s.row ∷ l) rest)
     by false rest = rest

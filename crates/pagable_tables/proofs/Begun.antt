@@ -26,7 +26,8 @@ pub aside : (t : Holdings) (u : Option Error) (stack : List ℕ) (extra : ℕ �
 aside t u stack extra w = record { sound = w.sound; next = w.next; fits = w.fits }
 
 -- a handle that no value owns weighs nothing there
-pub fits-unowned : (at : ℕ → Option Counts) (refs : ℕ → List ArcRef) (rows : List HandleRow) (top : ℕ) (stack : List ℕ) (x : HandleRow) → is_valued x.owner ≡ false → Fits at refs rows top stack owns_nothing → Fits at refs rows top stack (owns x)
+pub fits-unowned : (at : ℕ → Option Counts) (refs : ℕ → List ArcRef) (rows : List HandleRow) (top : ℕ) (stack : List ℕ) (x : HandleRow) → is_valued x.owner ≡ false
+    → Fits at refs rows top stack owns_nothing → Fits at refs rows top stack (owns x)
 fits-unowned at refs rows top stack x plain fits =
     record {
       pinned = fits.pinned;
@@ -52,7 +53,8 @@ share-plain n (x ∷ xs) =
     omega arith
 
 -- a whole world before anything is given up
-pub begins : (t : Tables) (stored : ℕ → Option Blob) (closed lists : Bool) (failures : ℕ) → IsWhole t → lists ≡ not closed → Begins (core_of t stored closed failures) (core_of t stored closed failures) lists
+pub begins : (t : Tables) (stored : ℕ → Option Blob) (closed lists : Bool) (failures : ℕ) → IsWhole t → lists ≡ not closed
+    → Begins (core_of t stored closed failures) (core_of t stored closed failures) lists
 begins t stored closed lists failures w e =
     record {
       open_storage = e;
@@ -70,7 +72,8 @@ none-within s [] = refl
 none-within s (x ∷ xs) = let a = sum_by-cons (λ h. one (nobody h.number.0 && not (s h.number.0))) x xs in let b = none-within s xs in omega arith
 
 -- nothing has gone so far
-abbrev pub begun : (before w : Core) (lists : Bool) (t : Holdings) → Begins before w lists → live t.handles.places.items ≡ w.rows → t.list.items ≡ w.list → t.last_handle ≡ w.last.handle → t.last_handle ≤ greatest → HasRoom w.places (with_tables w t).places
+abbrev pub begun : (before w : Core) (lists : Bool) (t : Holdings) → Begins before w lists → live t.handles.places.items ≡ w.rows → t.list.items ≡ w.list
+    → t.last_handle ≡ w.last.handle → t.last_handle ≤ greatest → HasRoom w.places (with_tables w t).places
     → ((n : ℕ) → cell_in (counts_at t.nodes n) ≡ w.cells n) → t.unlisted ≡ None → ((n : ℕ) → MustList before w (with_tables w t) n → ⊥) → SoFar before w nobody lists t
 begun before w lists t begins rows list last within places cells told none =
     record {
@@ -92,9 +95,11 @@ begun before w lists t begins rows list last within places cells told none =
     }
 
 -- nothing has gone of a whole world
-abbrev pub begun-whole : (t : Tables) (stored : ℕ → Option Blob) (closed lists : Bool) (failures : ℕ) → IsWhole t → lists ≡ not closed → SoFar (core_of t stored closed failures) (core_of t stored closed failures) nobody lists (record t.holdings { unlisted = None })
+abbrev pub begun-whole : (t : Tables) (stored : ℕ → Option Blob) (closed lists : Bool) (failures : ℕ) → IsWhole t → lists ≡ not closed
+    → SoFar (core_of t stored closed failures) (core_of t stored closed failures) nobody lists (record t.holdings { unlisted = None })
 begun-whole t stored closed lists failures w e =
-    begun (core_of t stored closed failures) (core_of t stored closed failures) lists (record t.holdings { unlisted = None }) (begins t stored closed lists failures w e) refl refl refl w.core.handles.within.0 (record { handles = omega arith; entries = omega arith }) (λ n. refl) refl
+    begun (core_of t stored closed failures) (core_of t stored closed failures) lists (record t.holdings { unlisted = None })
+    (begins t stored closed lists failures w e) refl refl refl w.core.handles.within.0 (record { handles = omega arith; entries = omega arith }) (λ n. refl) refl
     (λ n must. let a = must.pinned in let b = must.unpinned in absurd (omega arith))
 
 -- the storage can be open or closed as it is listed or not

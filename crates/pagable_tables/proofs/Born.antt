@@ -135,9 +135,9 @@ module _ (w : Core) (me : Owner) (n : ℕ) (rs : List ArcRef) (ordered : AllPair
           z ∙ sym o
       by h among false is false other = rw other refl
 
--- the counts of a new node are right, where it has no key or its value refers to nothing
+-- the counts of a new node are right, where it has no key, or its value refers to nothing, or it is pinned
 right-new : (c : Counts) (mode : Mode) (rs : List ArcRef) → c ≡ record c { pins = one (is_pinning mode); holds = 1; is_falling = false; next = 0 }
-    → (c.key ≡ 0) ⊎ (rs ≡ []) → is_right c (is_bare rs) ≡ true
+    → (c.key ≡ 0) ⊎ (rs ≡ []) ⊎ (is_pinning mode ≡ true) → is_right c (is_bare rs) ≡ true
 right-new c mode rs new or = subst (λ d. is_right d (is_bare rs) ≡ true) (sym new) (by or)
   where
     either : (a k b : Bool) → (k ≡ false) ⊎ (b ≡ true) → (a || not k || b) ≡ true
@@ -146,13 +146,14 @@ right-new c mode rs new or = subst (λ d. is_right d (is_bare rs) ≡ true) (sym
     either false true b (inl h) = absurd (cc)
     either false true b (inr h) = h
 
-    by : (c.key ≡ 0) ⊎ (rs ≡ []) → (nat_lt 0 (one (is_pinning mode)) || not (nat_lt 0 c.key) || is_bare rs) ≡ true
+    by : (c.key ≡ 0) ⊎ (rs ≡ []) ⊎ (is_pinning mode ≡ true) → (nat_lt 0 (one (is_pinning mode)) || not (nat_lt 0 c.key) || is_bare rs) ≡ true
     by (inl none) = either (nat_lt 0 (one (is_pinning mode))) (nat_lt 0 c.key) (is_bare rs) (inl (grind (arith, nat_tests)))
-    by (inr none) = either (nat_lt 0 (one (is_pinning mode))) (nat_lt 0 c.key) (is_bare rs) (inr (ap is_bare none))
+    by (inr (inl none)) = either (nat_lt 0 (one (is_pinning mode))) (nat_lt 0 c.key) (is_bare rs) (inr (ap is_bare none))
+    by (inr (inr pinned)) = ap (λ b. nat_lt 0 (one b) || not (nat_lt 0 c.key) || is_bare rs) pinned
 
 module _ (w : Core) (me : Owner) (rs : List ArcRef) (ordered : AllPairs IsHandleBefore w.rows) (fit : references_fault w me [] rs ≡ None) (unvalued : is_valued me ≡ false)
     (at at' : ℕ → Option Counts) (refs refs' : ℕ → List ArcRef) (top : ℕ) (x : HandleRow) (c : Counts) (fits : Fits at refs w.rows top [] owns_nothing) (owner : x.owner ≡ me)
-    (new : c ≡ record c { pins = one (is_pinning x.mode); holds = 1; is_falling = false; next = 0 }) (bare : (c.key ≡ 0) ⊎ (rs ≡ [])) (real : 0 < x.node.0) (free : at x.node.0 ≡ None)
+    (new : c ≡ record c { pins = one (is_pinning x.mode); holds = 1; is_falling = false; next = 0 }) (bare : (c.key ≡ 0) ⊎ (rs ≡ []) ⊎ (is_pinning x.mode ≡ true)) (real : 0 < x.node.0) (free : at x.node.0 ≡ None)
     (here : at' x.node.0 ≡ Some c) (others : (q : ℕ) → q ≢ x.node.0 → at' q ≡ at q) (refers : refs' x.node.0 ≡ rs) (same : (q : ℕ) → q ≢ x.node.0 → refs' q ≡ refs q) where
   abbrev n : ℕ
   n = x.node.0

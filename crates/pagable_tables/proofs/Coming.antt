@@ -15,7 +15,8 @@ use Rattle.pagable_tables.specs.declared.rows.Counts.{Counts}
 use Rattle.pagable_tables.specs.Falling.{pins_in, holds_in, falls_in, is_bare, is_right, Right, Fits, owns_nothing, named, is_valued, cell_in}
 use Rattle.pagable_tables.proofs.Fitting.{pin_of, handle_of, is_owned, pin-here, held-here, pin-other, held-other}
 
-more-right : (w k bare : Bool) (p h p' h' : ℕ) → w ≡ false → p ≤ p' → h ≤ h' → (if w then h == 0 || (p == 0 && k) else nat_lt 0 h && (nat_lt 0 p || not k || bare)) ≡ true → (if w then h' == 0 || (p' == 0 && k) else nat_lt 0 h' && (nat_lt 0 p' || not k || bare)) ≡ true
+more-right : (w k bare : Bool) (p h p' h' : ℕ) → w ≡ false → p ≤ p' → h ≤ h' → (if w then h == 0 || (p == 0 && k) else nat_lt 0 h && (nat_lt 0 p || not k || bare)) ≡ true
+    → (if w then h' == 0 || (p' == 0 && k) else nat_lt 0 h' && (nat_lt 0 p' || not k || bare)) ≡ true
 more-right true k bare p h p' h' e a b r = absurd (cc)
 more-right false k bare p h p' h' e a b r = grind (arith, nat_tests)
 
@@ -46,7 +47,8 @@ module _ (at at' : ℕ → Option Counts) (refs refs' : ℕ → List ArcRef) (ro
   right-here : Right (at' x.node.0) (refs' x.node.0)
   right-here =
       let old : is_right c (is_bare (refs x.node.0)) ≡ true = subst (λ o. Right o (refs x.node.0)) is (fits.right x.node.0) in
-      let new : is_right more (is_bare (refs x.node.0)) ≡ true = more-right c.is_falling (nat_lt 0 c.key) (is_bare (refs x.node.0)) c.pins c.holds more.pins more.holds free (omega arith) (omega arith) old in
+      let new : is_right more (is_bare (refs x.node.0)) ≡ true = more-right c.is_falling (nat_lt 0 c.key) (is_bare (refs x.node.0)) c.pins c.holds more.pins more.holds free
+      (omega arith) (omega arith) old in
       subst (λ o. Right o (refs' x.node.0)) (sym here) (subst (λ r. Right (Some more) r) (sym (same x.node.0)) new)
 
   real : 0 ≢ x.node.0
@@ -102,7 +104,8 @@ some-held None h = absurd (omega arith)
 some-held (Some c) h = refl
 
 -- the rows are told anew
-pub rows-told : (at : ℕ → Option Counts) (refs : ℕ → List ArcRef) (rows rows' : List HandleRow) (top : ℕ) → rows' ≡ rows → Fits at refs rows top [] owns_nothing → Fits at refs rows' top [] owns_nothing
+pub rows-told : (at : ℕ → Option Counts) (refs : ℕ → List ArcRef) (rows rows' : List HandleRow) (top : ℕ) → rows' ≡ rows → Fits at refs rows top [] owns_nothing
+    → Fits at refs rows' top [] owns_nothing
 rows-told at refs rows rows' top e f = subst (λ r. Fits at refs r top [] owns_nothing) (sym e) f
 
 -- a node has no more handles than there are
@@ -135,7 +138,8 @@ module _ (at at' : ℕ → Option Counts) (refs refs' : ℕ → List ArcRef) (ro
   turn-right : Right (at' x.node.0) (refs' x.node.0)
   turn-right =
       let old : is_right c (is_bare (refs x.node.0)) ≡ true = subst (λ o. Right o (refs x.node.0)) is (fits.right x.node.0) in
-      let new : is_right after-turn (is_bare (refs x.node.0)) ≡ true = more-right c.is_falling (nat_lt 0 c.key) (is_bare (refs x.node.0)) c.pins c.holds after-turn.pins after-turn.holds (is-free at refs rows top x.node.0 c fits is) (omega arith) (omega arith) old in
+      let new : is_right after-turn (is_bare (refs x.node.0)) ≡ true = more-right c.is_falling (nat_lt 0 c.key)
+      (is_bare (refs x.node.0)) c.pins c.holds after-turn.pins after-turn.holds (is-free at refs rows top x.node.0 c fits is) (omega arith) (omega arith) old in
       subst (λ o. Right o (refs' x.node.0)) (sym here) (subst (λ r. Right (Some after-turn) r) (sym (same x.node.0)) new)
 
   turn-real : 0 ≢ x.node.0

@@ -21,7 +21,8 @@ use Rattle.pagable_tables.specs.Onward.{with_tables, told_by, SoFar}
 use Rattle.pagable_tables.proofs.Left.{times-left, entries-none}
 use Rattle.pagable_tables.proofs.Forced.{keyed-cell}
 
-bare-then : (w : Bool) (p h : ℕ) (k bare : Bool) → w ≡ false → (if w then h == 0 || (p == 0 && k) else nat_lt 0 h && (nat_lt 0 p || not k || bare)) ≡ true → (h ≡ 0) ⊎ ((k ≡ true) × (p ≡ 0)) → bare ≡ true
+bare-then : (w : Bool) (p h : ℕ) (k bare : Bool) → w ≡ false → (if w then h == 0 || (p == 0 && k) else nat_lt 0 h && (nat_lt 0 p || not k || bare)) ≡ true
+    → (h ≡ 0) ⊎ ((k ≡ true) × (p ≡ 0)) → bare ≡ true
 bare-then true p h k bare e r down = absurd (cc)
 bare-then false p h k bare e r (inl none) = grind (arith, nat_tests)
 bare-then false p h k bare e r (inr both) = let a = both.0 in let b = both.1 in grind (arith, nat_tests)
@@ -38,7 +39,8 @@ stands : (at : ℕ → Option Counts) (refs : ℕ → List ArcRef) (rows : List 
 stands at refs rows top fits n = let a = fits.marked n in grind (arith, nat_tests)
 
 -- no handle is left that a value owned which is gone
-pub none-left : (at : ℕ → Option Counts) (refs : ℕ → List ArcRef) (rows : List HandleRow) (top : ℕ) → Fits at refs rows top [] owns_nothing → (n q : ℕ) → HasFallen at rows n → sum_by (λ h. owns h n q) rows ≡ 0
+pub none-left : (at : ℕ → Option Counts) (refs : ℕ → List ArcRef) (rows : List HandleRow) (top : ℕ) → Fits at refs rows top [] owns_nothing → (n q : ℕ) → HasFallen at rows n
+    → sum_by (λ h. owns h n q) rows ≡ 0
 none-left at refs rows top fits n q down =
     let down' : (holds_in (at n) ≡ 0) ⊎ ((keyed_in (at n) ≡ true) × (pins_in (at n) ≡ 0)) = elim down [ inl none ↦ inl (fits.holding n ∙ none) | inr both ↦ inr (both.0, fits.pinned n ∙ both.1) ] in
     let e = no-refs (at n) (refs n) (stands at refs rows top fits n) (fits.right n) down' in
@@ -56,14 +58,17 @@ none-owned n (x ∷ xs) none =
     let here : one (is_owned_by (owner_value n) x) ≡ 0 = grind (arith, nat_tests) in
     omega arith
 
-down-keyed : (o : Option Counts) (cell : Option Cell) → (is_some o ≡ true → cell_in o ≡ cell) → has_key (if_there (λ (c : Cell). c.key) optional.None cell) ≡ true → (holds_in o ≡ 0) ⊎ (keyed_in o ≡ true)
+down-keyed : (o : Option Counts) (cell : Option Cell) → (is_some o ≡ true → cell_in o ≡ cell) → has_key (if_there (λ (c : Cell). c.key) optional.None cell) ≡ true
+    → (holds_in o ≡ 0) ⊎ (keyed_in o ≡ true)
 down-keyed None cell same e = inl refl
 down-keyed (Some c) cell same e = inr (sym (keyed-cell c.key) ∙ ap (λ (o : Option Cell). has_key (if_there (λ (c : Cell). c.key) optional.None o)) (same refl) ∙ e)
 
-cell-kept : (o : Option Counts) (refs : List ArcRef) (h : ℕ) (cell : Option Cell) → falls_in o ≡ false → Right o refs → holds_in o ≡ h → (is_some o ≡ true → cell_in o ≡ cell) → cell_in o ≡ (if nat_lt 0 h then cell else None)
+cell-kept : (o : Option Counts) (refs : List ArcRef) (h : ℕ) (cell : Option Cell) → falls_in o ≡ false → Right o refs → holds_in o ≡ h → (is_some o ≡ true → cell_in o ≡ cell)
+    → cell_in o ≡ (if nat_lt 0 h then cell else None)
 cell-kept None refs h cell free right e same = ap (λ k. if nat_lt 0 k then cell else None) e
 cell-kept (Some c) refs h cell free right e same =
-    let some : nat_lt 0 c.holds ≡ true = live-then c.is_falling (c.holds == 0 || (c.pins == 0 && nat_lt 0 c.key)) (nat_lt 0 c.holds) (nat_lt 0 c.pins || not (nat_lt 0 c.key) || is_bare refs) free right in
+    let some : nat_lt 0 c.holds ≡ true = live-then c.is_falling (c.holds == 0 || (c.pins == 0 && nat_lt 0 c.key)) (nat_lt 0 c.holds)
+    (nat_lt 0 c.pins || not (nat_lt 0 c.key) || is_bare refs) free right in
     same refl ∙ sym (ap (λ k. if nat_lt 0 k then cell else None) (sym e) ∙ ap (λ b. if b then cell else None) some)
   where
     live-then : (w a b k : Bool) → w ≡ false → (if w then a else b && k) ≡ true → b ≡ true
@@ -72,17 +77,20 @@ cell-kept (Some c) refs h cell free right e same =
     live-then false a false k e r = absurd (cc)
 
 same-usable : (kind : ℕ) (o : Option ℕ) (rows rows' : List HandleRow) (cells cells' : ℕ → Option Cell) → rows' ≡ rows → ((n : ℕ) → cells' n ≡ cells n)
-    → if_there (λ n. if_there (λ (cell : Cell). if is_pinned_kind kind && not (is_in_memory (pins n rows') cell.key) then None else Some n) None (cells' n)) None o ≡ if_there (λ n. if_there (λ (cell : Cell). if is_pinned_kind kind && not (is_in_memory (pins n rows) cell.key) then None else Some n) None (cells n)) None o
+    → if_there (λ n. if_there (λ (cell : Cell). if is_pinned_kind kind && not (is_in_memory (pins n rows') cell.key) then None else Some n) None (cells' n)) None o
+    ≡ if_there (λ n. if_there (λ (cell : Cell). if is_pinned_kind kind && not (is_in_memory (pins n rows) cell.key) then None else Some n) None (cells n)) None o
 same-usable kind None rows rows' cells cells' e same = refl
 same-usable kind (Some n) rows rows' cells cells' e same =
-    ap (λ r. if_there (λ (cell : Cell). if is_pinned_kind kind && not (is_in_memory (pins n r) cell.key) then None else Some n) None (cells' n)) e ∙ ap (λ c. if_there (λ (cell : Cell). if is_pinned_kind kind && not (is_in_memory (pins n rows) cell.key) then None else Some n) None c) (same n)
+    ap (λ r. if_there (λ (cell : Cell). if is_pinned_kind kind && not (is_in_memory (pins n r) cell.key) then None else Some n) None (cells' n)) e
+    ∙ ap (λ c. if_there (λ (cell : Cell). if is_pinned_kind kind && not (is_in_memory (pins n rows) cell.key) then None else Some n) None c) (same n)
 
 refusal : (w w' : Core) (e : Error) → IsListRefusal w w' e → CannotList w w'
 refusal w w' errors.NumbersSpent r = inl r
 refusal w w' errors.OutOfMemory r = inr r.0
 refusal w w' _ r = absurd r
 
-each-listed : (before w w' : Core) (entries : List HandleRow) (r : Result (Unit {0}) Error) → TellsListing before w entries r w' → (n : ℕ) → MustList before w w' n → (held n entries ≡ 1) ⊎ CannotList w w'
+each-listed : (before w w' : Core) (entries : List HandleRow) (r : Result (Unit {0}) Error) → TellsListing before w entries r w' → (n : ℕ) → MustList before w w' n
+    → (held n entries ≡ 1) ⊎ CannotList w w'
 each-listed before w w' entries (Ok u) tells n must = inl (tells.all n must)
 each-listed before w w' entries (Err e) tells n must = let a = tells.not_all in inr (refusal w w' e a.3)
 
@@ -90,7 +98,8 @@ module _ (before w : Core) (given : ℕ → Bool) (lists : Bool) (t : Holdings) 
   counted : (p : HandleRow → Bool) → times p (live t.handles.places.items) ≡ times (λ h. p h && not (f.gone h.number.0)) w.rows + times p f.entries
   counted p = ap (times p) f.rows ∙ sum_by-append (λ h. one (p h)) (left_rows f.gone w.rows) f.entries ∙ ap (λ k. k + times p f.entries) (times-left p f.gone w.rows)
 
-  down : (n : ℕ) (keyed : Bool) → is_keyed w n ≡ keyed → (if keyed then nat_eq (pins_outside w.rows f.gone n) 0 else nat_eq (held n f.entries) 0 && nat_eq (held_outside w.rows f.gone n) 0) ≡ true → HasFallen (counts_at t.nodes) (live t.handles.places.items) n
+  down : (n : ℕ) (keyed : Bool) → is_keyed w n ≡ keyed → (if keyed then nat_eq (pins_outside w.rows f.gone n) 0 else nat_eq (held n f.entries) 0 && nat_eq
+      (held_outside w.rows f.gone n) 0) ≡ true → HasFallen (counts_at t.nodes) (live t.handles.places.items) n
   down n true e lost =
       let a = counted (is_pin n) in
       let b = entries-none (is_pin n) (λ h mode owner. grind (arith, nat_tests)) w.last.handle f.entries f.new in
@@ -109,7 +118,8 @@ module _ (before w : Core) (given : ℕ → Bool) (lists : Bool) (t : Holdings) 
       omega arith
 
   cells-same : (n : ℕ) → cell_in (counts_at t.nodes n) ≡ (fallen w f.gone f.entries).cells n
-  cells-same n = cell-kept (counts_at t.nodes n) (refs_at t.nodes n) (held n (left_rows f.gone w.rows ++ f.entries)) (w.cells n) (stands (counts_at t.nodes) (refs_at t.nodes) (live t.handles.places.items) t.top whole.fits n) (whole.fits.right n) (whole.fits.holding n ∙ ap (held n) f.rows) (f.cells n)
+  cells-same n = cell-kept (counts_at t.nodes n) (refs_at t.nodes n) (held n (left_rows f.gone w.rows ++ f.entries)) (w.cells n)
+      (stands (counts_at t.nodes) (refs_at t.nodes) (live t.handles.places.items) t.top whole.fits n) (whole.fits.right n) (whole.fits.holding n ∙ ap (held n) f.rows) (f.cells n)
 
   leaves : Alike (fallen w f.gone f.entries) (with_tables w t)
   leaves =
@@ -118,7 +128,8 @@ module _ (before w : Core) (given : ℕ → Bool) (lists : Bool) (t : Holdings) 
         cells = cells-same;
         list = f.list;
         cache = record {
-          gives = λ kind key. same-usable kind (w.cache kind key) (left_rows f.gone w.rows ++ f.entries) (live t.handles.places.items) (fallen w f.gone f.entries).cells (λ n. cell_in (counts_at t.nodes n)) f.rows cells-same;
+          gives = λ kind key. same-usable kind (w.cache kind key) (left_rows f.gone w.rows ++ f.entries) (live t.handles.places.items) (fallen w f.gone f.entries).cells
+              (λ n. cell_in (counts_at t.nodes n)) f.rows cells-same;
           only = λ kind key n e. e;
         };
         stored = λ q. refl;

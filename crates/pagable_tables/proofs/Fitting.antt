@@ -67,7 +67,8 @@ holds-after : (listed : Bool) (h : ℕ) → 1 ≤ h → (if listed then h else h
 holds-after true h some = refl
 holds-after false h some = omega arith
 
-right-plain : (waits key pinning bare : Bool) (pins holds pins' holds' : ℕ) → pins' + one pinning ≡ pins → 1 ≤ holds → (if waits then holds == 0 || (pins == 0 && key) else nat_lt 0 holds && (nat_lt 0 pins || not key || bare)) ≡ true
+right-plain : (waits key pinning bare : Bool) (pins holds pins' holds' : ℕ) → pins' + one pinning ≡ pins → 1 ≤ holds
+    → (if waits then holds == 0 || (pins == 0 && key) else nat_lt 0 holds && (nat_lt 0 pins || not key || bare)) ≡ true
     → (if waits || (not waits && (holds' == 0 || (pinning && pins' == 0 && key))) then holds' == 0 || (pins' == 0 && key) else nat_lt 0 holds' && (nat_lt 0 pins' || not key || bare)) ≡ true
 right-plain true key pinning bare pins holds pins' holds' e some h = grind (arith, nat_tests)
 right-plain false true true bare pins holds pins' holds' e some h = grind (arith, nat_tests)
@@ -103,8 +104,10 @@ in-none n stack m none some e = let a = ap (λ k. often k stack) e in absurd (om
 
 -- one handle less, and perhaps an entry more
 module _ (at at' : ℕ → Option Counts) (refs refs' : ℕ → List ArcRef) (rows rows' : List HandleRow) (top : ℕ) (stack : List ℕ) (x : HandleRow) (c : Counts) (listed : Bool) (k : ℕ)
-    (fits : Fits at refs rows top stack (λ n q. is_owned n q x)) (is : at x.node.0 ≡ Some c) (leaves : (f : HandleRow → ℕ) → sum_by f rows' + f x ≡ sum_by f rows + (if listed then f (entry k x.node) else 0))
-    (here : at' x.node.0 ≡ Some (after c (is_pinning x.mode) listed top)) (others : (n : ℕ) → n ≢ x.node.0 → at' n ≡ at n) (same : (n : ℕ) → refs' n ≡ refs n) (some : one (is_pinning x.mode) ≤ c.pins) (live : 1 ≤ c.holds) where
+    (fits : Fits at refs rows top stack (λ n q. is_owned n q x)) (is : at x.node.0 ≡ Some c)
+    (leaves : (f : HandleRow → ℕ) → sum_by f rows' + f x ≡ sum_by f rows + (if listed then f (entry k x.node) else 0))
+    (here : at' x.node.0 ≡ Some (after c (is_pinning x.mode) listed top)) (others : (n : ℕ) → n ≢ x.node.0 → at' n ≡ at n) (same : (n : ℕ) → refs' n ≡ refs n)
+    (some : one (is_pinning x.mode) ≤ c.pins) (live : 1 ≤ c.holds) where
   given-pinned : (n : ℕ) → pins_in (at' n) ≡ pins n rows'
   given-pinned n =
       elim (cases_eq n x.node.0) [
@@ -207,7 +210,8 @@ module _ (at at' : ℕ → Option Counts) (refs refs' : ℕ → List ArcRef) (ro
         | inl e ↦
             let old : Right (Some c) (refs x.node.0) = subst (λ o. Right o (refs x.node.0)) is (fits.right x.node.0) in
             let goal : Right (Some (after c (is_pinning x.mode) listed top)) (refs x.node.0) = right-after c (is_pinning x.mode) listed (is_bare (refs x.node.0)) top some live old in
-            let at-node : Right (at' x.node.0) (refs' x.node.0) = subst (λ o. Right o (refs' x.node.0)) (sym here) (subst (λ r. Right (Some (after c (is_pinning x.mode) listed top)) r) (sym (same x.node.0)) goal) in
+            let at-node : Right (at' x.node.0) (refs' x.node.0) = subst (λ o. Right o (refs' x.node.0)) (sym here)
+            (subst (λ r. Right (Some (after c (is_pinning x.mode) listed top)) r) (sym (same x.node.0)) goal) in
             subst (λ m. Right (at' m) (refs' m)) (sym e) at-node
         | inr e ↦ subst (λ o. Right o (refs' n)) (sym (others n e)) (subst (λ r. Right (at n) r) (sym (same n)) (fits.right n))
       ]
@@ -223,7 +227,8 @@ module _ (at at' : ℕ → Option Counts) (refs refs' : ℕ → List ArcRef) (ro
         | inr e ↦ (sym (ap is_some (others n e)) ∙ some', ap cell_in (others n e))
       ]
 
-pub new-top : (c : Counts) (pinning listed : Bool) (top node : ℕ) → (b : Bool) → is_fallen_by c pinning (c.pins - one pinning) (if listed then c.holds else c.holds - 1) ≡ b → (if is_new c.is_falling (after c pinning listed top).is_falling then node else top) ≡ (if b then node else top)
+pub new-top : (c : Counts) (pinning listed : Bool) (top node : ℕ) → (b : Bool) → is_fallen_by c pinning (c.pins - one pinning) (if listed then c.holds else c.holds - 1) ≡ b
+    → (if is_new c.is_falling (after c pinning listed top).is_falling then node else top) ≡ (if b then node else top)
 new-top c pinning listed top node b e = ap (λ (t : Bool). if t then node else top) (is-new c.is_falling _ ∙ e)
 
 pub long-if : (b : Bool) (n : ℕ) (stack : List ℕ) → length (if b then n ∷ stack else stack) ≤ length stack + 1
@@ -232,7 +237,8 @@ long-if false n stack = omega arith
 
 -- the first node that waits is done: it is gone, or waits no more
 module _ (at at' : ℕ → Option Counts) (refs refs' : ℕ → List ArcRef) (rows : List HandleRow) (n : ℕ) (ns : List ℕ) (c : Counts)
-    (fits : Fits at refs rows n (n ∷ ns) owns_nothing) (is : at n ≡ Some c) (pins' : pins_in (at' n) ≡ c.pins) (holds' : holds_in (at' n) ≡ c.holds) (free : falls_in (at' n) ≡ false) (right' : Right (at' n) (refs' n))
+    (fits : Fits at refs rows n (n ∷ ns) owns_nothing) (is : at n ≡ Some c) (pins' : pins_in (at' n) ≡ c.pins) (holds' : holds_in (at' n) ≡ c.holds)
+    (free : falls_in (at' n) ≡ false) (right' : Right (at' n) (refs' n))
     (others : (m : ℕ) → m ≢ n → at' m ≡ at m) (same : (m : ℕ) → refs' m ≡ refs m) (one' : n ≢ 0) where
   once : often n ns ≡ 0
   once =
@@ -255,7 +261,8 @@ module _ (at at' : ℕ → Option Counts) (refs refs' : ℕ → List ArcRef) (ro
         chain = chain-frame at at' c.next ns (λ m within. ap next_in (others m (in-none n ns m once within))) (subst (λ t. Chain at t ns) (ap next_in is) fits.chain.1);
         marked = λ m. elim (cases_eq m n) [
           | inl e ↦ ap (λ k. often k ns) e ∙ once ∙ sym (ap one (ap (λ k. falls_in (at' k)) e ∙ free))
-          | inr e ↦ let a = sum_by-cons (λ y. one (y == m)) n ns in let b = fits.marked m in let d = ap (λ o. one (falls_in o)) (others m e) in let z : one (n == m) ≡ 0 = grind (arith, nat_tests) in omega arith
+          | inr e ↦ let a = sum_by-cons (λ y. one (y == m)) n ns in let b = fits.marked m in let d = ap (λ o. one (falls_in o)) (others m e) in
+              let z : one (n == m) ≡ 0 = grind (arith, nat_tests) in omega arith
         ];
         right = λ m. elim (cases_eq m n) [
           | inl e ↦ subst (λ k. Right (at' k) (refs' k)) (sym e) right'
@@ -314,7 +321,8 @@ module _ (at at' : ℕ → Option Counts) (refs refs' : ℕ → List ArcRef) (ro
   taken-right : (m : ℕ) → Right (at' m) (refs' m)
   taken-right m =
       elim (cases_eq m n) [
-        | inl e ↦ subst (λ k. Right (at' k) (refs' k)) (sym e) (subst (λ o. Right o (refs' n)) (sym (same n)) (still (at n) (refs n) (refs' n) (first-waits at refs rows n ns owns_nothing fits) (fits.right n)))
+        | inl e ↦ subst (λ k. Right (at' k) (refs' k)) (sym e) (subst (λ o. Right o (refs' n)) (sym (same n))
+            (still (at n) (refs n) (refs' n) (first-waits at refs rows n ns owns_nothing fits) (fits.right n)))
         | inr e ↦ subst (λ o. Right o (refs' m)) (sym (same m)) (subst (λ r. Right (at m) r) (sym (others m e)) (fits.right m))
       ]
 
@@ -346,7 +354,8 @@ module _ (at at' : ℕ → Option Counts) (refs refs' : ℕ → List ArcRef) (ro
       }
 
 -- the same tables, by look-ups that agree
-pub fits-same : (at at' : ℕ → Option Counts) (refs refs' : ℕ → List ArcRef) (rows : List HandleRow) (top : ℕ) (stack : List ℕ) → Fits at refs rows top stack owns_nothing → ((m : ℕ) → at' m ≡ at m) → ((m : ℕ) → refs' m ≡ refs m) → Fits at' refs' rows top stack owns_nothing
+pub fits-same : (at at' : ℕ → Option Counts) (refs refs' : ℕ → List ArcRef) (rows : List HandleRow) (top : ℕ) (stack : List ℕ) → Fits at refs rows top stack owns_nothing
+    → ((m : ℕ) → at' m ≡ at m) → ((m : ℕ) → refs' m ≡ refs m) → Fits at' refs' rows top stack owns_nothing
 fits-same at at' refs refs' rows top stack fits same refs-same =
     record {
       pinned = λ m. ap pins_in (same m) ∙ fits.pinned m;

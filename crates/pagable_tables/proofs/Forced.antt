@@ -18,7 +18,8 @@ use Rattle.pagable_tables.specs.Onward.{SoFar}
 use Rattle.pagable_tables.proofs.Left.{times-left, entries-none}
 
 -- what is outside the one set is outside the other, or between them
-cut : (f : HandleRow → Bool) (gone s : ℕ → Bool) (rows : List HandleRow) → times (λ h. f h && not (s h.number.0)) rows ≤ times (λ h. f h && not (gone h.number.0)) rows + times (λ h. gone h.number.0 && not (s h.number.0)) rows
+cut : (f : HandleRow → Bool) (gone s : ℕ → Bool) (rows : List HandleRow) → times (λ h. f h && not (s h.number.0)) rows
+    ≤ times (λ h. f h && not (gone h.number.0)) rows + times (λ h. gone h.number.0 && not (s h.number.0)) rows
 cut f gone s [] = omega arith
 cut f gone s (x ∷ xs) =
     let a = sum_by-cons (λ h. one (f h && not (s h.number.0))) x xs in
@@ -50,7 +51,8 @@ module _ (before w : Core) (given : ℕ → Bool) (lists : Bool) (t : Holdings) 
   counted : (p : HandleRow → Bool) → times p (live t.handles.places.items) ≡ times (λ h. p h && not (f.gone h.number.0)) w.rows + times p f.entries
   counted p = ap (times p) f.rows ∙ sum_by-append (λ h. one (p h)) (left_rows f.gone w.rows) f.entries ∙ ap (λ k. k + times p f.entries) (times-left p f.gone w.rows)
 
-  lost : (final : List HandleRow) (n : ℕ) (keyed : Bool) → is_keyed w n ≡ keyed → (held n (live t.handles.places.items) ≡ 0 → held n final ≡ 0) → HasFallen (counts_at t.nodes) (live t.handles.places.items) n
+  lost : (final : List HandleRow) (n : ℕ) (keyed : Bool) → is_keyed w n ≡ keyed → (held n (live t.handles.places.items) ≡ 0 → held n final ≡ 0)
+      → HasFallen (counts_at t.nodes) (live t.handles.places.items) n
       → (if keyed then nat_eq (pins_outside w.rows s n) 0 else nat_eq (held n final) 0 && nat_eq (held_outside w.rows s n) 0) ≡ true
   lost final n true e bare down =
       let a = counted (is_pin n) in
@@ -68,7 +70,8 @@ module _ (before w : Core) (given : ℕ → Bool) (lists : Bool) (t : Holdings) 
   lost final n false e bare (inr both) = let k = up-keyed (counts_at t.nodes n) (w.cells n) (f.cells n) both.0 in absurd (cc)
 
   -- no handle outside the set is left that the value owned
-  pub forced : (final : List HandleRow) (n : ℕ) → (held n (live t.handles.places.items) ≡ 0 → held n final ≡ 0) → HasFallen (counts_at t.nodes) (live t.handles.places.items) n → IsClosed w.rows (is_keyed w) final s
+  pub forced : (final : List HandleRow) (n : ℕ) → (held n (live t.handles.places.items) ≡ 0 → held n final ≡ 0) → HasFallen (counts_at t.nodes) (live t.handles.places.items) n
+      → IsClosed w.rows (is_keyed w) final s
       → times (λ h. is_owned_by (owner_value n) h && is_outside s h) (live t.handles.places.items) ≡ 0
   forced final n bare down closed =
       let none = closed n (lost final n (is_keyed w n) refl bare down) in

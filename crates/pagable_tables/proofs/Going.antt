@@ -32,29 +32,41 @@ kept-gone gone q [] e = refl
 kept-gone gone q (x ∷ xs) e =
     let rest = kept-gone gone q xs e in
     let same : not (and_one gone q x.0) ≡ not (gone x.0) = ap not (also x.0) in
-    ap (λ b. if b then x ∷ filter (λ (h : HandleNumber). not (and_one gone q h.0)) xs else filter (λ (h : HandleNumber). not (and_one gone q h.0)) xs) same ∙ ap (λ r. if not (gone x.0) then x ∷ r else r) rest
+    ap (λ b. if b then x ∷ filter (λ (h : HandleNumber). not (and_one gone q h.0)) xs else filter (λ (h : HandleNumber). not (and_one gone q h.0)) xs) same
+    ∙ ap (λ r. if not (gone x.0) then x ∷ r else r) rest
   where
     also : (r : ℕ) → and_one gone q r ≡ gone r
-    also r = elim (cases_Bool (r == q)) [ inl is ↦ (let a : r ≡ q = grind (arith, nat_tests) in let b : gone r ≡ true = ap gone a ∙ e in grind (arith, nat_tests)) | inr other ↦ grind (arith, nat_tests) ]
+    also r = elim (cases_Bool (r == q)) [
+      | inl is ↦ (let a : r ≡ q = grind (arith, nat_tests) in let b : gone r ≡ true = ap gone a ∙ e in grind (arith, nat_tests))
+      | inr other ↦
+          grind (arith, nat_tests)
+    ]
 
-list-kept : (gone : ℕ → Bool) (q : ℕ) (rows : List HandleRow) (list : List HandleNumber) → times (λ (h : HandleNumber). h.0 == q) list ≡ times (of_list q) rows → times (λ h. of_list q h && not (gone h.number.0)) rows ≡ 0
+list-kept : (gone : ℕ → Bool) (q : ℕ) (rows : List HandleRow) (list : List HandleNumber) → times (λ (h : HandleNumber). h.0 == q) list ≡ times (of_list q) rows
+    → times (λ h. of_list q h && not (gone h.number.0)) rows ≡ 0
     → filter (λ (h : HandleNumber). not (and_one gone q h.0)) list ≡ filter (λ (h : HandleNumber). not (gone h.0)) list
 list-kept gone q rows list listed none =
     elim (cases_Bool (gone q)) [
       | inl e ↦ kept-gone gone q list e
       | inr e ↦
-          let a : times (of_list q) rows ≤ times (λ h. of_list q h && not (gone h.number.0)) rows = sum_by-le-sum_by (λ h. one (of_list q h)) (λ h. one (of_list q h && not (gone h.number.0))) rows (less e) in
+          let a : times (of_list q) rows ≤ times (λ h. of_list q h && not (gone h.number.0)) rows =
+          sum_by-le-sum_by (λ h. one (of_list q h)) (λ h. one (of_list q h && not (gone h.number.0))) rows (less e) in
           kept-more gone q list (omega arith)
     ]
   where
     less : gone q ≡ false → (h : HandleRow) → one (of_list q h) ≤ one (of_list q h && not (gone h.number.0))
-    less e h = elim (cases_Bool (h.number.0 == q)) [ inl is ↦ (let a : h.number.0 ≡ q = grind (arith, nat_tests) in let b : gone h.number.0 ≡ false = ap gone a ∙ e in grind (arith, nat_tests)) | inr other ↦ grind (arith, nat_tests) ]
+    less e h = elim (cases_Bool (h.number.0 == q)) [
+      | inl is ↦ (let a : h.number.0 ≡ q = grind (arith, nat_tests) in let b : gone h.number.0 ≡ false = ap gone a ∙ e in
+          grind (arith, nat_tests))
+      | inr other ↦ grind (arith, nat_tests)
+    ]
 
 pub entry-number : (listed : Bool) (k : ℕ) (node : NodeNumber) → map (λ (h : HandleRow). h.number) (entries_of listed k node) ≡ (if listed then record { 0 = k } ∷ [] else [])
 entry-number true k node = refl
 entry-number false k node = refl
 
-pub new-more : (last : ℕ) (entries : List HandleRow) (listed : Bool) (k : ℕ) (node : NodeNumber) → AreNewEntries last entries → k ≡ last + length entries + 1 → AreNewEntries last (entries ++ entries_of listed k node)
+pub new-more : (last : ℕ) (entries : List HandleRow) (listed : Bool) (k : ℕ) (node : NodeNumber) → AreNewEntries last entries → k ≡ last + length entries + 1
+    → AreNewEntries last (entries ++ entries_of listed k node)
 new-more last entries true k node new is = entries-more last entries (entry k node) new is refl refl
 new-more last entries false k node new is = subst (AreNewEntries last) (sym (append-nil entries)) new
 
@@ -74,8 +86,10 @@ one-more : (listed : Bool) → (if listed then 1 else 0) ≤ 1
 one-more true = omega arith
 one-more false = omega arith
 
-module _ (before w : Core) (given given' : ℕ → Bool) (lists : Bool) (t popped new : Holdings) (stack : List ℕ) (x : HandleRow) (f : SoFar before w given lists t) (g : GivesUp popped stack x lists new) (same : popped ≡ record t { nodes = popped.nodes })
-    (counts : (n : ℕ) → counts_at popped.nodes n ≡ counts_at t.nodes n) (pinned : (n : ℕ) → pins_in (counts_at t.nodes n) ≡ pins n (live t.handles.places.items)) (owner : is_owned_by owners.List x ≡ false) (few : length (live t.handles.places.items) ≤ length w.rows) where
+module _ (before w : Core) (given given' : ℕ → Bool) (lists : Bool) (t popped new : Holdings) (stack : List ℕ) (x : HandleRow) (f : SoFar before w given lists t)
+    (g : GivesUp popped stack x lists new) (same : popped ≡ record t { nodes = popped.nodes })
+    (counts : (n : ℕ) → counts_at popped.nodes n ≡ counts_at t.nodes n) (pinned : (n : ℕ) → pins_in (counts_at t.nodes n) ≡ pins n (live t.handles.places.items))
+    (owner : is_owned_by owners.List x ≡ false) (few : length (live t.handles.places.items) ≤ length w.rows) where
   before-rows : live popped.handles.places.items ≡ live t.handles.places.items
   before-rows = ap (λ (h : Holdings). live h.handles.places.items) same
 
@@ -120,7 +134,8 @@ module _ (before w : Core) (given given' : ℕ → Bool) (lists : Bool) (t poppe
       ap (λ (h : Holdings). h.list.items) g.same ∙ g.leaves.lists.comes.list ∙ ap (λ (h : Holdings). h.list.items ++ (if g.listed then record { 0 = h.last_handle + 1 } ∷ [] else [])) g.leaves.same
       ∙ ap (λ (h : Holdings). h.list.items ++ (if g.listed then record { 0 = h.last_handle + 1 } ∷ [] else [])) same
 
-  list-more : new.list.items ≡ filter (λ (q : HandleNumber). not (and_one f.gone x.number.0 q.0)) w.list ++ map (λ (h : HandleRow). h.number) (f.entries ++ entries_of g.listed (t.last_handle + 1) x.node)
+  list-more : new.list.items ≡ filter (λ (q : HandleNumber). not (and_one f.gone x.number.0 q.0)) w.list ++ map (λ (h : HandleRow). h.number)
+      (f.entries ++ entries_of g.listed (t.last_handle + 1) x.node)
   list-more =
       let old = filter (λ (q : HandleNumber). not (f.gone q.0)) w.list in
       let numbers = map (λ (h : HandleRow). h.number) f.entries in
@@ -132,8 +147,10 @@ module _ (before w : Core) (given given' : ℕ → Bool) (lists : Bool) (t poppe
       omega arith
       ) in
       let kept : filter (λ (q : HandleNumber). not (and_one f.gone x.number.0 q.0)) w.list ≡ old = list-kept f.gone x.number.0 w.rows w.list (f.begins.listed x.number.0) none in
-      let entries : map (λ (h : HandleRow). h.number) (f.entries ++ entries_of g.listed (t.last_handle + 1) x.node) ≡ numbers ++ came = map-append (λ (h : HandleRow). h.number) f.entries (entries_of g.listed (t.last_handle + 1) x.node) ∙ ap (λ l. numbers ++ l) (entry-number g.listed (t.last_handle + 1) x.node) in
-      added ∙ ap (λ l. l ++ came) f.list ∙ append_assoc old numbers came ∙ ap (λ l. old ++ l) (sym entries) ∙ ap (λ l. l ++ map (λ (h : HandleRow). h.number) (f.entries ++ entries_of g.listed (t.last_handle + 1) x.node)) (sym kept)
+      let entries : map (λ (h : HandleRow). h.number) (f.entries ++ entries_of g.listed (t.last_handle + 1) x.node) ≡ numbers ++ came =
+      map-append (λ (h : HandleRow). h.number) f.entries (entries_of g.listed (t.last_handle + 1) x.node) ∙ ap (λ l. numbers ++ l) (entry-number g.listed (t.last_handle + 1) x.node) in
+      added ∙ ap (λ l. l ++ came) f.list ∙ append_assoc old numbers came ∙ ap (λ l. old ++ l) (sym entries)
+      ∙ ap (λ l. l ++ map (λ (h : HandleRow). h.number) (f.entries ++ entries_of g.listed (t.last_handle + 1) x.node)) (sym kept)
 
   room : HasPlaces popped new
   room =
@@ -177,7 +194,9 @@ module _ (before w : Core) (given given' : ℕ → Bool) (lists : Bool) (t poppe
       (let a = last in omega arith)
       (let a = ap length added in let b = length-append t.list.items came in omega arith)
 
-  pub one-goes : IsWithin w.rows given' (and_one f.gone x.number.0) → ((s : ℕ → Bool) (final : List HandleRow) → ((n : ℕ) → held n (live new.handles.places.items) ≡ 0 → held n final ≡ 0) → IsWithin w.rows given' s → IsClosed w.rows (is_keyed w) final s → IsWithin w.rows (and_one f.gone x.number.0) s) → SoFar before w given' lists new
+  pub one-goes : IsWithin w.rows given' (and_one f.gone x.number.0) → ((s : ℕ → Bool) (final : List HandleRow)
+      → ((n : ℕ) → held n (live new.handles.places.items) ≡ 0 → held n final ≡ 0) → IsWithin w.rows given' s → IsClosed w.rows (is_keyed w) final s
+      → IsWithin w.rows (and_one f.gone x.number.0) s) → SoFar before w given' lists new
   one-goes holds least =
       record {
         begins = f.begins;
@@ -185,9 +204,11 @@ module _ (before w : Core) (given given' : ℕ → Bool) (lists : Bool) (t poppe
         entries = f.entries ++ entries_of g.listed (t.last_handle + 1) x.node;
         rows = rows-more before w given lists t popped new stack x f g same no-entry;
         list = list-more;
-        last = let a = last in let b = f.last in let d = length-append f.entries (entries_of g.listed (t.last_handle + 1) x.node) in let e = long-one g.listed (t.last_handle + 1) x.node in omega arith;
+        last = let a = last in let b = f.last in let d = length-append f.entries (entries_of g.listed (t.last_handle + 1) x.node) in
+            let e = long-one g.listed (t.last_handle + 1) x.node in omega arith;
         within = subst (λ k. k ≤ greatest) (sym last) (within-more g.listed t.last_handle f.within (λ l. subst (λ k. k < greatest) since (g.leaves.lists.comes.left l)));
-        places = let a = room in let b = f.places in let d = ap (λ (h : Holdings). vec_capacity h.handles.places) same in let e = ap (λ (h : Holdings). vec_capacity h.list) same in record { handles = omega arith; entries = omega arith };
+        places = let a = room in let b = f.places in let d = ap (λ (h : Holdings). vec_capacity h.handles.places) same in let e = ap (λ (h : Holdings). vec_capacity h.list) same in
+            record { handles = omega arith; entries = omega arith };
         cells = λ n there. let s = g.cells n there in s.1 ∙ ap cell_in (counts n) ∙ f.cells n (sym (ap is_some (counts n)) ∙ s.0);
         holds = holds;
         least = least;

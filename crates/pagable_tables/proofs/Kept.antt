@@ -23,7 +23,8 @@ refusal-same w t new errors.NumbersSpent r = r
 refusal-same w t new errors.OutOfMemory r = r
 refusal-same w t new _ r = absurd r
 
-tells-same : (before w : Core) (entries : List HandleRow) (t new : Holdings) (r : Result (Unit {0}) Error) → TellsListing before w entries r (with_tables w t) → TellsListing before w entries r (with_tables w (record t { nodes = new.nodes; top = new.top }))
+tells-same : (before w : Core) (entries : List HandleRow) (t new : Holdings) (r : Result (Unit {0}) Error) → TellsListing before w entries r (with_tables w t)
+    → TellsListing before w entries r (with_tables w (record t { nodes = new.nodes; top = new.top }))
 tells-same before w entries t new (Ok u) tells = record { all = λ n m. tells.all n (must-back before w t new n m); not_all = tells.not_all }
 tells-same before w entries t new (Err e) tells = record { all = tells.all; not_all = let a = tells.not_all in (a.0, must-same before w t new a.0 a.1, a.2, refusal-same w t new e a.3) }
 

@@ -1,5 +1,5 @@
 -- A node gets a key: handles and nodes fit again.
-use Rattle.std.proofs.Common.{◌≡◌, ℕ, ◌+◌, ◌<◌, ◌≤◌, ◌==◌, ◌&&◌, ◌||◌, Bool, true, false, if◌then◌else◌, List, [], ◌∷◌, length, refl, ap, sym, ◌∙◌, subst, arith, inl, inr, Option, Some, None, zero, suc}
+use Rattle.std.proofs.Common.{◌≡◌, ℕ, ◌+◌, ◌<◌, ◌==◌, ◌&&◌, ◌||◌, Bool, true, false, if◌then◌else◌, List, [], ◌∷◌, refl, ap, sym, ◌∙◌, subst, arith, inl, inr, Option, Some, None, zero, suc}
 use Rattle.std.specs.Prelude.{◌≢◌, nat_lt, not}
 use Rattle.std.proofs.lemmas.Bool.{cases_eq}
 use Rattle.std.proofs.lemmas.Bool.Decides.{nat_tests}
@@ -29,7 +29,8 @@ pub key-top : (b : Bool) (n top : ℕ) → (if is_new false b then n else top) �
 key-top true n top = refl
 key-top false n top = refl
 
-module _ (at at' : ℕ → Option Counts) (refs refs' : ℕ → List ArcRef) (rows : List HandleRow) (top n : ℕ) (c : Counts) (key : ℕ) (fits : Fits at refs rows top [] owns_nothing) (is : at n ≡ Some c) (some : 0 < key)
+module _ (at at' : ℕ → Option Counts) (refs refs' : ℕ → List ArcRef) (rows : List HandleRow) (top n : ℕ) (c : Counts) (key : ℕ) (fits : Fits at refs rows top [] owns_nothing)
+    (is : at n ≡ Some c) (some : 0 < key)
     (here : at' n ≡ Some (keyed c key top)) (others : (m : ℕ) → m ≢ n → at' m ≡ at m) (same : (m : ℕ) → refs' m ≡ refs m) where
   -- what is told of the counts but by the key and the fall
   told : {X : Type 0} (f : Option Counts → X) → f (Some (keyed c key top)) ≡ f (Some c) → (m : ℕ) → f (at' m) ≡ f (at m)
@@ -80,7 +81,9 @@ module _ (at at' : ℕ → Option Counts) (refs refs' : ℕ → List ArcRef) (ro
   key-cells m = elim (cases_eq m n) [
     | inl eq ↦
         let g : cell_in (at' n) ≡ updated n (if_there (λ (cell : Cell). Some (record cell { key = optional.Some key })) None (cell_in (at n))) (λ k. cell_in (at k)) n =
-        ap cell_in here ∙ ap (λ k. Some (record { node_type = c.node_type; key = k })) (key-some key some) ∙ sym (updated-here n (if_there (λ (cell : Cell). Some (record cell { key = optional.Some key })) None (cell_in (at n))) (λ k. cell_in (at k)) ∙ ap (λ o. if_there (λ (cell : Cell). Some (record cell { key = optional.Some key })) None (cell_in o)) is) in
+        ap cell_in here ∙ ap (λ k. Some (record { node_type = c.node_type; key = k })) (key-some key some)
+        ∙ sym (updated-here n (if_there (λ (cell : Cell). Some (record cell { key = optional.Some key })) None (cell_in (at n))) (λ k. cell_in (at k))
+        ∙ ap (λ o. if_there (λ (cell : Cell). Some (record cell { key = optional.Some key })) None (cell_in o)) is) in
         subst (λ k. cell_in (at' k) ≡ updated n (if_there (λ (cell : Cell). Some (record cell { key = optional.Some key })) None (cell_in (at n))) (λ k. cell_in (at k)) k) (sym eq) g
     | inr other ↦ ap cell_in (others m other) ∙ sym (updated-other n (if_there (λ (cell : Cell). Some (record cell { key = optional.Some key })) None (cell_in (at n))) (λ k. cell_in (at k)) m other)
   ]

@@ -1,5 +1,5 @@
 -- A cell has got a key: nothing else has gone or come so far.
-use Rattle.std.proofs.Common.{◌≡◌, ℕ, ◌≤◌, Bool, not, refl, ap, sym, subst, arith, Option, None}
+use Rattle.std.proofs.Common.{◌≡◌, ℕ, Bool, not, refl, sym, subst, arith, Option, None}
 use Rattle.pagable_model.specs.declared.numbers.NodeNumber.{NodeNumber}
 use Rattle.pagable_world.specs.Plain.{Blob}
 use Rattle.pagable_world.specs.Calls.{with_key}
@@ -20,8 +20,10 @@ module _ (T : Tables) (stored : ℕ → Option Blob) (closed lists : Bool) (fail
   abbrev old : Core
   old = core_of T stored closed failures
 
-  pub keyed-on : new ≡ record T.holdings { unlisted = None; nodes = new.nodes; top = new.top } → GetsKey (counts_at T.holdings.nodes) (counts_at new.nodes) node.0 key → SoFar old (with_key old node key) nobody lists new
+  pub keyed-on : new ≡ record T.holdings { unlisted = None; nodes = new.nodes; top = new.top } → GetsKey (counts_at T.holdings.nodes) (counts_at new.nodes) node.0 key
+      → SoFar old (with_key old node key) nobody lists new
   keyed-on same cells =
       subst (SoFar old (with_key old node key) nobody lists) (sym same)
-      (begun old (with_key old node key) lists (record T.holdings { unlisted = None; nodes = new.nodes; top = new.top }) (keyed-begins old old node key lists (begins T stored closed lists failures whole opened)) refl refl refl whole.core.handles.within.0
+      (begun old (with_key old node key) lists (record T.holdings { unlisted = None; nodes = new.nodes; top = new.top })
+      (keyed-begins old old node key lists (begins T stored closed lists failures whole opened)) refl refl refl whole.core.handles.within.0
       (record { handles = omega arith; entries = omega arith }) cells refl (λ n must. let a = must.pinned in let b = must.unpinned in absurd (omega arith)))

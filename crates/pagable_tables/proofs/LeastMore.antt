@@ -17,7 +17,8 @@ use Rattle.pagable_tables.proofs.Leaving.{leaves-sums}
 use Rattle.pagable_tables.proofs.Forced.{forced}
 
 -- no handle comes where there was none
-pub none-comes : (old new : Holdings) (x : HandleRow) (wanted listed : Bool) (m : ℕ) → Leaves old x wanted listed new → held m (live old.handles.places.items) ≡ 0 → held m (live new.handles.places.items) ≡ 0
+pub none-comes : (old new : Holdings) (x : HandleRow) (wanted listed : Bool) (m : ℕ) → Leaves old x wanted listed new → held m (live old.handles.places.items) ≡ 0
+    → held m (live new.handles.places.items) ≡ 0
 none-comes old new x wanted true m leaves none = let a = leaves-sums old new x wanted true leaves (λ h. one (is_at m h)) in omega arith
 none-comes old new x wanted false m leaves none = let a = leaves-sums old new x wanted false leaves (λ h. one (is_at m h)) in omega arith
 
@@ -33,8 +34,10 @@ with-one gone s q rows is within =
     here : (r : ℕ) → one ((gone r || r == q) && not (s r)) ≤ one (gone r && not (s r))
     here r = grind (arith, nat_tests)
 
-least-leaves : (before w : Core) (given : ℕ → Bool) (lists : Bool) (t popped mid : Holdings) (x : HandleRow) (n : ℕ) (wanted listed : Bool) → popped.handles ≡ t.handles → Leaves popped x wanted listed mid → x.owner ≡ owner_value n → HasFallen (counts_at t.nodes) (live t.handles.places.items) n → (f : SoFar before w given lists t)
-    → (s : ℕ → Bool) (final : List HandleRow) → ((m : ℕ) → held m (live mid.handles.places.items) ≡ 0 → held m final ≡ 0) → IsWithin w.rows given s → IsClosed w.rows (is_keyed w) final s → IsWithin w.rows (and_one f.gone x.number.0) s
+least-leaves : (before w : Core) (given : ℕ → Bool) (lists : Bool) (t popped mid : Holdings) (x : HandleRow) (n : ℕ) (wanted listed : Bool) → popped.handles ≡ t.handles
+    → Leaves popped x wanted listed mid → x.owner ≡ owner_value n → HasFallen (counts_at t.nodes) (live t.handles.places.items) n → (f : SoFar before w given lists t)
+    → (s : ℕ → Bool) (final : List HandleRow) → ((m : ℕ) → held m (live mid.handles.places.items) ≡ 0 → held m final ≡ 0) → IsWithin w.rows given s
+    → IsClosed w.rows (is_keyed w) final s → IsWithin w.rows (and_one f.gone x.number.0) s
 least-leaves before w given lists t popped mid x n wanted listed same leaves owner down f s final bare has closed =
     let handles : live popped.handles.places.items ≡ live t.handles.places.items = ap (λ h. live h.places.items) same in
     let bare-before : (m : ℕ) → held m (live t.handles.places.items) ≡ 0 → held m final ≡ 0 = λ m none. bare m (none-comes popped mid x wanted listed m leaves (ap (held m) handles ∙ none)) in
@@ -46,8 +49,10 @@ least-leaves before w given lists t popped mid x n wanted listed same leaves own
 
 -- the least set, over the whole step
 pub least-more : (before w : Core) (given : ℕ → Bool) (lists : Bool) (t new : Holdings) (x : HandleRow) (n : ℕ) → (f : SoFar before w given lists t) → FallsBy t x n lists new
-    → (s : ℕ → Bool) (final : List HandleRow) → ((m : ℕ) → held m (live new.handles.places.items) ≡ 0 → held m final ≡ 0) → IsWithin w.rows given s → IsClosed w.rows (is_keyed w) final s → IsWithin w.rows (and_one f.gone x.number.0) s
+    → (s : ℕ → Bool) (final : List HandleRow) → ((m : ℕ) → held m (live new.handles.places.items) ≡ 0 → held m final ≡ 0) → IsWithin w.rows given s
+    → IsClosed w.rows (is_keyed w) final s → IsWithin w.rows (and_one f.gone x.number.0) s
 least-more before w given lists t new x n f by s final bare has closed =
     let g = by.gives in
     let kept : live new.handles.places.items ≡ live g.between.handles.places.items = ap (λ (h : Holdings). live h.handles.places.items) g.same in
-    least-leaves before w given lists t by.popped g.between x n (lists && is_listing g.counts x.mode) g.listed (ap (λ (h : Holdings). h.handles) by.same) g.leaves by.owner by.fallen f s final (λ m none. bare m (ap (held m) kept ∙ none)) has closed
+    least-leaves before w given lists t by.popped g.between x n (lists && is_listing g.counts x.mode) g.listed
+    (ap (λ (h : Holdings). h.handles) by.same) g.leaves by.owner by.fallen f s final (λ m none. bare m (ap (held m) kept ∙ none)) has closed

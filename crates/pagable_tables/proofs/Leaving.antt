@@ -8,7 +8,8 @@ use Rattle.pagable_tables.specs.declared.holdings.Holdings.{Holdings}
 use Rattle.pagable_tables.specs.Live.{live}
 use Rattle.pagable_tables.specs.Falling.{entry, entries_of, Leaves}
 
-pub with-entry : (f : HandleRow → ℕ) (rows : List HandleRow) (listed : Bool) (k : ℕ) (node : NodeNumber) → sum_by f (rows ++ entries_of listed k node) ≡ sum_by f rows + (if listed then f (entry k node) else 0)
+pub with-entry : (f : HandleRow → ℕ) (rows : List HandleRow) (listed : Bool) (k : ℕ) (node : NodeNumber)
+    → sum_by f (rows ++ entries_of listed k node) ≡ sum_by f rows + (if listed then f (entry k node) else 0)
 with-entry f rows true k node = sum_by_push f rows (entry k node)
 with-entry f rows false k node = let a = ap (sum_by f) (append-nil rows) in omega arith
 

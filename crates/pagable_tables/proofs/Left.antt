@@ -19,7 +19,8 @@ pub times-left : (f : HandleRow → Bool) (gone : ℕ → Bool) (rows : List Han
 times-left f gone [] = refl
 times-left f gone (x ∷ xs) = split (times-left f gone xs) (gone x.number.0) refl
   where
-    split : times f (left_rows gone xs) ≡ times (λ h. f h && not (gone h.number.0)) xs → (b : Bool) → gone x.number.0 ≡ b → times f (left_rows gone (x ∷ xs)) ≡ times (λ h. f h && not (gone h.number.0)) (x ∷ xs)
+    split : times f (left_rows gone xs) ≡ times (λ h. f h && not (gone h.number.0)) xs → (b : Bool) → gone x.number.0 ≡ b
+        → times f (left_rows gone (x ∷ xs)) ≡ times (λ h. f h && not (gone h.number.0)) (x ∷ xs)
     split rest true e =
         let a = sum_by-cons (λ h. one (f h && not (gone h.number.0))) x xs in
         let l : times f (left_rows gone (x ∷ xs)) ≡ times f (left_rows gone xs) = ap (λ b. times f (if not b then x ∷ left_rows gone xs else left_rows gone xs)) e in
@@ -56,20 +57,30 @@ pub left-more : (gone : ℕ → Bool) (q : ℕ) (rows : List HandleRow) → left
 left-more gone q [] = refl
 left-more gone q (x ∷ xs) = split (left-more gone q xs) (gone x.number.0) (x.number.0 == q) refl refl
   where
-    split : left_rows (λ r. r == q) (left_rows gone xs) ≡ left_rows (and_one gone q) xs → (a b : Bool) → gone x.number.0 ≡ a → (x.number.0 == q) ≡ b → left_rows (λ r. r == q) (left_rows gone (x ∷ xs)) ≡ left_rows (and_one gone q) (x ∷ xs)
+    split : left_rows (λ r. r == q) (left_rows gone xs) ≡ left_rows (and_one gone q) xs → (a b : Bool) → gone x.number.0 ≡ a → (x.number.0 == q) ≡ b
+        → left_rows (λ r. r == q) (left_rows gone (x ∷ xs)) ≡ left_rows (and_one gone q) (x ∷ xs)
     split rest true b e f =
-        let l : left_rows (λ r. r == q) (left_rows gone (x ∷ xs)) ≡ left_rows (λ r. r == q) (left_rows gone xs) = ap (λ b. left_rows (λ r. r == q) (if not b then x ∷ left_rows gone xs else left_rows gone xs)) e in
-        let r : left_rows (and_one gone q) (x ∷ xs) ≡ left_rows (and_one gone q) xs = ap (λ b. if not (b || x.number.0 == q) then x ∷ left_rows (and_one gone q) xs else left_rows (and_one gone q) xs) e in
+        let l : left_rows (λ r. r == q) (left_rows gone (x ∷ xs)) ≡ left_rows (λ r. r == q) (left_rows gone xs) =
+        ap (λ b. left_rows (λ r. r == q) (if not b then x ∷ left_rows gone xs else left_rows gone xs)) e in
+        let r : left_rows (and_one gone q) (x ∷ xs) ≡ left_rows (and_one gone q) xs = ap (λ b. if not (b || x.number.0 == q) then x ∷ left_rows (and_one gone q) xs else left_rows
+        (and_one gone q) xs) e in
         l ∙ rest ∙ sym r
     split rest false true e f =
-        let l : left_rows (λ r. r == q) (left_rows gone (x ∷ xs)) ≡ left_rows (λ r. r == q) (x ∷ left_rows gone xs) = ap (λ b. left_rows (λ r. r == q) (if not b then x ∷ left_rows gone xs else left_rows gone xs)) e in
-        let m : left_rows (λ r. r == q) (x ∷ left_rows gone xs) ≡ left_rows (λ r. r == q) (left_rows gone xs) = ap (λ b. if not b then x ∷ left_rows (λ r. r == q) (left_rows gone xs) else left_rows (λ r. r == q) (left_rows gone xs)) f in
-        let r : left_rows (and_one gone q) (x ∷ xs) ≡ left_rows (and_one gone q) xs = ap (λ b. if not (b || x.number.0 == q) then x ∷ left_rows (and_one gone q) xs else left_rows (and_one gone q) xs) e ∙ ap (λ b. if not b then x ∷ left_rows (and_one gone q) xs else left_rows (and_one gone q) xs) f in
+        let l : left_rows (λ r. r == q) (left_rows gone (x ∷ xs)) ≡ left_rows (λ r. r == q) (x ∷ left_rows gone xs) =
+        ap (λ b. left_rows (λ r. r == q) (if not b then x ∷ left_rows gone xs else left_rows gone xs)) e in
+        let m : left_rows (λ r. r == q) (x ∷ left_rows gone xs) ≡ left_rows (λ r. r == q) (left_rows gone xs) =
+        ap (λ b. if not b then x ∷ left_rows (λ r. r == q) (left_rows gone xs) else left_rows (λ r. r == q) (left_rows gone xs)) f in
+        let r : left_rows (and_one gone q) (x ∷ xs) ≡ left_rows (and_one gone q) xs = ap (λ b. if not (b || x.number.0 == q) then x ∷ left_rows (and_one gone q) xs else left_rows
+        (and_one gone q) xs) e ∙ ap (λ b. if not b then x ∷ left_rows (and_one gone q) xs else left_rows (and_one gone q) xs) f in
         l ∙ m ∙ rest ∙ sym r
     split rest false false e f =
-        let l : left_rows (λ r. r == q) (left_rows gone (x ∷ xs)) ≡ left_rows (λ r. r == q) (x ∷ left_rows gone xs) = ap (λ b. left_rows (λ r. r == q) (if not b then x ∷ left_rows gone xs else left_rows gone xs)) e in
-        let m : left_rows (λ r. r == q) (x ∷ left_rows gone xs) ≡ x ∷ left_rows (λ r. r == q) (left_rows gone xs) = ap (λ b. if not b then x ∷ left_rows (λ r. r == q) (left_rows gone xs) else left_rows (λ r. r == q) (left_rows gone xs)) f in
-        let r : left_rows (and_one gone q) (x ∷ xs) ≡ x ∷ left_rows (and_one gone q) xs = ap (λ b. if not (b || x.number.0 == q) then x ∷ left_rows (and_one gone q) xs else left_rows (and_one gone q) xs) e ∙ ap (λ b. if not b then x ∷ left_rows (and_one gone q) xs else left_rows (and_one gone q) xs) f in
+        let l : left_rows (λ r. r == q) (left_rows gone (x ∷ xs)) ≡ left_rows (λ r. r == q) (x ∷ left_rows gone xs) =
+        ap (λ b. left_rows (λ r. r == q) (if not b then x ∷ left_rows gone xs else left_rows gone xs)) e in
+        let m : left_rows (λ r. r == q) (x ∷ left_rows gone xs) ≡ x ∷ left_rows (λ r. r == q) (left_rows gone xs) =
+        ap (λ b. if not b then x ∷ left_rows (λ r. r == q) (left_rows gone xs) else left_rows (λ r. r == q) (left_rows gone xs)) f in
+        let r : left_rows (and_one gone q) (x ∷ xs) ≡ x ∷ left_rows (and_one gone q) xs = ap
+        (λ b. if not (b || x.number.0 == q) then x ∷ left_rows (and_one gone q) xs else left_rows (and_one gone q) xs) e
+        ∙ ap (λ b. if not b then x ∷ left_rows (and_one gone q) xs else left_rows (and_one gone q) xs) f in
         l ∙ m ∙ ap (λ r. x ∷ r) rest ∙ sym r
 
 -- a handle that isn't there can go
@@ -91,21 +102,24 @@ all-kept [] = refl
 all-kept (x ∷ xs) = ap (λ r. x ∷ r) (all-kept xs)
 
 -- nor is it in the list
-pub kept-more : (gone : ℕ → Bool) (q : ℕ) (list : List HandleNumber) → times (λ (h : HandleNumber). h.0 == q) list ≡ 0 → filter (λ (h : HandleNumber). not (and_one gone q h.0)) list ≡ filter (λ (h : HandleNumber). not (gone h.0)) list
+pub kept-more : (gone : ℕ → Bool) (q : ℕ) (list : List HandleNumber) → times (λ (h : HandleNumber). h.0 == q) list ≡ 0
+    → filter (λ (h : HandleNumber). not (and_one gone q h.0)) list ≡ filter (λ (h : HandleNumber). not (gone h.0)) list
 kept-more gone q [] none = refl
 kept-more gone q (x ∷ xs) none =
     let a = sum_by-cons (λ (h : HandleNumber). one (h.0 == q)) x xs in
     let e : (x.0 == q) ≡ false = grind (arith, nat_tests) in
     let rest = kept-more gone q xs (omega arith) in
     let same : not (and_one gone q x.0) ≡ not (gone x.0) = ap (λ b. not (gone x.0 || b)) e ∙ ap not (or-false (gone x.0)) in
-    ap (λ b. if b then x ∷ filter (λ (h : HandleNumber). not (and_one gone q h.0)) xs else filter (λ (h : HandleNumber). not (and_one gone q h.0)) xs) same ∙ ap (λ r. if not (gone x.0) then x ∷ r else r) rest
+    ap (λ b. if b then x ∷ filter (λ (h : HandleNumber). not (and_one gone q h.0)) xs else filter (λ (h : HandleNumber). not (and_one gone q h.0)) xs) same
+    ∙ ap (λ r. if not (gone x.0) then x ∷ r else r) rest
   where
     or-false : (b : Bool) → (b || false) ≡ b
     or-false true = refl
     or-false false = refl
 
 -- new entries pin nothing, and only the list owns them
-pub entries-none : (f : HandleRow → Bool) → ((h : HandleRow) → h.mode ≡ modes.LooseUnpinned → h.owner ≡ owners.List → f h ≡ false) → (last : ℕ) (entries : List HandleRow) → AreNewEntries last entries → times f entries ≡ 0
+pub entries-none : (f : HandleRow → Bool) → ((h : HandleRow) → h.mode ≡ modes.LooseUnpinned → h.owner ≡ owners.List → f h ≡ false) → (last : ℕ) (entries : List HandleRow)
+    → AreNewEntries last entries → times f entries ≡ 0
 entries-none f none last [] e = refl
 entries-none f none last (x ∷ xs) e =
     let a = sum_by-cons (λ h. one (f h)) x xs in
@@ -113,6 +127,7 @@ entries-none f none last (x ∷ xs) e =
     let rest = entries-none f none (last + 1) xs e.3 in
     omega arith
 
-pub entries-more : (last : ℕ) (entries : List HandleRow) (x : HandleRow) → AreNewEntries last entries → x.number.0 ≡ last + length entries + 1 → x.mode ≡ modes.LooseUnpinned → x.owner ≡ owners.List → AreNewEntries last (entries ++ x ∷ [])
+pub entries-more : (last : ℕ) (entries : List HandleRow) (x : HandleRow) → AreNewEntries last entries → x.number.0 ≡ last + length entries + 1 → x.mode ≡ modes.LooseUnpinned
+    → x.owner ≡ owners.List → AreNewEntries last (entries ++ x ∷ [])
 entries-more last [] x e number mode owner = (omega arith, mode, owner, tt)
 entries-more last (y ∷ ys) x e number mode owner = (e.0, e.1, e.2, entries-more (last + 1) ys x e.3 (omega arith) mode owner)

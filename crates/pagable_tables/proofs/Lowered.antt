@@ -26,13 +26,17 @@ cell-there None = refl
 cell-there (Some c) = refl
 
 -- one that is pinned no more falls only if it has a key
-pub keyed-then : (c : Counts) (listed : Bool) → 1 ≤ c.holds → is_fallen_by (record c { holds = c.holds + 1 }) true (c.pins - 1) (if listed then c.holds + 1 else c.holds + 1 - 1) ≡ true → nat_lt 0 c.key ≡ true
+pub keyed-then : (c : Counts) (listed : Bool) → 1 ≤ c.holds → is_fallen_by (record c { holds = c.holds + 1 }) true (c.pins - 1) (if listed then c.holds + 1 else c.holds + 1 - 1)
+    ≡ true → nat_lt 0 c.key ≡ true
 keyed-then c true some e = grind (arith, nat_tests)
 keyed-then c false some e = grind (arith, nat_tests)
 
-module _ (at at' : ℕ → Option Counts) (refs refs' : ℕ → List ArcRef) (rows rows' : List HandleRow) (top : ℕ) (x : HandleRow) (c : Counts) (listed : Bool) (k : ℕ) (fits : Fits at refs rows top [] owns_nothing) (is : at x.node.0 ≡ Some c)
-    (pinned : x.mode ≡ modes.LoosePinned) (plain : is_valued x.owner ≡ false) (sums : (f : HandleRow → ℕ) → sum_by f rows' + f x ≡ sum_by f rows + f (unpinned x) + (if listed then f (entry k x.node) else 0))
-    (here : at' x.node.0 ≡ Some (after (record c { holds = c.holds + 1 }) true listed top)) (others : (n : ℕ) → n ≢ x.node.0 → at' n ≡ at n) (same : (n : ℕ) → refs' n ≡ refs n) (some : 1 ≤ c.pins) where
+module _ (at at' : ℕ → Option Counts) (refs refs' : ℕ → List ArcRef) (rows rows' : List HandleRow) (top : ℕ) (x : HandleRow) (c : Counts) (listed : Bool) (k : ℕ)
+    (fits : Fits at refs rows top [] owns_nothing) (is : at x.node.0 ≡ Some c)
+    (pinned : x.mode ≡ modes.LoosePinned) (plain : is_valued x.owner ≡ false) (sums : (f : HandleRow → ℕ)
+    → sum_by f rows' + f x ≡ sum_by f rows + f (unpinned x) + (if listed then f (entry k x.node) else 0))
+    (here : at' x.node.0 ≡ Some (after (record c { holds = c.holds + 1 }) true listed top)) (others : (n : ℕ) → n ≢ x.node.0 → at' n ≡ at n) (same : (n : ℕ) → refs' n ≡ refs n)
+    (some : 1 ≤ c.pins) where
   abbrev beside : Counts
   beside = record c { pins = c.pins + one false; holds = c.holds + 1 }
 
@@ -54,13 +58,19 @@ module _ (at at' : ℕ → Option Counts) (refs refs' : ℕ → List ArcRef) (ro
   mid-others : (n : ℕ) → n ≢ x.node.0 → at' n ≡ mid n
   mid-others n other = others n other ∙ sym (updated-other x.node.0 (Some beside) at n other)
 
-  pub lower-fits : (b : Bool) → is_fallen_by (record c { holds = c.holds + 1 }) true (c.pins - 1) (if listed then c.holds + 1 else c.holds + 1 - 1) ≡ b → Fits at' refs' rows' (if b then x.node.0 else top) (if b then x.node.0 ∷ [] else []) owns_nothing
+  pub lower-fits : (b : Bool) → is_fallen_by (record c { holds = c.holds + 1 }) true (c.pins - 1) (if listed then c.holds + 1 else c.holds + 1 - 1) ≡ b
+      → Fits at' refs' rows' (if b then x.node.0 else top) (if b then x.node.0 ∷ [] else []) owns_nothing
   lower-fits b e =
-      given-fits mid at' refs refs' (rows ++ unpinned x ∷ []) rows' top [] x (record c { holds = c.holds + 1 }) listed k (fits-unowned mid refs (rows ++ unpinned x ∷ []) top [] x plain mid-fits) mid-is mid-sums mid-here mid-others same
-      (subst (λ m. one (is_pinning m) ≤ c.pins) (sym pinned) some) (omega arith) b (ap (λ m. is_fallen_by (record c { holds = c.holds + 1 }) (is_pinning m) (c.pins - one (is_pinning m)) (if listed then c.holds + 1 else c.holds + 1 - 1)) pinned ∙ e)
+      given-fits mid at' refs refs' (rows ++ unpinned x ∷ []) rows' top [] x (record c { holds = c.holds + 1 }) listed k
+      (fits-unowned mid refs (rows ++ unpinned x ∷ []) top [] x plain mid-fits) mid-is mid-sums mid-here mid-others same
+      (subst (λ m. one (is_pinning m) ≤ c.pins) (sym pinned) some) (omega arith) b (ap (λ m. is_fallen_by (record c { holds = c.holds + 1 }) (is_pinning m)
+      (c.pins - one (is_pinning m)) (if listed then c.holds + 1 else c.holds + 1 - 1)) pinned ∙ e)
 
   pub lower-cells : CellsStay at at'
   lower-cells n there =
-      let s = given-cells mid at' refs refs' (rows ++ unpinned x ∷ []) rows' top [] x (record c { holds = c.holds + 1 }) listed k (fits-unowned mid refs (rows ++ unpinned x ∷ []) top [] x plain mid-fits) mid-is mid-sums mid-here mid-others same (subst (λ m. one (is_pinning m) ≤ c.pins) (sym pinned) some) (omega arith) n there in
-      let cells : cell_in (mid n) ≡ cell_in (at n) = come-cells at mid refs refs rows top (unpinned x) c fits is (updated-here x.node.0 (Some beside) at) (updated-other x.node.0 (Some beside) at) (λ n. refl) plain n in
+      let s = given-cells mid at' refs refs' (rows ++ unpinned x ∷ []) rows' top [] x (record c { holds = c.holds + 1 }) listed k
+      (fits-unowned mid refs (rows ++ unpinned x ∷ []) top [] x plain mid-fits) mid-is mid-sums mid-here mid-others same
+      (subst (λ m. one (is_pinning m) ≤ c.pins) (sym pinned) some) (omega arith) n there in
+      let cells : cell_in (mid n) ≡ cell_in (at n) = come-cells at mid refs refs rows top (unpinned x) c fits is (updated-here x.node.0 (Some beside) at)
+      (updated-other x.node.0 (Some beside) at) (λ n. refl) plain n in
       (sym (cell-there (at n)) ∙ sym (ap is_some cells) ∙ cell-there (mid n) ∙ s.0, s.1 ∙ cells)

@@ -22,7 +22,7 @@ use Rattle.pagable_tables.proofs.LeastMore.{least-more, none-comes}
 use Rattle.pagable_tables.proofs.Going.{one-goes}
 
 -- one handle more on both sides, or on the right
-within-less : (a b c d : ℕ → Bool) (rows : List HandleRow) → ((r : ℕ) → one (a r && not (b r)) ≤ one (c r && not (d r))) → IsWithin rows c d → IsWithin rows a b
+pub within-less : (a b c d : ℕ → Bool) (rows : List HandleRow) → ((r : ℕ) → one (a r && not (b r)) ≤ one (c r && not (d r))) → IsWithin rows c d → IsWithin rows a b
 within-less a b c d rows less is =
     let e = sum_by-le-sum_by (λ h. one (a h.number.0 && not (b h.number.0))) (λ h. one (c h.number.0 && not (d h.number.0))) rows (λ h. less h.number.0) in
     omega arith
@@ -41,7 +41,8 @@ within-both gone given s q (x ∷ xs) a b =
     bits g v r s = grind (arith, nat_tests)
 
 -- one step of a cascade
-pub steps-on : (before w : Core) (given : ℕ → Bool) (lists : Bool) (t new : Holdings) (stack : List ℕ) (r : Option NodeNumber) → SoFar before w given lists t → IsFalling t stack owns_nothing → t.top ≢ 0 → Steps t stack lists r new → SoFar before w given lists new
+pub steps-on : (before w : Core) (given : ℕ → Bool) (lists : Bool) (t new : Holdings) (stack : List ℕ) (r : Option NodeNumber) → SoFar before w given lists t
+    → IsFalling t stack owns_nothing → t.top ≢ 0 → Steps t stack lists r new → SoFar before w given lists new
 steps-on before w given lists t new stack r f falling some s =
     elim s.what [
       | inl done ↦ settled before w given lists t new f s.cells some done.1
@@ -58,12 +59,15 @@ steps-on before w given lists t new stack r f falling some s =
         (least-more before w given lists t new x n f by)
 
 -- a handle is given
-pub gives-on : (before w : Core) (given : ℕ → Bool) (lists : Bool) (t new : Holdings) (stack : List ℕ) (x : HandleRow) → SoFar before w given lists t → ((n : ℕ) → pins_in (counts_at t.nodes n) ≡ pins n (live t.handles.places.items)) → is_owned_by owners.List x ≡ false → length (live t.handles.places.items) ≤ length w.rows
+pub gives-on : (before w : Core) (given : ℕ → Bool) (lists : Bool) (t new : Holdings) (stack : List ℕ) (x : HandleRow) → SoFar before w given lists t
+    → ((n : ℕ) → pins_in (counts_at t.nodes n) ≡ pins n (live t.handles.places.items)) → is_owned_by owners.List x ≡ false → length (live t.handles.places.items) ≤ length w.rows
     → GivesUp t stack x lists new → SoFar before w (and_one given x.number.0) lists new
 gives-on before w given lists t new stack x f pinned owner few g =
     one-goes before w given (and_one given x.number.0) lists t t new stack x f g refl (λ n. refl) pinned owner few
     (within-less (and_one given x.number.0) (and_one f.gone x.number.0) given f.gone w.rows (λ r. grind (arith, nat_tests)) f.holds)
-    (λ s final bare has closed. within-both f.gone given s x.number.0 w.rows (f.least s final (λ n none. bare n (ap (held n) after ∙ none-comes t g.between x (lists && is_listing g.counts x.mode) g.listed n g.leaves none)) (within-less given s (and_one given x.number.0) s w.rows (λ r. grind (arith, nat_tests)) has) closed) has)
+    (λ s final bare has closed. within-both f.gone given s x.number.0 w.rows (f.least s final
+    (λ n none. bare n (ap (held n) after ∙ none-comes t g.between x (lists && is_listing g.counts x.mode) g.listed n g.leaves none))
+    (within-less given s (and_one given x.number.0) s w.rows (λ r. grind (arith, nat_tests)) has) closed) has)
   where
     after : live new.handles.places.items ≡ live g.between.handles.places.items
     after = ap (λ (h : Holdings). live h.handles.places.items) g.same

@@ -46,7 +46,8 @@ none-of p q (x ∷ xs) =
     bits true false = refl
     bits false b = refl
 
-pub none-listed : (old new : Holdings) (x : HandleRow) (wanted listed : Bool) → Leaves old x wanted listed new → is_owned_by owners.List x ≡ false → times (of_list x.number.0) (live old.handles.places.items) ≡ 0
+pub none-listed : (old new : Holdings) (x : HandleRow) (wanted listed : Bool) → Leaves old x wanted listed new → is_owned_by owners.List x ≡ false
+    → times (of_list x.number.0) (live old.handles.places.items) ≡ 0
 none-listed old new x wanted listed leaves owner =
     let a = leaves.sums (λ h. one (of_list x.number.0 h)) in
     let b = ap (times (of_list x.number.0)) leaves.rows in

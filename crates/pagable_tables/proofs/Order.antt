@@ -23,7 +23,8 @@ split_more : (k m : ℕ) → m ≤ k → (m < k) ⊎ (k ≡ m)
 split_more k m h = grind arith
 
 -- all rows from a greater one on are greater
-pub greater-from : {A : Type 0} (f : A → ℕ) (xs : List A) (m q : ℕ) (e : A) → AllPairs (λ a b. f a < f b) xs → m < length xs → q ≤ f (get_or xs m e) → (f (get_or xs m e) ≡ q → ⊥) → (k : ℕ) (d : A) → m ≤ k → k < length xs → q < f (get_or xs k d)
+pub greater-from : {A : Type 0} (f : A → ℕ) (xs : List A) (m q : ℕ) (e : A) → AllPairs (λ a b. f a < f b) xs → m < length xs → q ≤ f (get_or xs m e) → (f (get_or xs m e) ≡ q → ⊥)
+    → (k : ℕ) (d : A) → m ≤ k → k < length xs → q < f (get_or xs k d)
 greater-from f xs m q e ordered lt more other k d h within =
     let at : f (get_or xs m e) ≡ f (get_or xs m d) = ap f (get_or_default xs m e d lt) in
     elim (split_more k m h) [
@@ -35,7 +36,8 @@ le_or_lt : (a b : ℕ) → (a ≤ b) ⊎ (b < a)
 le_or_lt a b = grind arith
 
 -- what is smaller below a place and greater from one that isn't above it on has the number nowhere
-pub outside : {A : Type 0} (f : A → ℕ) (xs : List A) (q low high : ℕ) → high ≤ low → ((k : ℕ) (d : A) → k < low → f (get_or xs k d) < q) → ((k : ℕ) (d : A) → high ≤ k → k < length xs → q < f (get_or xs k d)) → (k : ℕ) (d : A) → k < length xs → (f (get_or xs k d) ≡ q → ⊥)
+pub outside : {A : Type 0} (f : A → ℕ) (xs : List A) (q low high : ℕ) → high ≤ low → ((k : ℕ) (d : A) → k < low → f (get_or xs k d) < q)
+    → ((k : ℕ) (d : A) → high ≤ k → k < length xs → q < f (get_or xs k d)) → (k : ℕ) (d : A) → k < length xs → (f (get_or xs k d) ≡ q → ⊥)
 outside f xs q low high meet below above k d lt e =
     elim (le_or_lt high k) [ inl from ↦ let a = above k d from lt in absurd (omega arith) | inr before ↦ let b = below k d (omega arith) in absurd (omega arith) ]
 
@@ -56,5 +58,6 @@ rises-set f xs i x y ordered at same j k d less within =
     let c = ordered j k d less lt in
     omega arith
 
-pub greater-from-row : {A : Type 0} (f : A → ℕ) (xs : List A) (m q : ℕ) (x : A) → AllPairs (λ a b. f a < f b) xs → m < length xs → x ≡ get_or xs m x → q ≤ f x → (f x ≡ q → ⊥) → (k : ℕ) (d : A) → m ≤ k → k < length xs → q < f (get_or xs k d)
+pub greater-from-row : {A : Type 0} (f : A → ℕ) (xs : List A) (m q : ℕ) (x : A) → AllPairs (λ a b. f a < f b) xs → m < length xs → x ≡ get_or xs m x → q ≤ f x → (f x ≡ q → ⊥)
+    → (k : ℕ) (d : A) → m ≤ k → k < length xs → q < f (get_or xs k d)
 greater-from-row f xs m q x ordered lt e more other = let is = ap f e in greater-from f xs m q x ordered lt (omega arith) (λ s. other (is ∙ s))

@@ -13,18 +13,22 @@ use Rattle.pagable_tables.specs.Falling.{entries_of, is_listing, Leaves, GivesUp
 use Rattle.pagable_tables.specs.Onward.{SoFar}
 use Rattle.pagable_tables.proofs.Left.{and_one, left-more, left-none}
 
-rows-leaves : (rows entries : List HandleRow) (gone : ℕ → Bool) (old new : Holdings) (x : HandleRow) (wanted listed : Bool) → Leaves old x wanted listed new → live old.handles.places.items ≡ left_rows gone rows ++ entries → times (is_handle x.number.0) entries ≡ 0
+rows-leaves : (rows entries : List HandleRow) (gone : ℕ → Bool) (old new : Holdings) (x : HandleRow) (wanted listed : Bool) → Leaves old x wanted listed new
+    → live old.handles.places.items ≡ left_rows gone rows ++ entries → times (is_handle x.number.0) entries ≡ 0
     → live new.handles.places.items ≡ left_rows (and_one gone x.number.0) rows ++ (entries ++ entries_of listed (old.last_handle + 1) x.node)
 rows-leaves rows entries gone old new x wanted listed leaves is none =
     let last : leaves.between.last_handle ≡ old.last_handle = ap (λ (t : Holdings). t.last_handle) leaves.same in
     let split : left_rows (only_handle x.number) (left_rows gone rows ++ entries) ≡ left_rows (only_handle x.number) (left_rows gone rows) ++ left_rows (only_handle x.number) entries =
     filter-append (λ (h : HandleRow). not (only_handle x.number h.number.0)) (left_rows gone rows) entries in
     let left : live leaves.between.handles.places.items ≡ left_rows (and_one gone x.number.0) rows ++ entries =
-    leaves.rows ∙ ap (left_rows (only_handle x.number)) is ∙ split ∙ ap (λ r. r ++ left_rows (only_handle x.number) entries) (left-more gone x.number.0 rows) ∙ ap (λ r. left_rows (and_one gone x.number.0) rows ++ r) (left-none x.number.0 entries none) in
-    leaves.lists.comes.rows ∙ ap (λ r. r ++ entries_of listed (leaves.between.last_handle + 1) x.node) left ∙ ap (λ k. (left_rows (and_one gone x.number.0) rows ++ entries) ++ entries_of listed (k + 1) x.node) last
+    leaves.rows ∙ ap (left_rows (only_handle x.number)) is ∙ split ∙ ap (λ r. r ++ left_rows (only_handle x.number) entries) (left-more gone x.number.0 rows)
+    ∙ ap (λ r. left_rows (and_one gone x.number.0) rows ++ r) (left-none x.number.0 entries none) in
+    leaves.lists.comes.rows ∙ ap (λ r. r ++ entries_of listed (leaves.between.last_handle + 1) x.node) left
+    ∙ ap (λ k. (left_rows (and_one gone x.number.0) rows ++ entries) ++ entries_of listed (k + 1) x.node) last
     ∙ append_assoc (left_rows (and_one gone x.number.0) rows) entries (entries_of listed (old.last_handle + 1) x.node)
 
-pub rows-more : (before w : Core) (given : ℕ → Bool) (lists : Bool) (t popped new : Holdings) (stack : List ℕ) (x : HandleRow) (f : SoFar before w given lists t) (g : GivesUp popped stack x lists new) → popped ≡ record t { nodes = popped.nodes } → times (is_handle x.number.0) f.entries ≡ 0
+pub rows-more : (before w : Core) (given : ℕ → Bool) (lists : Bool) (t popped new : Holdings) (stack : List ℕ) (x : HandleRow) (f : SoFar before w given lists t)
+    (g : GivesUp popped stack x lists new) → popped ≡ record t { nodes = popped.nodes } → times (is_handle x.number.0) f.entries ≡ 0
     → live new.handles.places.items ≡ left_rows (and_one f.gone x.number.0) w.rows ++ (f.entries ++ entries_of g.listed (t.last_handle + 1) x.node)
 rows-more before w given lists t popped new stack x f g same none =
     let last : popped.last_handle ≡ t.last_handle = ap (λ (h : Holdings). h.last_handle) same in

@@ -23,7 +23,8 @@ pub none-falls : (t : Holdings) (stack : List ℕ) → IsFalling t stack owns_no
 none-falls t [] w z = w
 none-falls t (n ∷ ns) w z =
     let top : t.top ≡ n = w.fits.chain.0 in
-    let f : Fits (counts_at t.nodes) (refs_at t.nodes) (live t.handles.places.items) n (n ∷ ns) owns_nothing = subst (λ m. Fits (counts_at t.nodes) (refs_at t.nodes) (live t.handles.places.items) m (n ∷ ns) owns_nothing) top w.fits in
+    let f : Fits (counts_at t.nodes) (refs_at t.nodes) (live t.handles.places.items) n (n ∷ ns) owns_nothing =
+    subst (λ m. Fits (counts_at t.nodes) (refs_at t.nodes) (live t.handles.places.items) m (n ∷ ns) owns_nothing) top w.fits in
     let waits = first-waits (counts_at t.nodes) (refs_at t.nodes) (live t.handles.places.items) n ns owns_nothing f in
     let zero' : n ≡ 0 = sym top ∙ z in
     absurd (let a : falls_in (counts_at t.nodes n) ≡ false = ap (λ k. falls_in (counts_at t.nodes k)) zero' ∙ ap falls_in f.from_one in cc)

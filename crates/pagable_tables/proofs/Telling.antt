@@ -21,13 +21,15 @@ use Rattle.pagable_tables.proofs.Leaving.{with-entry}
 use Rattle.pagable_tables.proofs.Wanted.{listing-is, must-now, must-before}
 
 -- a cause stays
-refusal-kept : (w : Core) (t new : Holdings) (e : Error) → IsListRefusal w (with_tables w t) e → t.last_handle ≤ new.last_handle → length t.list.items ≤ length new.list.items → IsListRefusal w (with_tables w new) e
+refusal-kept : (w : Core) (t new : Holdings) (e : Error) → IsListRefusal w (with_tables w t) e → t.last_handle ≤ new.last_handle → length t.list.items ≤ length new.list.items
+    → IsListRefusal w (with_tables w new) e
 refusal-kept w t new errors.NumbersSpent r last list = omega arith
 refusal-kept w t new errors.OutOfMemory r last list = (elim r.0 [ inl rows ↦ inl rows | inr entries ↦ inr (omega arith) ], r.1)
 refusal-kept w t new _ r last list = absurd r
 
 -- why an entry couldn't come now
-pub refusal-now : (w : Core) (b new : Holdings) (e : Error) → IsUnlisted b e → new.last_handle ≡ b.last_handle → length b.list.items ≤ length new.list.items → w.last.handle ≤ b.last_handle → w.places.handles ≤ vec_capacity b.handles.places → w.places.entries ≤ vec_capacity b.list
+pub refusal-now : (w : Core) (b new : Holdings) (e : Error) → IsUnlisted b e → new.last_handle ≡ b.last_handle → length b.list.items ≤ length new.list.items
+    → w.last.handle ≤ b.last_handle → w.places.handles ≤ vec_capacity b.handles.places → w.places.entries ≤ vec_capacity b.list
     → length (live b.handles.places.items) ≤ length w.rows → IsListRefusal w (with_tables w new) e
 refusal-now w b new errors.NumbersSpent why last list since handles entries rows = omega arith
 refusal-now w b new errors.OutOfMemory why last list since handles entries rows = (elim why.1 [ inl full ↦ inl (omega arith) | inr full ↦ inr (omega arith) ], omega arith)
@@ -43,13 +45,20 @@ which true wanted = inl (inl refl)
 which false true = inr (refl, refl)
 which false false = inl (inr refl)
 
-module _ (before w : Core) (given : ℕ → Bool) (lists : Bool) (t : Holdings) (f : SoFar before w given lists t) (x : HandleRow) (c : Counts) (is : counts_at t.nodes x.node.0 ≡ Some c) (pinned : pins_in (counts_at t.nodes x.node.0) ≡ pins x.node.0 (live t.handles.places.items))
-    (here : (p : HandleRow → Bool) → one (p x) ≤ times p (live t.handles.places.items)) (new : Holdings) (left : (n : ℕ) → pins n (live new.handles.places.items) + one (is_pin n x) ≡ pins n (live t.handles.places.items)) (listed : Bool) (k : ℕ) (only : listed ≡ true → (lists && is_listing c x.mode) ≡ true) where
+module _ (before w : Core) (given : ℕ → Bool) (lists : Bool) (t : Holdings) (f : SoFar before w given lists t) (x : HandleRow) (c : Counts)
+    (is : counts_at t.nodes x.node.0 ≡ Some c) (pinned : pins_in (counts_at t.nodes x.node.0) ≡ pins x.node.0 (live t.handles.places.items))
+    (here : (p : HandleRow → Bool) → one (p x) ≤ times p (live t.handles.places.items)) (new : Holdings)
+    (left : (n : ℕ) → pins n (live new.handles.places.items) + one (is_pin n x) ≡ pins n (live t.handles.places.items)) (listed : Bool) (k : ℕ)
+    (only : listed ≡ true → (lists && is_listing c x.mode) ≡ true) where
   one-pin : (lists && is_listing c x.mode) ≡ true → pins x.node.0 (live t.handles.places.items) ≡ 1
   one-pin wanted = sym pinned ∙ ap pins_in is ∙ (listing-is c x.mode (and_parts lists (is_listing c x.mode) wanted).1).2
 
   none-held : (lists && is_listing c x.mode) ≡ true → held x.node.0 f.entries ≡ 0
-  none-held wanted = elim (cases_eq (held x.node.0 f.entries) 0) [ inl z ↦ z | inr some ↦ let m = (f.only x.node.0 (omega arith)).0 in let a = m.unpinned in let b = one-pin wanted in absurd (omega arith) ]
+  none-held wanted = elim (cases_eq (held x.node.0 f.entries) 0) [
+    | inl z ↦ z
+    | inr some ↦ let m = (f.only x.node.0 (omega arith)).0 in let a = m.unpinned in
+        let b = one-pin wanted in absurd (omega arith)
+  ]
 
   new-must : (lists && is_listing c x.mode) ≡ true → MustList before w (with_tables w new) x.node.0
   new-must wanted =
@@ -82,7 +91,8 @@ module _ (before w : Core) (given : ℕ → Bool) (lists : Bool) (t : Holdings) 
         | inr there ↦ let o = f.only n (omega arith) in let z = other n o.0.unpinned in let e = o.1 in (must-kept n o.0, omega arith)
       ]
 
-  all-more : ((n : ℕ) → MustList before w (with_tables w t) n → held n f.entries ≡ 1) → (listed ≡ false → (lists && is_listing c x.mode) ≡ true → ⊥) → (n : ℕ) → MustList before w (with_tables w new) n → held n (f.entries ++ entries_of listed k x.node) ≡ 1
+  all-more : ((n : ℕ) → MustList before w (with_tables w t) n → held n f.entries ≡ 1) → (listed ≡ false → (lists && is_listing c x.mode) ≡ true → ⊥) → (n : ℕ)
+      → MustList before w (with_tables w new) n → held n (f.entries ++ entries_of listed k x.node) ≡ 1
   all-more all comes n must =
       let more = with-entry (λ h. one (is_at n h)) f.entries listed k x.node in
       elim (must-before before w given lists t f x c new n is pinned here (left n) must) [
@@ -101,19 +111,24 @@ module _ (before w : Core) (given : ℕ → Bool) (lists : Bool) (t : Holdings) 
 
   -- the first cause is told
   pub tells-more : (u u' : Option Error) (b : Holdings) → TellsListing before w f.entries (told_by u) (with_tables w t) → ((listed ≡ true) ⊎ ((lists && is_listing c x.mode) ≡ false) → u' ≡ u)
-      → (listed ≡ false → (lists && is_listing c x.mode) ≡ true → (e : Error) × IsUnlisted b e × (u' ≡ first_cause u e)) → ((e : Error) → listed ≡ false → IsUnlisted b e → IsListRefusal w (with_tables w new) e)
+      → (listed ≡ false → (lists && is_listing c x.mode) ≡ true → (e : Error) × IsUnlisted b e × (u' ≡ first_cause u e))
+      → ((e : Error) → listed ≡ false → IsUnlisted b e → IsListRefusal w (with_tables w new) e)
       → t.last_handle ≤ new.last_handle → length t.list.items ≤ length new.list.items → TellsListing before w (f.entries ++ entries_of listed k x.node) (told_by u') (with_tables w new)
   tells-more (Some e) u' b tells same why now last list =
-      subst (λ v. TellsListing before w (f.entries ++ entries_of listed k x.node) (told_by v) (with_tables w new)) (sym (elim (which listed (lists && is_listing c x.mode)) [ inl s ↦ same s | inr n ↦ (why n.0 n.1).2 ])) (record { all = tt; not_all = kept })
+      subst (λ v. TellsListing before w (f.entries ++ entries_of listed k x.node) (told_by v) (with_tables w new))
+      (sym (elim (which listed (lists && is_listing c x.mode)) [ inl s ↦ same s | inr n ↦ (why n.0 n.1).2 ])) (record { all = tt; not_all = kept })
     where
       kept : (n : ℕ) × MustList before w (with_tables w new) n × (held n (f.entries ++ entries_of listed k x.node) ≡ 0) × IsListRefusal w (with_tables w new) e
-      kept = let a = tells.not_all in let more = with-entry (λ h. one (is_at a.0 h)) f.entries listed k x.node in let z = other a.0 a.1.unpinned in let y = a.2 in (a.0, must-kept a.0 a.1, omega arith, refusal-kept w t new e a.3 last list)
+      kept = let a = tells.not_all in let more = with-entry (λ h. one (is_at a.0 h)) f.entries listed k x.node in let z = other a.0 a.1.unpinned in let y = a.2 in
+          (a.0, must-kept a.0 a.1, omega arith, refusal-kept w t new e a.3 last list)
   tells-more None u' b tells same why now last list =
       elim (which listed (lists && is_listing c x.mode)) [
-        | inl s ↦ subst (λ v. TellsListing before w (f.entries ++ entries_of listed k x.node) (told_by v) (with_tables w new)) (sym (same s)) (record { all = all-more tells.all (λ none wanted. elim s [ inl l ↦ absurd (cc) | inr n ↦ absurd (cc) ]); not_all = tt })
+        | inl s ↦ subst (λ v. TellsListing before w (f.entries ++ entries_of listed k x.node) (told_by v) (with_tables w new)) (sym (same s))
+            (record { all = all-more tells.all (λ none wanted. elim s [ inl l ↦ absurd (cc) | inr n ↦ absurd (cc) ]); not_all = tt })
         | inr n ↦
             let y = why n.0 n.1 in
-            subst (λ v. TellsListing before w (f.entries ++ entries_of listed k x.node) (told_by v) (with_tables w new)) (sym y.2) (record { all = tt; not_all = (x.node.0, new-must n.1, unlisted n.0 n.1, now y.0 n.0 y.1) })
+            subst (λ v. TellsListing before w (f.entries ++ entries_of listed k x.node) (told_by v) (with_tables w new)) (sym y.2)
+            (record { all = tt; not_all = (x.node.0, new-must n.1, unlisted n.0 n.1, now y.0 n.0 y.1) })
       ]
     where
       unlisted : listed ≡ false → (lists && is_listing c x.mode) ≡ true → held x.node.0 (f.entries ++ entries_of listed k x.node) ≡ 0

@@ -31,23 +31,28 @@ use Rattle.pagable_tables.proofs.Wanted.{listing-is, entry-pins}
 use Rattle.pagable_tables.proofs.Telling.{only-more, tells-more, refusal-now}
 
 -- what must be listed and what is told of it, where only a mode differs
-must-moded : (before w : Core) (h : HandleNumber) (new : Holdings) (n : ℕ) → MustList before w (with_tables w new) n → MustList before (with_mode w h modes.LooseUnpinned) (with_tables (with_mode w h modes.LooseUnpinned) new) n
+must-moded : (before w : Core) (h : HandleNumber) (new : Holdings) (n : ℕ) → MustList before w (with_tables w new) n
+    → MustList before (with_mode w h modes.LooseUnpinned) (with_tables (with_mode w h modes.LooseUnpinned) new) n
 must-moded before w h new n m = record { pinned = m.pinned; unpinned = m.unpinned; unkeyed = m.unkeyed; unshared = m.unshared; stands_open = m.stands_open }
 
-must-plain : (before w : Core) (h : HandleNumber) (new : Holdings) (n : ℕ) → MustList before (with_mode w h modes.LooseUnpinned) (with_tables (with_mode w h modes.LooseUnpinned) new) n → MustList before w (with_tables w new) n
+must-plain : (before w : Core) (h : HandleNumber) (new : Holdings) (n : ℕ) → MustList before (with_mode w h modes.LooseUnpinned)
+    (with_tables (with_mode w h modes.LooseUnpinned) new) n → MustList before w (with_tables w new) n
 must-plain before w h new n m = record { pinned = m.pinned; unpinned = m.unpinned; unkeyed = m.unkeyed; unshared = m.unshared; stands_open = m.stands_open }
 
-refusal-moded : (w : Core) (h : HandleNumber) (new : Holdings) (e : Error) → IsListRefusal w (with_tables w new) e → IsListRefusal (with_mode w h modes.LooseUnpinned) (with_tables (with_mode w h modes.LooseUnpinned) new) e
+refusal-moded : (w : Core) (h : HandleNumber) (new : Holdings) (e : Error) → IsListRefusal w (with_tables w new) e
+    → IsListRefusal (with_mode w h modes.LooseUnpinned) (with_tables (with_mode w h modes.LooseUnpinned) new) e
 refusal-moded w h new errors.NumbersSpent r = r
 refusal-moded w h new errors.OutOfMemory r =
     (elim r.0 [ inl rows ↦ inl (let a = length-map w.rows (λ row. if is_handle h.0 row then record row { mode = modes.LooseUnpinned } else row) in omega arith) | inr entries ↦ inr entries ], r.1)
 refusal-moded w h new _ r = absurd r
 
-tells-moded : (before w : Core) (h : HandleNumber) (entries : List HandleRow) (new : Holdings) (r : Result (Unit {0}) Error) → TellsListing before w entries r (with_tables w new) → TellsListing before (with_mode w h modes.LooseUnpinned) entries r (with_tables (with_mode w h modes.LooseUnpinned) new)
+tells-moded : (before w : Core) (h : HandleNumber) (entries : List HandleRow) (new : Holdings) (r : Result (Unit {0}) Error) → TellsListing before w entries r (with_tables w new)
+    → TellsListing before (with_mode w h modes.LooseUnpinned) entries r (with_tables (with_mode w h modes.LooseUnpinned) new)
 tells-moded before w h entries new (Ok u) tells = record { all = λ n m. tells.all n (must-plain before w h new n m); not_all = tells.not_all }
 tells-moded before w h entries new (Err e) tells = record { all = tells.all; not_all = let a = tells.not_all in (a.0, must-moded before w h new a.0 a.1, a.2, refusal-moded w h new e a.3) }
 
-module _ (T : Tables) (stored : ℕ → Option Blob) (closed lists : Bool) (failures : ℕ) (whole : IsWhole T) (opened : lists ≡ not closed) (x : HandleRow) (place : ℕ) (at : slice_get T.holdings.handles.places.items place ≡ Some (alive x)) (new : Holdings) (l : Lowers (record T.holdings { unlisted = None }) x lists new) where
+module _ (T : Tables) (stored : ℕ → Option Blob) (closed lists : Bool) (failures : ℕ) (whole : IsWhole T) (opened : lists ≡ not closed) (x : HandleRow) (place : ℕ)
+    (at : slice_get T.holdings.handles.places.items place ≡ Some (alive x)) (new : Holdings) (l : Lowers (record T.holdings { unlisted = None }) x lists new) where
   abbrev old : Core
   old = core_of T stored closed failures
 
@@ -68,9 +73,11 @@ module _ (T : Tables) (stored : ℕ → Option Blob) (closed lists : Bool) (fail
         shared = λ n. let a = l.sums (λ h. one (is_share n h)) in let b = ap (sharing n) l.rows in let z : one (is_share n (unpinned x)) ≡ 0 = grind (arith, nat_tests) in omega arith;
         uniform = λ n. elim (f.begins.uniform n) [
           | inl none ↦ inl none
-          | inr none ↦ inr (let a = l.sums (λ h. one (is_plain_pin n h)) in let b = ap (times (is_plain_pin n)) l.rows in let z : one (is_plain_pin n (unpinned x)) ≡ 0 = grind (arith, nat_tests) in omega arith)
+          | inr none ↦ inr (let a = l.sums (λ h. one (is_plain_pin n h)) in let b = ap (times (is_plain_pin n)) l.rows in
+              let z : one (is_plain_pin n (unpinned x)) ≡ 0 = grind (arith, nat_tests) in omega arith)
         ];
-        listed = λ q. f.begins.listed q ∙ (let a = l.sums (λ h. one (is_handle q h && is_owned_by owners.List h)) in let b = ap (times (λ h. is_handle q h && is_owned_by owners.List h)) l.rows in omega arith);
+        listed = λ q. f.begins.listed q ∙ (let a = l.sums (λ h. one (is_handle q h && is_owned_by owners.List h)) in
+            let b = ap (times (λ h. is_handle q h && is_owned_by owners.List h)) l.rows in omega arith);
       }
 
   after-rows : live new.handles.places.items ≡ live l.between.handles.places.items
@@ -84,7 +91,8 @@ module _ (T : Tables) (stored : ℕ → Option Blob) (closed lists : Bool) (fail
 
   rows : live new.handles.places.items ≡ left_rows nobody now.rows ++ entries_of l.listed (t.last_handle + 1) x.node
   rows =
-      after-rows ∙ l.comes.comes.rows ∙ ap (λ k. live l.lowered.handles.places.items ++ entries_of l.listed (k + 1) x.node) since ∙ ap (λ r. r ++ entries_of l.listed (t.last_handle + 1) x.node) (l.rows ∙ sym (left-all now.rows))
+      after-rows ∙ l.comes.comes.rows ∙ ap (λ k. live l.lowered.handles.places.items ++ entries_of l.listed (k + 1) x.node) since
+      ∙ ap (λ r. r ++ entries_of l.listed (t.last_handle + 1) x.node) (l.rows ∙ sym (left-all now.rows))
 
   abbrev came : List HandleNumber
   came = if l.listed then record { 0 = t.last_handle + 1 } ∷ [] else []
@@ -149,7 +157,8 @@ module _ (T : Tables) (stored : ℕ → Option Blob) (closed lists : Bool) (fail
         gone = nobody;
         entries = entries_of l.listed (t.last_handle + 1) x.node;
         rows = rows;
-        list = added ∙ ap (λ r. r ++ came) (sym (all-kept T.holdings.list.items)) ∙ ap (λ r. filter (λ (q : HandleNumber). true) T.holdings.list.items ++ r) (sym (entry-number l.listed (t.last_handle + 1) x.node));
+        list = added ∙ ap (λ r. r ++ came) (sym (all-kept T.holdings.list.items)) ∙ ap (λ r. filter (λ (q : HandleNumber). true) T.holdings.list.items ++ r)
+            (sym (entry-number l.listed (t.last_handle + 1) x.node));
         last = last ∙ ap (λ k. t.last_handle + k) (sym (long-one l.listed (t.last_handle + 1) x.node));
         within = subst (λ k. k ≤ greatest) (sym last) (within-more l.listed t.last_handle whole.core.handles.within.0 (λ y. subst (λ k. k < greatest) since (l.comes.comes.left y)));
         places =
@@ -162,7 +171,8 @@ module _ (T : Tables) (stored : ℕ → Option Blob) (closed lists : Bool) (fail
         holds = none-within nobody now.rows;
         least = λ s final bare has closed. none-within s now.rows;
         new = new-more t.last_handle [] l.listed (t.last_handle + 1) x.node tt (omega arith);
-        only = λ n some. let o = only-more old old nobody lists t f x l.counts l.is (whole.steady.fits.pinned x.node.0) here new left l.listed (t.last_handle + 1) l.comes.only n some in (must-moded old old x.number new n o.0, o.1);
+        only = λ n some. let o = only-more old old nobody lists t f x l.counts l.is (whole.steady.fits.pinned x.node.0) here new left l.listed
+            (t.last_handle + 1) l.comes.only n some in (must-moded old old x.number new n o.0, o.1);
         tells = tells-moded old old x.number (entries_of l.listed (t.last_handle + 1) x.node) new (told_by new.unlisted) told;
         few = few;
       }

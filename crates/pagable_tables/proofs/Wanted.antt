@@ -69,7 +69,8 @@ module _ (before w : Core) (given : ℕ → Bool) (lists : Bool) (t : Holdings) 
       omega arith
 
   -- the last pin of a cell without a key has gone
-  pub must-now : (x : HandleRow) (c : Counts) (new : Holdings) → counts_at t.nodes x.node.0 ≡ Some c → pins_in (counts_at t.nodes x.node.0) ≡ pins x.node.0 (live t.handles.places.items) → ((p : HandleRow → Bool) → one (p x) ≤ times p (live t.handles.places.items))
+  pub must-now : (x : HandleRow) (c : Counts) (new : Holdings) → counts_at t.nodes x.node.0 ≡ Some c
+      → pins_in (counts_at t.nodes x.node.0) ≡ pins x.node.0 (live t.handles.places.items) → ((p : HandleRow → Bool) → one (p x) ≤ times p (live t.handles.places.items))
       → (lists && is_listing c x.mode) ≡ true → pins x.node.0 (live new.handles.places.items) ≡ 0 → MustList before w (with_tables w new) x.node.0
   must-now x c new is pinned here wanted none =
       let w' = and_parts lists (is_listing c x.mode) wanted in
@@ -91,11 +92,19 @@ module _ (before w : Core) (given : ℕ → Bool) (lists : Bool) (t : Holdings) 
       }
 
   -- a cell must be listed: its last pin had gone before, or it has gone now
-  pub must-before : (x : HandleRow) (c : Counts) (new : Holdings) (n : ℕ) → counts_at t.nodes x.node.0 ≡ Some c → pins_in (counts_at t.nodes x.node.0) ≡ pins x.node.0 (live t.handles.places.items) → ((p : HandleRow → Bool) → one (p x) ≤ times p (live t.handles.places.items))
-      → pins n (live new.handles.places.items) + one (is_pin n x) ≡ pins n (live t.handles.places.items) → MustList before w (with_tables w new) n → (MustList before w (with_tables w t) n) ⊎ ((n ≡ x.node.0) × ((lists && is_listing c x.mode) ≡ true))
+  pub must-before : (x : HandleRow) (c : Counts) (new : Holdings) (n : ℕ) → counts_at t.nodes x.node.0 ≡ Some c
+      → pins_in (counts_at t.nodes x.node.0) ≡ pins x.node.0 (live t.handles.places.items) → ((p : HandleRow → Bool) → one (p x) ≤ times p (live t.handles.places.items))
+      → pins n (live new.handles.places.items) + one (is_pin n x) ≡ pins n (live t.handles.places.items) → MustList before w (with_tables w new) n
+      → (MustList before w (with_tables w t) n) ⊎ ((n ≡ x.node.0) × ((lists && is_listing c x.mode) ≡ true))
   must-before x c new n is pinned here left must =
       elim (cases_Bool (is_pin n x)) [
-        | inr other ↦ let z = must.unpinned in let k = ap one other in inl (record { pinned = must.pinned; unpinned = omega arith; unkeyed = must.unkeyed; unshared = must.unshared; stands_open = must.stands_open })
+        | inr other ↦ let z = must.unpinned in let k = ap one other in inl (record {
+          pinned = must.pinned;
+          unpinned = omega arith;
+          unkeyed = must.unkeyed;
+          unshared = must.unshared;
+          stands_open = must.stands_open;
+        })
         | inl pin ↦ inr (now pin)
       ]
     where

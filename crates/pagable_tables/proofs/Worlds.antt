@@ -15,12 +15,14 @@ use Rattle.pagable_world.specs.World.{Core, Cell, SameCache, Alike, HasRoom, row
 use Rattle.pagable_world.specs.declared.handles.HandleRow.{HandleRow}
 
 -- what an entry of the cache gives where its node is this cell
-abbrev use-of : List HandleRow → ℕ → ℕ → Option Cell → Option ℕ
+abbrev pub use-of : List HandleRow → ℕ → ℕ → Option Cell → Option ℕ
 use-of rows kind n cell = if_there (λ (cell : Cell). if is_pinned_kind kind && not (is_in_memory (pins n rows) cell.key) then None else Some n) None cell
 
-pub usable-same : (rows rows' : List HandleRow) (cells cells' : ℕ → Option Cell) (kind : ℕ) (found found' : Option ℕ) → rows' ≡ rows → SameAt cells cells' → found' ≡ found → if_there (λ n. use-of rows' kind n (cells' n)) None found' ≡ if_there (λ n. use-of rows kind n (cells n)) None found
+pub usable-same : (rows rows' : List HandleRow) (cells cells' : ℕ → Option Cell) (kind : ℕ) (found found' : Option ℕ) → rows' ≡ rows → SameAt cells cells' → found' ≡ found
+    → if_there (λ n. use-of rows' kind n (cells' n)) None found' ≡ if_there (λ n. use-of rows kind n (cells n)) None found
 usable-same rows rows' cells cells' kind None found' e same is = ap (if_there (λ n. use-of rows' kind n (cells' n)) None) is
-usable-same rows rows' cells cells' kind (Some n) found' e same is = ap (if_there (λ n. use-of rows' kind n (cells' n)) None) is ∙ ap (λ r. use-of r kind n (cells' n)) e ∙ ap (use-of rows kind n) (same n)
+usable-same rows rows' cells cells' kind (Some n) found' e same is = ap (if_there (λ n. use-of rows' kind n (cells' n)) None) is ∙ ap (λ r. use-of r kind n (cells' n)) e
+    ∙ ap (use-of rows kind n) (same n)
 
 pub same-cache : (w w' : Core) → w'.rows ≡ w.rows → SameAt w.cells w'.cells → ((kind key : ℕ) → w'.cache kind key ≡ w.cache kind key) → SameCache w w'
 same-cache w w' e same is =
@@ -64,7 +66,8 @@ alike w w' rows cells places same =
     }
 
 -- a handle that is made of a live handle's node, in its mode, is a clone
-pub clones : (w : Core) (me : Owner) (h : HandleNumber) (row : HandleRow) (r : Result HandleNumber Error) (w' : Core) → row_at w h ≡ Some row → Makes w row.node row.mode me r w' → CloneCall w me h r w'
+pub clones : (w : Core) (me : Owner) (h : HandleNumber) (row : HandleRow) (r : Result HandleNumber Error) (w' : Core) → row_at w h ≡ Some row → Makes w row.node row.mode me r w'
+    → CloneCall w me h r w'
 clones w me h row (Ok k) w' is m = record { made = (row, is, m.made.0, m.made.1); refused = tt }
 clones w me h row (Err e) w' is m =
     record {

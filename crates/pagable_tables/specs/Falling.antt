@@ -1,5 +1,5 @@
 -- Handles, nodes and list in the midst of giving handles up.
-use Rattle.std.specs.Prelude.{ℕ, zero, suc, ◌≡◌, ◌+◌, ◌*◌, ◌-◌, ◌<◌, ◌≤◌, ◌==◌, ◌&&◌, ◌||◌, ◌⊎◌, ◌++◌, Bool, true, false, not, if◌then◌else◌, List, [], ◌∷◌, length, sum_by, Option, Some, None, is_some, nat_lt, Result, Ok, Err, IfErr, vec_capacity}
+use Rattle.std.specs.Prelude.{ℕ, zero, suc, ◌≡◌, ◌+◌, ◌*◌, ◌-◌, ◌<◌, ◌≤◌, ◌≢◌, ◌==◌, ◌&&◌, ◌||◌, ◌⊎◌, ◌++◌, Bool, true, false, not, if◌then◌else◌, List, [], ◌∷◌, length, sum_by, Option, Some, None, is_some, nat_lt, Result, Ok, Err, IfErr, IfSome, vec_capacity}
 use Rattle.pagable_model.specs.declared.data_key.OptionalDataKey.{OptionalDataKey}
 use Rattle.pagable_model.specs.declared.data_key.OptionalDataKey.TheVariants as optional
 use Rattle.pagable_model.specs.declared.error.Error.{Error}
@@ -182,6 +182,15 @@ cell_in (Some c) = Some (record { node_type = c.node_type; key = key_in c.key })
 abbrev pub CellsStay : (ℕ → Option Counts) → (ℕ → Option Counts) → Type 0
 CellsStay old new = (n : ℕ) → is_some (new n) ≡ true → (is_some (old n) ≡ true) × (cell_in (new n) ≡ cell_in (old n))
 
+-- whether the value of a node that doesn't fall is in memory: something pins it, or it has no key
+abbrev pub has_value : Option Counts → Bool
+has_value None = false
+has_value (Some c) = nat_lt 0 c.pins || not (nat_lt 0 c.key)
+
+-- a node that doesn't fall afterwards didn't before, and has its value or not as before
+abbrev pub ValueStays : Option Counts → Option Counts → Type 0
+ValueStays old new = falls_in new ≡ false → (falls_in old ≡ false) × (has_value new ≡ has_value old)
+
 -- The handle of the row x is given up.
 pub record GivesUp (old : Holdings) (stack : List ℕ) (x : HandleRow) (listing : Bool) (new : Holdings) : Type 0 where
   pub counts : Counts
@@ -191,14 +200,17 @@ pub record GivesUp (old : Holdings) (stack : List ℕ) (x : HandleRow) (listing 
   pub leaves : Leaves old x (listing && is_listing counts x.mode) listed between
   pub same : new ≡ record between { nodes = new.nodes; top = new.top }
   pub cells : CellsStay (counts_at old.nodes) (counts_at new.nodes)
+  pub values : (n : ℕ) → ValueStays (counts_at old.nodes n) (counts_at new.nodes n)
   pub more : List ℕ
   pub falling : IsFalling new more owns_nothing
   pub long : length more ≤ length stack + 1
 
--- The first node that falls is done.
+-- The first node that falls is done, and its value goes.
 pub record Settles (old : Holdings) (stack : List ℕ) (new : Holdings) : Type 0 where
   pub same : new ≡ record old { nodes = new.nodes; top = new.top }
   pub cells : CellsStay (counts_at old.nodes) (counts_at new.nodes)
+  pub values : (n : ℕ) → n ≢ old.top → ValueStays (counts_at old.nodes n) (counts_at new.nodes n)
+  pub gone : has_value (counts_at new.nodes old.top) ≡ false
   pub rest : List ℕ
   pub falling : IsFalling new rest owns_nothing
   pub shorter : length rest + 1 ≡ length stack
@@ -225,10 +237,29 @@ pub record FallsBy (old : Holdings) (x : HandleRow) (n : ℕ) (lists : Bool) (ne
   pub stack : List ℕ
   pub gives : GivesUp popped stack x lists new
 
--- One step: a handle is given up, or the first node that falls is done.
+-- One step: a handle is given up, or the first node that falls is done, and its value goes.
 pub record Steps (old : Holdings) (stack : List ℕ) (lists : Bool) (r : Option NodeNumber) (new : Holdings) : Type 0 where
   pub rest : List ℕ
   pub falling : IsFalling new rest owns_nothing
   pub less : 2 * valued (live new.handles.places.items) + length rest < 2 * valued (live old.handles.places.items) + length stack
   pub cells : CellsStay (counts_at old.nodes) (counts_at new.nodes)
+  pub values : (n : ℕ) → r ≢ Some (record { 0 = n }) → ValueStays (counts_at old.nodes n) (counts_at new.nodes n)
+  pub gone : IfSome r (λ n. has_value (counts_at new.nodes n.0) ≡ false)
   pub what : ((r ≡ Some (record { 0 = old.top })) × (new ≡ record old { nodes = new.nodes; top = new.top })) ⊎ ((x : HandleRow) × (n : ℕ) × (r ≡ None) × FallsBy old x n lists new)
+
+-- A node that doesn't fall has its value exactly while something pins it or it has no key.
+abbrev pub AreKept : {X : Type 0} → (ℕ → Option Counts) → (ℕ → Option X) → Type 0
+AreKept at values = (n : ℕ) → falls_in (at n) ≡ false → is_some (values n) ≡ has_value (at n)
+
+-- of the values that there were, each is there or gone, and it is there exactly where its node has it
+abbrev pub AreLeft : {X : Type 0} → (ℕ → Option Counts) → (ℕ → Option X) → (ℕ → Option X) → Type 0
+AreLeft at old new = (n : ℕ) → ((new n ≡ old n) ⊎ (new n ≡ None)) × (is_some (new n) ≡ has_value (at n))
+
+-- values go with their nodes, where each was kept at first
+pub record Sheds {X : Type 0} (at : ℕ → Option Counts) (old : ℕ → Option X) (at' : ℕ → Option Counts) (new : ℕ → Option X) : Type 0 where
+  pub left : AreKept at old → AreLeft at' old new
+
+-- whether it is this node
+abbrev pub is_node : Option NodeNumber → ℕ → Bool
+is_node None n = false
+is_node (Some m) n = n == m.0

@@ -3,8 +3,11 @@ pub mod ByNumber
 pub mod Falling
 pub mod Onward
 pub mod Core
-pub mod Lowering
-pub mod Keyed
 pub mod Owning
+pub mod Lowering
+pub mod Later
+pub mod Asking
+pub mod Keyed
+pub mod Named
 pub mod Offering
 pub mod Bearing

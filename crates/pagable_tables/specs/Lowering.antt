@@ -8,7 +8,7 @@ use Rattle.pagable_tables.specs.declared.rows.Counts.{Counts}
 use Rattle.pagable_tables.specs.declared.holdings.Holdings.{Holdings}
 use Rattle.pagable_tables.specs.Live.{live}
 use Rattle.pagable_tables.specs.ByNumber.{counts_at}
-use Rattle.pagable_tables.specs.Falling.{is_listing, owns_nothing, CellsStay, HasPlaces, MayList, IsFalling}
+use Rattle.pagable_tables.specs.Falling.{is_listing, owns_nothing, CellsStay, HasPlaces, MayList, IsFalling, ValueStays}
 
 -- the row of a loose handle without its pin
 abbrev pub unpinned : HandleRow → HandleRow
@@ -28,6 +28,7 @@ pub record Lowers (old : Holdings) (x : HandleRow) (lists : Bool) (new : Holding
   pub comes : MayList lowered x.node (lists && is_listing counts x.mode) listed between
   pub same : new ≡ record between { nodes = new.nodes; top = new.top }
   pub cells : CellsStay (counts_at old.nodes) (counts_at new.nodes)
+  pub values : (n : ℕ) → ValueStays (counts_at old.nodes n) (counts_at new.nodes n)
   pub keyed : new.top ≢ 0 → nat_lt 0 counts.key ≡ true
   pub more : List ℕ
   pub falling : IsFalling new more owns_nothing

@@ -57,7 +57,8 @@ pub record SoFar (before w : Core) (given : ℕ → Bool) (lists : Bool) (t : Ho
   pub cells : (n : ℕ) → is_some (counts_at t.nodes n) ≡ true → cell_in (counts_at t.nodes n) ≡ w.cells n
   pub holds : IsWithin w.rows given gone
   -- each closed set that has the given handles has all that has gone, whatever entries still come where there are handles
-  pub least : (s : ℕ → Bool) (final : List HandleRow) → ((n : ℕ) → held n (live t.handles.places.items) ≡ 0 → held n final ≡ 0) → IsWithin w.rows given s → IsClosed w.rows (is_keyed w) final s → IsWithin w.rows gone s
+  pub least : (s : ℕ → Bool) (final : List HandleRow) → ((n : ℕ) → held n (live t.handles.places.items) ≡ 0 → held n final ≡ 0) → IsWithin w.rows given s
+      → IsClosed w.rows (is_keyed w) final s → IsWithin w.rows gone s
   pub new : AreNewEntries w.last.handle entries
   pub only : (n : ℕ) → 0 < held n entries → MustList before w (with_tables w t) n × (held n entries ≡ 1)
   pub tells : TellsListing before w entries (told_by t.unlisted) (with_tables w t)

@@ -1,6 +1,6 @@
 //! Nodes that come.
 
-ghost use Rattle.std.specs.Prelude.{◌≡◌, ℕ, ◌⊎◌, [], Bool, Option, None, false};
+ghost use Rattle.std.specs.Prelude.{true, ◌≡◌, ℕ, ◌⊎◌, [], Bool, Option, None, false};
 ghost use Rattle.pagable_world.specs.Plain.{Blob, one};
 ghost use Rattle.pagable_world.specs.Kinds.{is_pinning};
 ghost use Rattle.pagable_world.specs.Refusals.{references_fault};
@@ -21,7 +21,7 @@ use pagable_world::handles::{HandleRow, Owner};
 use std::alloc::Global;
 
 /// The counts of a new node, which one handle of this mode holds.
-fn first_counts(node_type: u32, key: u128, mode: Mode) -> Counts
+pub fn first_counts(node_type: u32, key: u128, mode: Mode) -> Counts
     ensures { result ≡ record { node_type = node_type; key = key; pins = one (is_pinning mode); holds = 1; is_falling = false; next = 0 } }
 {
     let pins = if pins(mode) { 1 } else { 0 };
@@ -36,7 +36,7 @@ fn first_counts(node_type: u32, key: u128, mode: Mode) -> Counts
 }
 
 /// A new node with this key, 0 for none, whose value has these references, and one handle of it. It is refused only where a number is spent, or by memory.
-fn bear(
+pub fn bear(
     t: &mut Tables,
     me: Owner,
     counts: Counts,
@@ -47,9 +47,10 @@ fn bear(
     requires holder { MayHold (plain_of t.old) me }
     requires counts { counts ≡ record counts { pins = one (is_pinning mode); holds = 1; is_falling = false; next = 0 } }
     requires fit { references_fault (plain_of t.old) me [] references.items ≡ None }
-    requires bare { (counts.key ≡ 0) ⊎ (references.items ≡ []) }
+    requires bare { (counts.key ≡ 0) ⊎ (references.items ≡ []) ⊎ (is_pinning mode ≡ true) }
     ensures born { (stored : ℕ → Option Blob) (closed : Bool) (failures : ℕ) → Bears (core_of t.old stored closed failures) me counts references.items mode result (core_of t.new stored closed failures) }
     ensures steady { IsFalling t.new.holdings [] owns_nothing }
+    ensures same { t.new ≡ record t.old { holdings = t.new.holdings; last_node = t.new.last_node } }
 {
     if t.last_node == u64::MAX || t.holdings.last_handle == u64::MAX {
         return Err(Error::NumbersSpent);

@@ -1,8 +1,10 @@
 //! What follows when handles are given up, to its end.
 
-ghost use Rattle.std.specs.Prelude.{◌≡◌, ◌≢◌, ℕ, ◌+◌, ◌*◌, ◌≤◌, [], List, length, not, nat_eq, Bool};
+ghost use Rattle.std.specs.Prelude.{◌≡◌, ◌≢◌, ℕ, ◌+◌, ◌*◌, ◌≤◌, [], List, length, Bool, if◌then◌else◌, nat_eq, None, Option};
 ghost use Rattle.pagable_tables.specs.Live.{live, AreSound};
-ghost use Rattle.pagable_tables.specs.Falling.{IsFalling, owns_nothing};
+ghost use Rattle.indexmap.specs.IndexMap.{get};
+ghost use Rattle.pagable_tables.specs.ByNumber.{counts_at};
+ghost use Rattle.pagable_tables.specs.Falling.{IsFalling, owns_nothing, Sheds, is_node};
 ghost use Rattle.pagable_tables.specs.Onward.{with_tables, told_by, SoFar};
 ghost use Rattle.pagable_world.specs.World.{Core};
 ghost use Rattle.pagable_world.specs.Cascade.{Falls};
@@ -10,7 +12,9 @@ ghost use Rattle.pagable_world.specs.Cascade.{Falls};
 use crate::handles::Handles;
 use crate::holdings;
 use crate::holdings::Holdings;
-use pagable_model::Error;
+use indexmap::IndexMap;
+use pagable_model::{Error, NodeNumber};
+use std::sync::Arc;
 
 /// Twice the number of live handles, and one: so many steps are enough once a handle was given up.
 pub fn budget(handles: &Handles) -> usize
@@ -20,23 +24,29 @@ pub fn budget(handles: &Handles) -> usize
     2 * (handles.places.len() - handles.dead) + 1
 }
 
-/// Whether a node falls.
-pub fn is_falling(t: &Holdings) -> bool
-    ensures { result ≡ not (nat_eq t.now.top 0) }
+/// The value of a node that fell goes.
+fn let_go<N: Drop>(values: &mut IndexMap<u64, Arc<N>>, done: Option<NodeNumber>)
+    ensures { (n : ℕ) → get nat_eq values.new n ≡ (if is_node done n then None else get nat_eq values.old n) }
 {
-    t.top != 0
+    if let Some(node) = done {
+        values.swap_remove(&node.0);
+    }
 }
 
-/// Gives up all that fallen values referred to, and so on, to the end. It takes no memory but for entries of the list.
-pub fn cascade(t: &mut Holdings, lists: bool)
+/// Gives up all that fallen values referred to, and so on, to the end, and lets the values go. It takes no memory but for entries of the list.
+pub fn cascade<N: Drop>(t: &mut Holdings, values: &mut IndexMap<u64, Arc<N>>, lists: bool)
     requires falling { (stack : List ℕ) × IsFalling t.old stack owns_nothing × (length stack ≤ 1) }
     ensures whole { IsFalling t.new [] owns_nothing }
+    ensures fewer { length (live t.new.handles.places.items) ≤ length (live t.old.handles.places.items) }
+    ensures so_far { (before w : Core) (given : ℕ → Bool) → SoFar before w given lists t.old → SoFar before w given lists t.new }
     ensures falls { (before w : Core) (given : ℕ → Bool) → SoFar before w given lists t.old → Falls before w given (told_by t.new.unlisted) (with_tables w t.new) }
+    ensures sheds { Sheds (counts_at t.old.nodes) (get nat_eq values.old) (counts_at t.new.nodes) (get nat_eq values.new) }
 {
     let mut left = budget(&t.handles);
     'fall: while t.top != 0 {
         left -= 1;
-        holdings::step(t, lists);
+        let done = holdings::step(t, lists);
+        let_go(values, done);
     }
 }
 
@@ -51,11 +61,16 @@ fn told(unlisted: Option<Error>) -> Result<(), Error>
 }
 
 /// The same, and then what came of the listing: NumbersSpent or OutOfMemory where a cell that had to be listed isn't.
-pub fn fall(t: &mut Holdings, lists: bool) -> Result<(), Error>
+pub fn fall<N: Drop>(
+    t: &mut Holdings,
+    values: &mut IndexMap<u64, Arc<N>>,
+    lists: bool,
+) -> Result<(), Error>
     requires falling { (stack : List ℕ) × IsFalling t.old stack owns_nothing × (length stack ≤ 1) }
     ensures steady { IsFalling t.new [] owns_nothing }
     ensures falls { (before w : Core) (given : ℕ → Bool) → SoFar before w given lists t.old → Falls before w given result (with_tables w t.new) }
+    ensures sheds { Sheds (counts_at t.old.nodes) (get nat_eq values.old) (counts_at t.new.nodes) (get nat_eq values.new) }
 {
-    cascade(t, lists);
+    cascade(t, values, lists);
     told(t.unlisted.take())
 }

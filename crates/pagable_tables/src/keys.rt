@@ -1,12 +1,13 @@
 //! Cells that get keys.
 
-ghost use Rattle.std.specs.Prelude.{◌≡◌, ℕ, ◌<◌, ◌≤◌, Bool, not, [], List, length, Option, IsSome};
+ghost use Rattle.std.specs.Prelude.{◌≡◌, ℕ, ◌<◌, ◌≤◌, Bool, not, [], List, length, Option, IsSome, nat_eq};
 ghost use Rattle.pagable_world.specs.Plain.{Blob};
 ghost use Rattle.pagable_world.specs.Calls.{SetKeyCall, with_key};
 ghost use Rattle.pagable_world.specs.Cascade.{Falls, nobody};
 ghost use Rattle.pagable_tables.specs.Core.{core_of, IsWhole};
+ghost use Rattle.indexmap.specs.IndexMap.{get};
 ghost use Rattle.pagable_tables.specs.ByNumber.{counts_at};
-ghost use Rattle.pagable_tables.specs.Falling.{IsFalling, owns_nothing};
+ghost use Rattle.pagable_tables.specs.Falling.{IsFalling, owns_nothing, ValueStays, Sheds};
 ghost use Rattle.pagable_tables.specs.Keyed.{keyed, GetsKey};
 
 use crate::cascade::fall;
@@ -16,8 +17,10 @@ use crate::nodes;
 use crate::rows::Counts;
 use crate::tables::Tables;
 use crate::turning::own;
+use indexmap::IndexMap;
 use pagable_model::{DataKey, Error, HandleNumber, NodeNumber};
 use pagable_world::handles::Owner;
+use std::sync::Arc;
 
 /// The counts of a node with this key.
 fn counts_keyed(counts: Counts, key: u128, top: u64) -> Counts
@@ -45,6 +48,7 @@ fn put_key(t: &mut Holdings, node: u64, key: u128)
     requires key { 0 < key }
     ensures same { t.new ≡ record t.old { nodes = t.new.nodes; top = t.new.top } }
     ensures cells { GetsKey (counts_at t.old.nodes) (counts_at t.new.nodes) node key }
+    ensures values { (n : ℕ) → ValueStays (counts_at t.old.nodes n) (counts_at t.new.nodes n) }
     ensures falling { (stack : List ℕ) × IsFalling t.new stack owns_nothing × (length stack ≤ 1) }
 {
     let Some(counts) = nodes::counts_of(&t.nodes, node) else {
@@ -56,29 +60,40 @@ fn put_key(t: &mut Holdings, node: u64, key: u128)
 }
 
 /// The cell of this number gets a key, and what goes with that goes. NumbersSpent or OutOfMemory where a cell that had to be listed isn't.
-fn set_key(t: &mut Tables, node: NodeNumber, key: DataKey, lists: bool) -> Result<(), Error>
+fn set_key<N: Drop>(
+    t: &mut Tables,
+    values: &mut IndexMap<u64, Arc<N>>,
+    node: NodeNumber,
+    key: DataKey,
+    lists: bool,
+) -> Result<(), Error>
     requires whole { IsWhole t.old }
     requires live { IsSome (counts_at t.old.holdings.nodes node.0) }
-    ensures falls { (stored : ℕ → Option Blob) (closed : Bool) (failures : ℕ) → lists ≡ not closed → Falls (core_of t.old stored closed failures) (with_key (core_of t.old stored closed failures) node key) nobody result (core_of t.new stored closed failures) }
+    ensures falls { (stored : ℕ → Option Blob) (closed : Bool) (failures : ℕ) → lists ≡ not closed
+        → Falls (core_of t.old stored closed failures) (with_key (core_of t.old stored closed failures) node key) nobody result (core_of t.new stored closed failures) }
     ensures steady { IsFalling t.new.holdings [] owns_nothing }
+    ensures sheds { Sheds (counts_at t.old.holdings.nodes) (get nat_eq values.old) (counts_at t.new.holdings.nodes) (get nat_eq values.new) }
 {
     t.holdings.unlisted = None;
     put_key(&mut t.holdings, node.0, key.get());
-    fall(&mut t.holdings, lists)
+    fall(&mut t.holdings, values, lists)
 }
 
 /// The cell of an own loose handle gets a key, and its value goes if nothing pins it. Through a handle of another mode nothing happens. NumbersSpent or
 /// OutOfMemory where a cell that had to be listed isn't.
-pub fn set_data_key(
+pub fn set_data_key<N: Drop>(
     t: &mut Tables,
+    values: &mut IndexMap<u64, Arc<N>>,
     me: Owner,
     handle: HandleNumber,
     key: DataKey,
     lists: bool,
 ) -> Result<(), Error>
     requires whole { IsWhole t.old }
-    ensures set { (stored : ℕ → Option Blob) (closed : Bool) (failures : ℕ) → lists ≡ not closed → SetKeyCall (core_of t.old stored closed failures) me handle key result (core_of t.new stored closed failures) }
+    ensures set { (stored : ℕ → Option Blob) (closed : Bool) (failures : ℕ) → lists ≡ not closed
+        → SetKeyCall (core_of t.old stored closed failures) me handle key result (core_of t.new stored closed failures) }
     ensures whole { IsWhole t.new }
+    ensures sheds { Sheds (counts_at t.old.holdings.nodes) (get nat_eq values.old) (counts_at t.new.holdings.nodes) (get nat_eq values.new) }
 {
     let at = match own(t, me, handle) {
         Ok(at) => at,
@@ -87,5 +102,5 @@ pub fn set_data_key(
     if !is_loose(at.row.mode) {
         return Ok(());
     }
-    set_key(t, at.row.node, key, lists)
+    set_key(t, values, at.row.node, key, lists)
 }

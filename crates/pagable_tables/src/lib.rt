@@ -2,16 +2,21 @@
 //! handles are given up with all that goes with them. No call of it knows of values or of the storage.
 #![tactic(auto)]
 
+pub mod adopting;
 pub mod begins;
 pub mod births;
 pub mod cache;
 pub mod cascade;
+pub mod causes;
+pub mod ending;
+pub mod handing;
 pub mod handles;
 pub mod holdings;
 pub mod keys;
 pub mod kinds;
 pub mod known;
 pub mod listing;
+pub mod loading;
 pub mod loads;
 pub mod lookups;
 pub mod making;
@@ -22,6 +27,7 @@ pub mod places;
 pub mod references;
 pub mod releases;
 pub mod rows;
+pub mod start;
 pub mod tables;
 pub mod turning;
 pub mod unpins;

@@ -5,13 +5,14 @@ ghost use Rattle.std.specs.Option.{option_map};
 ghost use Rattle.pagable_model.specs.declared.data_key.OptionalDataKey.{OptionalDataKey};
 ghost use Rattle.pagable_model.specs.declared.data_key.OptionalDataKey.TheVariants as optional;
 ghost use Rattle.pagable_world.specs.Plain.{Blob, if_there};
-ghost use Rattle.pagable_world.specs.Kinds.{is_in_memory};
+ghost use Rattle.pagable_world.specs.Kinds.{is_in_memory, is_pinning};
 ghost use Rattle.pagable_world.specs.World.{Cell};
-ghost use Rattle.pagable_world.specs.Calls.{CountCall, KeyCall, AwayCall, NodeCall, TypeCall};
+ghost use Rattle.pagable_world.specs.Calls.{Looks, CountCall, KeyCall, AwayCall, NodeCall, TypeCall};
 ghost use Rattle.pagable_tables.specs.ByNumber.{counts_at};
 ghost use Rattle.pagable_tables.specs.Falling.{pins_in, cell_in, key_in};
 ghost use Rattle.pagable_tables.specs.Core.{core_of, IsWhole};
 
+use crate::holdings::pins;
 use crate::rows::Counts;
 use crate::tables::Tables;
 use crate::{handles, nodes};
@@ -66,6 +67,20 @@ pub fn node_of(t: &Tables, handle: HandleNumber) -> Result<NodeNumber, Error>
         Some(at) => Ok(at.row.node),
         None => Err(Error::NoSuchHandle),
     }
+}
+
+/// The node of a handle that pins it, or None where it pins nothing.
+pub fn pinned_node(t: &Tables, handle: HandleNumber) -> Result<Option<NodeNumber>, Error>
+    requires { IsWhole t.now }
+    ensures { (stored : ℕ → Option Blob) (closed : Bool) (failures : ℕ) → Looks (core_of t.now stored closed failures) handle (λ node row. node ≡ (if is_pinning row.mode then Some row.node else None)) result }
+{
+    let Some(at) = handles::look(&t.holdings.handles, handle) else {
+        return Err(Error::NoSuchHandle);
+    };
+    if pins(at.row.mode) {
+        return Ok(Some(at.row.node));
+    }
+    Ok(None)
 }
 
 /// How many handles pin the node of a handle.

@@ -1,6 +1,6 @@
 //! Handles that are given up.
 
-ghost use Rattle.std.specs.Prelude.{◌≡◌, ℕ, ◌≤◌, [], length, Bool, Option, None, not, false, slice_get, Some};
+ghost use Rattle.std.specs.Prelude.{◌≡◌, ℕ, ◌≤◌, [], length, Bool, Option, None, not, false, slice_get, Some, nat_eq};
 ghost use Rattle.pagable_world.specs.declared.handles.Owner.TheVariants as owners;
 ghost use Rattle.pagable_world.specs.Plain.{Blob};
 ghost use Rattle.pagable_world.specs.Kinds.{is_owner};
@@ -8,7 +8,9 @@ ghost use Rattle.pagable_world.specs.World.{Core};
 ghost use Rattle.pagable_world.specs.Calls.{ReleaseCall};
 ghost use Rattle.pagable_world.specs.Cascade.{Falls, nobody, only_handle};
 ghost use Rattle.pagable_tables.specs.Live.{live, alive};
-ghost use Rattle.pagable_tables.specs.Falling.{IsFalling, is_valued, owns_nothing};
+ghost use Rattle.indexmap.specs.IndexMap.{get};
+ghost use Rattle.pagable_tables.specs.ByNumber.{counts_at};
+ghost use Rattle.pagable_tables.specs.Falling.{IsFalling, is_valued, owns_nothing, Sheds};
 ghost use Rattle.pagable_tables.specs.Onward.{with_tables, SoFar};
 ghost use Rattle.pagable_tables.specs.Core.{core_of, IsWhole};
 
@@ -18,34 +20,51 @@ use crate::holdings::Holdings;
 use crate::rows::HandleAt;
 use crate::tables::Tables;
 use crate::turning::own;
+use indexmap::IndexMap;
 use pagable_model::{Error, HandleNumber};
 use pagable_world::handles::Owner;
+use std::sync::Arc;
 
 /// The handle at this place is given up, with all that goes with it. NumbersSpent or OutOfMemory where a cell that had to be listed isn't.
-pub fn give_back(t: &mut Holdings, at: HandleAt, lists: bool) -> Result<(), Error>
+pub fn give_back<N: Drop>(
+    t: &mut Holdings,
+    values: &mut IndexMap<u64, Arc<N>>,
+    at: HandleAt,
+    lists: bool,
+) -> Result<(), Error>
     requires steady { IsFalling t.old [] owns_nothing }
     requires place { slice_get t.old.handles.places.items at.place ≡ Some (alive at.row) }
     requires plain { is_valued at.row.owner ≡ false }
     requires free { is_owner owners.List at.row.owner ≡ false }
     ensures steady { IsFalling t.new [] owns_nothing }
-    ensures falls { (before w : Core) → SoFar before w nobody lists (record t.old { unlisted = None }) → length (live t.old.handles.places.items) ≤ length w.rows → Falls before w (only_handle at.row.number) result (with_tables w t.new) }
+    ensures falls { (before w : Core) → SoFar before w nobody lists (record t.old { unlisted = None }) → length (live t.old.handles.places.items) ≤ length w.rows
+        → Falls before w (only_handle at.row.number) result (with_tables w t.new) }
+    ensures sheds { Sheds (counts_at t.old.nodes) (get nat_eq values.old) (counts_at t.new.nodes) (get nat_eq values.new) }
 {
     t.unlisted = None;
     holdings::give_up(t, at, lists);
-    fall(t, lists)
+    fall(t, values, lists)
 }
 
 /// An own handle is given up, with all that goes with it. NumbersSpent or OutOfMemory where a cell that had to be listed isn't.
-pub fn release(t: &mut Tables, me: Owner, handle: HandleNumber, lists: bool) -> Result<(), Error>
+pub fn release<N: Drop>(
+    t: &mut Tables,
+    values: &mut IndexMap<u64, Arc<N>>,
+    me: Owner,
+    handle: HandleNumber,
+    lists: bool,
+) -> Result<(), Error>
     requires whole { IsWhole t.old }
     requires plain { is_valued me ≡ false }
     requires free { is_owner owners.List me ≡ false }
-    ensures released { (stored : ℕ → Option Blob) (closed : Bool) (failures : ℕ) → lists ≡ not closed → ReleaseCall (core_of t.old stored closed failures) me handle result (core_of t.new stored closed failures) }
+    ensures released { (stored : ℕ → Option Blob) (closed : Bool) (failures : ℕ) → lists ≡ not closed
+        → ReleaseCall (core_of t.old stored closed failures) me handle result (core_of t.new stored closed failures) }
     ensures whole { IsWhole t.new }
+    ensures sheds { Sheds (counts_at t.old.holdings.nodes) (get nat_eq values.old) (counts_at t.new.holdings.nodes) (get nat_eq values.new) }
 {
     let at = match own(t, me, handle) {
         Ok(at) => at,
         Err(e) => return Err(e),
     };
-    give_back(&mut t.holdings, at, lists)
+    give_back(&mut t.holdings, values, at, lists)
 }

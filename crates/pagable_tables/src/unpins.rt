@@ -1,13 +1,15 @@
 //! Loose handles that let their pins go.
 
-ghost use Rattle.std.specs.Prelude.{◌≡◌, ℕ, [], Bool, false, not, Option, slice_get, Some};
+ghost use Rattle.std.specs.Prelude.{◌≡◌, ℕ, [], Bool, false, not, Option, slice_get, Some, nat_eq};
 ghost use Rattle.pagable_world.specs.declared.rows.Mode.TheVariants as modes;
 ghost use Rattle.pagable_world.specs.Plain.{Blob};
 ghost use Rattle.pagable_world.specs.Calls.{UnpinCall, with_mode};
 ghost use Rattle.pagable_world.specs.Cascade.{Falls, nobody};
 ghost use Rattle.pagable_tables.specs.Core.{core_of, IsWhole};
 ghost use Rattle.pagable_tables.specs.Live.{alive};
-ghost use Rattle.pagable_tables.specs.Falling.{IsFalling, is_valued, owns_nothing};
+ghost use Rattle.indexmap.specs.IndexMap.{get};
+ghost use Rattle.pagable_tables.specs.ByNumber.{counts_at};
+ghost use Rattle.pagable_tables.specs.Falling.{IsFalling, is_valued, owns_nothing, Sheds};
 ghost use Rattle.pagable_tables.specs.Lowering.{Lowers};
 
 use crate::cascade::fall;
@@ -17,9 +19,11 @@ use crate::rows::{Counts, HandleAt};
 use crate::tables::Tables;
 use crate::turning::own;
 use crate::{handles, nodes};
+use indexmap::IndexMap;
 use pagable_model::{Error, HandleNumber};
 use pagable_world::Mode;
 use pagable_world::handles::{HandleRow, Owner};
+use std::sync::Arc;
 
 /// The loose handle at this place lets its pin go. Where cells are listed, one without a key is, if that was its last pin.
 fn lower(t: &mut Holdings, at: HandleAt, lists: bool)
@@ -52,25 +56,40 @@ fn lower(t: &mut Holdings, at: HandleAt, lists: bool)
 }
 
 /// The loose handle at this place lets its pin go, and what goes with that goes. NumbersSpent or OutOfMemory where a cell that had to be listed isn't.
-fn let_go(t: &mut Tables, at: HandleAt, lists: bool) -> Result<(), Error>
+fn let_go<N: Drop>(
+    t: &mut Tables,
+    values: &mut IndexMap<u64, Arc<N>>,
+    at: HandleAt,
+    lists: bool,
+) -> Result<(), Error>
     requires whole { IsWhole t.old }
     requires place { slice_get t.old.holdings.handles.places.items at.place ≡ Some (alive at.row) }
     requires pinned { at.row.mode ≡ modes.LoosePinned }
     requires plain { is_valued at.row.owner ≡ false }
-    ensures falls { (stored : ℕ → Option Blob) (closed : Bool) (failures : ℕ) → lists ≡ not closed → Falls (core_of t.old stored closed failures) (with_mode (core_of t.old stored closed failures) at.row.number modes.LooseUnpinned) nobody result (core_of t.new stored closed failures) }
+    ensures falls { (stored : ℕ → Option Blob) (closed : Bool) (failures : ℕ) → lists ≡ not closed
+        → Falls (core_of t.old stored closed failures) (with_mode (core_of t.old stored closed failures) at.row.number modes.LooseUnpinned) nobody result (core_of t.new stored closed failures) }
     ensures steady { IsFalling t.new.holdings [] owns_nothing }
+    ensures sheds { Sheds (counts_at t.old.holdings.nodes) (get nat_eq values.old) (counts_at t.new.holdings.nodes) (get nat_eq values.new) }
 {
     t.holdings.unlisted = None;
     lower(&mut t.holdings, at, lists);
-    fall(&mut t.holdings, lists)
+    fall(&mut t.holdings, values, lists)
 }
 
 /// An own loose handle lets its pin go, or has none. NumbersSpent or OutOfMemory where a cell that had to be listed isn't.
-pub fn unpin(t: &mut Tables, me: Owner, handle: HandleNumber, lists: bool) -> Result<(), Error>
+pub fn unpin<N: Drop>(
+    t: &mut Tables,
+    values: &mut IndexMap<u64, Arc<N>>,
+    me: Owner,
+    handle: HandleNumber,
+    lists: bool,
+) -> Result<(), Error>
     requires whole { IsWhole t.old }
     requires plain { is_valued me ≡ false }
-    ensures unpinned { (stored : ℕ → Option Blob) (closed : Bool) (failures : ℕ) → lists ≡ not closed → UnpinCall (core_of t.old stored closed failures) me handle result (core_of t.new stored closed failures) }
+    ensures unpinned { (stored : ℕ → Option Blob) (closed : Bool) (failures : ℕ) → lists ≡ not closed
+        → UnpinCall (core_of t.old stored closed failures) me handle result (core_of t.new stored closed failures) }
     ensures whole { IsWhole t.new }
+    ensures sheds { Sheds (counts_at t.old.holdings.nodes) (get nat_eq values.old) (counts_at t.new.holdings.nodes) (get nat_eq values.new) }
 {
     let at = match own(t, me, handle) {
         Ok(at) => at,
@@ -78,7 +97,7 @@ pub fn unpin(t: &mut Tables, me: Owner, handle: HandleNumber, lists: bool) -> Re
     };
     match at.row.mode {
         Mode::LooseUnpinned => Ok(()),
-        Mode::LoosePinned => let_go(t, at, lists),
+        Mode::LoosePinned => let_go(t, values, at, lists),
         Mode::Pinned | Mode::Shared => Err(Error::WrongMode),
     }
 }

@@ -1,12 +1,10 @@
 -- What holds besides where each load's and each worker's steps stand together, and of one cache.
 use Rattle.std.specs.Prelude.{ℕ, ◌≡◌, ◌≢◌, ◌<◌, ◌⊎◌, max, true, false, List, [], ◌∷◌, Some, Ok, slice_get}
-use Rattle.pagable_model.specs.Deep.{Kid, kind_of_kid}
-use Rattle.pagable_model.specs.Form.{Form}
+use Rattle.pagable_model.specs.Deep.{Kid}
 use Rattle.pagable_model.specs.Meaning.{pair, variant, followed}
-use Rattle.pagable_model.specs.Merkle.{TreeForm, unfolded}
+use Rattle.pagable_model.specs.Merkle.{TreeForm}
 use Rattle.pagable_world.specs.Plain.{Error, ArcRef, HandleNumber, Identity, Kind, LoadNumber, NodeNumber, Meaning, Shape, Tree, Types, tree, type_of, Owner, HandleRow, Event, EventReply, Among, longest_path, above, height, deepest_path}
 use Rattle.pagable_model.specs.declared.error.Error.TheVariants as errors
-use Rattle.pagable_model.specs.declared.data_key.OptionalDataKey.TheVariants as optional
 use Rattle.pagable_world.specs.declared.answers.Beginning.TheVariants as beginnings
 use Rattle.pagable_world.specs.declared.calls.Want.TheVariants as wants
 use Rattle.pagable_world.specs.declared.calls.Call.TheVariants as calls
@@ -16,13 +14,11 @@ use Rattle.pagable_world.specs.declared.events.LoadAnswer.TheVariants as ends
 use Rattle.pagable_world.specs.declared.events.Event.TheVariants as events
 use Rattle.pagable_world.specs.declared.events.EventReply.TheVariants as answers
 use Rattle.pagable_world.specs.Kinds.{fits_mode}
-use Rattle.pagable_world.specs.World.{Core, OpenLoad, of_cell, Task, of_item, of_entry, Walking, row_at, key_at, is_here, Values, Seen, IsLawful}
+use Rattle.pagable_world.specs.World.{Core, OpenLoad, of_cell, Task, of_item, of_entry, Walking, row_at, Values, Seen}
 use Rattle.pagable_world.specs.LoadCalls.{from_cache, AskCall, Adopts, LazyCall}
 use Rattle.pagable_world.specs.Workers.{IsPublished}
-use Rattle.pagable_world.specs.Pager.{MachineState, IsWhole, IsMachineWhole, StandsFor}
-use Rattle.pagable_world.specs.Runs.{ReadsItsTypes, HoldsSettled, Moment, AreMoments, state_after, Fact, TreesAlong}
-use Rattle.pagable_world.specs.Order.{ReadsTooDeep}
-use Rattle.pagable_world.specs.Headline.{Meets}
+use Rattle.pagable_world.specs.Pager.{MachineState, IsWhole, IsMachineWhole}
+use Rattle.pagable_world.specs.Runs.{Moment, AreMoments, state_after, Fact}
 
 -- whose turn a moment is; the begin of a load or worker is its first
 pub data Turn : Type 0 where
@@ -54,16 +50,6 @@ pub data Reaches : Meaning ⊥ → Tree → Type 0 where
   in-rest : (a b : Meaning ⊥) (t : Tree) → Reaches b t → Reaches (pair a b) t
   in-part : (n : ℕ) (a : Meaning ⊥) (t : Tree) → Reaches a t → Reaches (variant n a) t
 
--- the tree's own value has a form, but with more levels than there are
-pub record IsTooNested (types : Types) (t : Tree) : Type 0 where
-  pub shape : Shape
-  pub is : types.nodes t.type ≡ Some shape
-  pub levels : ℕ
-  pub bytes : List ℕ
-  pub kids : List Kid
-  pub form : Form Kid kind_of_kid types.parts levels shape (unfolded t.meaning) bytes kids
-  pub none_within : (some_bytes : List ℕ) (some_kids : List Kid) → ¬ TreeForm types shape t.meaning some_bytes some_kids
-
 -- no bytes are a form of the tree's own value, for want of levels or for another fault
 pub record HasNoForm (types : Types) (t : Tree) : Type 0 where
   pub shape : Shape
@@ -71,9 +57,6 @@ pub record HasNoForm (types : Types) (t : Tree) : Type 0 where
   pub none_within : (some_bytes : List ℕ) (some_kids : List Kid) → ¬ TreeForm types shape t.meaning some_bytes some_kids
 
 -- the tree, or one that it reaches, is so
-abbrev pub HasTooNested : Types → Tree → Type 0
-HasTooNested types t = IsTooNested types t ⊎ ((below : Tree) × Reaches t.meaning below × IsTooNested types below)
-
 abbrev pub LeadsToNoForm : Types → Tree → Type 0
 LeadsToNoForm types t = HasNoForm types t ⊎ ((below : Tree) × Reaches t.meaning below × HasNoForm types below)
 
@@ -86,36 +69,12 @@ abbrev pub IsTooDeepTask : (ℕ → Tree) → Task → Type 0
 IsTooDeepTask trees (of_item written) = (r : ArcRef) × Among written.references r × IsLongBelow r.kind.0 (trees r.node.0).meaning
 IsTooDeepTask trees (of_entry h i) = longest_path < deepest_path (trees i.node.0).meaning
 
--- some value that the task reaches has no form for its levels
-abbrev pub IsTooNestedTask : Types → (ℕ → Tree) → Task → Type 0
-IsTooNestedTask types trees (of_item written) = (r : ArcRef) × Among written.references r × HasTooNested types (trees r.node.0)
-IsTooNestedTask types trees (of_entry h i) = HasTooNested types (trees i.node.0)
-
 -- some value that the task reaches has no form
 abbrev pub IsFormlessTask : Types → (ℕ → Tree) → Task → Type 0
 IsFormlessTask types trees (of_item written) = (r : ArcRef) × Among written.references r × LeadsToNoForm types (trees r.node.0)
 IsFormlessTask types trees (of_entry h i) = LeadsToNoForm types (trees i.node.0)
 
--- A cell that the worker meets is away, and the reading of its key is too deep: that takes references too which a repeated key of a map drops, so
--- that its path may be longer than any of the cell's tree.
-pub record IsTooDeepReading {N E : Type 0} (v : Values N) (s : MachineState N E) (walking : Walking) : Type 0 where
-  pub i : Identity
-  pub key : ℕ
-  pub meets : Meets (s.work.shelves walking.table) walking.task i
-  pub away : is_here s.pager.core i.node.0 ≡ false
-  pub has : key_at s.pager.core i.node.0 ≡ optional.Some key
-  pub deep : ReadsTooDeep v.types s.pager.core.stored (type_of i.kind.0) key
-
--- Too deep is answered only where one of these is so. A reading may be cut short by the cache.
-abbrev pub DeepHasCause : {N E B W : Type 0} → Values N → Fact N E B W
-DeepHasCause v s trees (events.WorkerStep n) (answers.WorkerMoved (Ok reply)) s' trees' =
-    (walking : Walking)
-    → s.work.walkings n.0 ≡ Some walking
-    → reply.answer ≡ Some (finals.Failed errors.TooDeep)
-    → IsTooDeepTask trees walking.task ⊎ IsTooNestedTask v.types trees walking.task ⊎ IsTooDeepReading v s walking
-DeepHasCause v s trees event reply s' trees' = Unit {0}
-
--- No key is answered where the first is so, or where some value has no form for whatever fault.
+-- No key is answered where such a path leads down, or where some value has no form for whatever fault.
 abbrev pub KeyIsShallow : {N E B W : Type 0} → Values N → Fact N E B W
 KeyIsShallow v s trees (events.WorkerStep n) (answers.WorkerMoved (Ok reply)) s' trees' =
     (walking : Walking) (key : ℕ) → s.work.walkings n.0 ≡ Some walking → reply.answer ≡ Some (finals.Key key) → (¬ IsTooDeepTask trees walking.task) × (¬ IsFormlessTask v.types trees walking.task)
@@ -203,13 +162,3 @@ OneIdentityLaw {N} {B} {W} E m =
     → ((x : Moment N E B W) → Among between x → LeavesCache x.event)
     → GetsReference (state_after first between).pager.core other_kind other_key other_n last
     → HaveOneIdentity kind other_kind key other_key n other_n between
-
--- all that holds of one event besides where turns stand together
-pub record IsRightAlone {N E B W : Type 0} (v : Values N) (s : MachineState N E) (trees : ℕ → Tree) (event : Event N B W) (reply : EventReply N B W) (s' : MachineState N E) (trees' : ℕ → Tree) : Type 0 where
-  pub deep : DeepHasCause v s trees event reply s' trees'
-  pub shallow : KeyIsShallow v s trees event reply s' trees'
-  pub sound : LoadIsSound s trees event reply s' trees'
-
--- what holds of a chain besides, where each load and each page-out is done in one piece
-pub record HeadlineAlone {N E B W : Type 0} (m : Seen N B W) (start : MachineState N E) (moments : List (Moment N E B W)) : Type 0 where
-  pub trees : StandTogether moments → (trees : ℕ → Tree) → StandsFor m.values start trees → IsLawful m.values → ReadsItsTypes m.values.types → HoldsSettled m.values start.pager → TreesAlong m (IsRightAlone m.values) start trees moments

@@ -1,14 +1,10 @@
 //! `pagectl HASH` keeps named texts in a pager, and answers one line for each line that it reads.
 #![tactic(auto)]
 
-mod command;
-mod lines;
-mod serve;
-mod session;
 #[cfg(test)]
 mod tests;
 
-use crate::serve::serve;
+use named_texts::serve::serve;
 use pagable::{Sha256Key, WeighHash};
 use std::io::{BufReader, BufWriter};
 use std::process::ExitCode;

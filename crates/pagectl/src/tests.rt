@@ -12,3 +12,4 @@ mod registries;
 mod session;
 mod sha256;
 mod storage;
+mod written;

@@ -41,11 +41,16 @@ pub fn pager_over(alloc: Global, word: &str) -> CellPager {
     Pager::new(alloc, FailingStorage::new(blobs, calls_before), CellEnv)
 }
 
+/// A machine over such a pager.
+fn machine_over(alloc: Global, word: &str) -> CellMachine {
+    Machine::new(alloc, pager_over(alloc, word))
+}
+
 impl Calls {
     /// A machine without cells, of whose storage no call fails.
     pub fn new(alloc: Global) -> Calls {
         Calls {
-            machine: Machine::new(alloc, pager_over(alloc, "")),
+            machine: machine_over(alloc, ""),
         }
     }
 
@@ -54,7 +59,7 @@ impl Calls {
         let (word, rest) = split(line);
         match word {
             "machine" => {
-                self.machine = Machine::new(alloc, pager_over(alloc, rest));
+                self.machine = machine_over(alloc, rest);
                 Ok(String::new(alloc))
             }
             "look" => look(alloc, self.machine.pager(), rest.parse::<u64>()?),

@@ -30,14 +30,18 @@ fn cut(alloc: Global, name: &str, input: &str) -> anyhow::Result<String> {
     Ok(common)
 }
 
+/// What the JSON value of a text is written as, or the number of the refusal; None for a text of none.
+fn json_bytes(alloc: Global, text: &str) -> Option<Result<Vec<u8>, u32>> {
+    let value = Value::from_str(alloc, text).ok()?;
+    Some(written(alloc, &AnyEnv, &value))
+}
+
 /// What the JSON value of a text is written as.
 fn json(alloc: Global, text: &str) -> Result<String, AllocError> {
-    let Ok(value) = Value::from_str(alloc, text) else {
-        return String::from_str(alloc, "no JSON");
-    };
-    match written(alloc, &AnyEnv, &value) {
-        Ok(bytes) => hex::encode(alloc, bytes.as_slice()),
-        Err(number) => format!(in alloc; "refused {number}"),
+    match json_bytes(alloc, text) {
+        None => String::from_str(alloc, "no JSON"),
+        Some(Ok(bytes)) => hex::encode(alloc, bytes.as_slice()),
+        Some(Err(number)) => format!(in alloc; "refused {number}"),
     }
 }
 

@@ -35,21 +35,33 @@ fn answer(rt: &HostRuntime, calls: &mut Calls, word: &str) -> anyhow::Result<()>
     Ok(())
 }
 
-fn main(rt: HostRuntime) -> anyhow::Result<()> {
-    let mut words = env::args(&rt)?;
-    let _program = words.next();
-    let Some(first) = words.next() else {
-        return worked::run(&rt);
-    };
-    if first.as_str() == "time" {
-        let (row, runs) = (words.next(), words.next());
-        let runs = runs.as_ref().map_or("5", String::as_str);
-        return times::run(&rt, row.as_ref().map(String::as_str), runs.parse::<u64>()?);
-    }
-    let mut calls = Calls::new(rt.alloc());
-    answer(&rt, &mut calls, first.as_str())?;
+/// Answers the lines of each word's file. The rows of calls of one file go on where those of the file before have ended.
+fn answer_words(rt: &HostRuntime, calls: &mut Calls, words: &[String]) -> anyhow::Result<()> {
     for word in words {
-        answer(&rt, &mut calls, word.as_str())?;
+        answer(rt, calls, word.as_str())?;
     }
     Ok(())
+}
+
+/// Times the row of the first word, or every row, as often as the second one tells, or five times.
+fn time(rt: &HostRuntime, words: &[String]) -> anyhow::Result<()> {
+    let runs = words.get(1).map_or("5", String::as_str);
+    times::run(rt, words.first().map(String::as_str), runs.parse::<u64>()?)
+}
+
+/// Does what the words after the program's name ask for.
+fn run(rt: &HostRuntime, words: &[String]) -> anyhow::Result<()> {
+    match words {
+        [] => worked::run(rt),
+        [first, rest @ ..] if first.as_str() == "time" => time(rt, rest),
+        _ => {
+            let mut calls = Calls::new(rt.alloc());
+            answer_words(rt, &mut calls, words)
+        }
+    }
+}
+
+fn main(rt: HostRuntime) -> anyhow::Result<()> {
+    let words: Vec<String> = env::args(&rt)?.skip(1).collect(rt.alloc())?;
+    run(&rt, words.as_slice())
 }

@@ -5,19 +5,17 @@ mod outcome;
 
 use crate::times::cells::cells;
 use crate::times::outcome::Outcome;
-use anyhow::ensure;
+use anyhow::{bail, ensure};
 use indexmap::IndexMap;
 use pagable::{
-    NoReferences, PagableDeserialize, PagableDeserializerImpl, PagableSerialize,
-    PagableSerializerImpl, SessionContext, WeighHash,
+    Error, NoReferences, PagableDeserialize, PagableDeserializerImpl, PagableSerialize,
+    SessionContext,
 };
-use pagable_examples::{TextEnv, input_of};
+use pagable_examples::input_of;
+use row_values::carried::{AnyEnv, written};
 use std::alloc::Global;
 use std::collections::BTreeMap;
 use std::time::{Clock, Instant};
-
-/// The values hold no references, so any environment will do.
-type AnyEnv = TextEnv<WeighHash>;
 
 /// All rows in their order, and how many values each has.
 const ROWS: [(&'static str, u32); 6] = [
@@ -29,6 +27,16 @@ const ROWS: [(&'static str, u32); 6] = [
     ("cells", 10_000),
 ];
 
+/// The `T` at the front of these bytes.
+fn read_of<'de, T: PagableDeserialize<'de, AnyEnv>>(
+    alloc: Global,
+    bytes: &'de [u8],
+) -> Result<T, Error> {
+    let session = SessionContext::new(alloc);
+    let lent = NoReferences::new(&AnyEnv, &session);
+    T::pagable_deserialize(alloc, &mut PagableDeserializerImpl::new(bytes, &[], lent))
+}
+
 /// Reads a `T` from these bytes and writes it again: what was written, and how long both took.
 fn once<'de, T>(
     clock: &impl Clock,
@@ -38,16 +46,13 @@ fn once<'de, T>(
 where
     T: PagableSerialize<AnyEnv> + PagableDeserialize<'de, AnyEnv> + Drop,
 {
-    let env = AnyEnv::new();
-    let session = SessionContext::new(alloc);
     let start = Instant::now(clock)?;
-    let mut source = PagableDeserializerImpl::new(bytes, &[], NoReferences::new(&env, &session));
-    let value = T::pagable_deserialize(alloc, &mut source)?;
+    let value: T = read_of(alloc, bytes)?;
     let read = start.elapsed(clock)?;
     let start = Instant::now(clock)?;
-    let mut out = PagableSerializerImpl::testing_new(alloc, &env);
-    value.pagable_serialize(&mut out)?;
-    let written = out.finish()?.bytes;
+    let Ok(written) = written(alloc, &AnyEnv, &value) else {
+        bail!("a value isn't written");
+    };
     let write = start.elapsed(clock)?;
     let bytes = written.len();
     Ok((written, Outcome { bytes, write, read }))

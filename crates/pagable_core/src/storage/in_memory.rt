@@ -157,6 +157,10 @@ impl<E: Env> PagableStorage<E> for InMemoryBlobs<E> {
         self.closed = true;
     }
 
+    fn has_closed(&self) -> bool {
+        self.closed
+    }
+
     fn failures(&self) -> u64 {
         0
     }

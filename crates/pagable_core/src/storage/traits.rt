@@ -61,6 +61,10 @@ pub trait PagableStorage<E: Env>: Sized {
         ensures closed { is_closed self.new ≡ true }
         ensures later { failed self.old ≤ failed self.new };
 
+    /// Whether the storage was closed.
+    fn has_closed(&self) -> bool
+        ensures { result ≡ is_closed self.now };
+
     /// How often the storage has failed; at 2^64 - 1 the count stays.
     fn failures(&self) -> u64
         ensures { result ≡ failed self.now };

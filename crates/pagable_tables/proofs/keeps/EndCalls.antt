@@ -186,7 +186,7 @@ end-whole me l x node_type refs (Err (e, None)) whole call placed = let v = call
 
 -- ---- a load of a key hands over
 
-both-none : (a b : Option Error) → earlier a b ≡ None → (a ≡ None) × (b ≡ None)
+pub both-none : (a b : Option Error) → earlier a b ≡ None → (a ≡ None) × (b ≡ None)
 both-none None b e = (refl, e)
 both-none (Some x) None e = absurd (cc)
 both-none (Some x) (Some y) e = at (nat_lt (rank y) (rank x)) e
@@ -195,7 +195,7 @@ both-none (Some x) (Some y) e = at (nat_lt (rank y) (rank x)) e
     at true e = absurd (cc)
     at false e = absurd (cc)
 
-handed-mine : (w : Core) (owner : Owner) (seen : List ℕ) (hs : List HandleNumber) → named_fault w owner seen hs ≡ None → (q : ℕ) → is_in (numbers_of hs) q ≡ true → IsMine w owner q
+pub handed-mine : (w : Core) (owner : Owner) (seen : List ℕ) (hs : List HandleNumber) → named_fault w owner seen hs ≡ None → (q : ℕ) → is_in (numbers_of hs) q ≡ true → IsMine w owner q
 unfolding named_fault is_in
 handed-mine w owner seen [] good q named = absurd (cc)
 handed-mine w owner seen (h ∷ hs) good q named =
@@ -217,7 +217,7 @@ handed-mine w owner seen (h ∷ hs) good q named =
     at false e named mine rest = rest named
 
 -- who isn't refused owns the load
-asker-owns : {w : Core} → IsWhole w → (me : Owner) (l : LoadNumber) → load_fault w me l ≡ None → MayOwnLoad w me
+pub asker-owns : {w : Core} → IsWhole w → (me : Owner) (l : LoadNumber) → load_fault w me l ≡ None → MayOwnLoad w me
 asker-owns {w} whole me l none = of (w.loads l.0) refl none
   where
     own : (b : Bool) → refused_if (not b) errors.NotYours ≡ None → b ≡ true

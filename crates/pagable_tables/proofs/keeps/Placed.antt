@@ -6,7 +6,7 @@ use Rattle.pagable_tables.specs.Falling.{IsFalling, owns_nothing}
 use Rattle.pagable_tables.specs.Core.{plain_of, ArePlaced, IsWhole}
 use Rattle.pagable_tables.proofs.Alive.{length-live-le}
 
-placed : (t : Tables) → ArePlaced (plain_of t)
+pub placed : (t : Tables) → ArePlaced (plain_of t)
 placed t =
     let (a, b) = t.holdings.handles.places.ok in
     let (c, d) = t.holdings.list.ok in

@@ -1,6 +1,6 @@
 //! Lines from a reader and to a writer that fail. What is answered to each line stands in `stdin` and `stdout` of this crate.
 
-use crate::serve::serve;
+use named_texts::serve::serve;
 use pagable::WeighHash;
 use std::io;
 use std::io::{BufReader, Read, Write};

@@ -117,6 +117,18 @@ fn key(number: u128) -> Result<DataKey, &'static str> {
     DataKey::new(number).ok_or("0 is no key")
 }
 
+/// What two references come to, and the first one once more, as a seek to the front makes it.
+fn two_and_again<D: PagableDeserializer<TestEnv>>(
+    alloc: Global,
+    source: &mut D,
+) -> [Result<Held, Error>; 3] {
+    let front = source.position();
+    let first = Held::pagable_deserialize(alloc, source);
+    let second = Held::pagable_deserialize(alloc, source);
+    source.seek(front);
+    [first, second, Held::pagable_deserialize(alloc, source)]
+}
+
 #[test]
 fn a_reference_takes_one_key(rt: HostRuntime) -> Result<(), Fail> {
     let alloc = rt.alloc();
@@ -126,37 +138,39 @@ fn a_reference_takes_one_key(rt: HostRuntime) -> Result<(), Fail> {
         session: SessionContext::new(alloc),
     };
     let mut source = PagableDeserializerImpl::new(b"", arcs.as_slice(), places);
-    let front = PagableDeserializer::<TestEnv>::position(&source);
-    let first = Held::pagable_deserialize(alloc, &mut source)
-        .ok()
-        .ok_or("refused")?;
-    equal(&rt, first.arc.handle, HandleNumber(9), "handle");
-    let second = Held::pagable_deserialize(alloc, &mut source);
+    let [first, second, again] = two_and_again(alloc, &mut source);
+    let handle = match &first {
+        Ok(held) => held.arc.handle,
+        Err(_) => HandleNumber(0),
+    };
+    equal(&rt, handle, HandleNumber(9), "handle");
     equal(&rt, second, Err(Error::NoMoreKeys), "second reference");
-    PagableDeserializer::<TestEnv>::seek(&mut source, front);
-    let again = Held::pagable_deserialize(alloc, &mut source);
-    equal(&rt, again, Ok(first), "first reference again");
+    equal(&rt, again, first, "first reference again");
     Ok(())
+}
+
+/// Why a reference is refused, and how many keys are used then.
+fn refusal_and_keys<D: PagableDeserializer<TestEnv>>(
+    alloc: Global,
+    source: &mut D,
+) -> (Option<Error>, usize) {
+    let refused = Held::pagable_deserialize(alloc, source).err();
+    (refused, source.position().arc_index)
 }
 
 #[test]
 fn a_refused_reference_uses_its_key(rt: HostRuntime) -> Result<(), Fail> {
     let alloc = rt.alloc();
-    let env = TestEnv;
     let session = SessionContext::new(alloc);
     let arcs = vec![in alloc; key(5)?, key(6)?]?;
-    let nobody = NoReferences::new(&env, &session);
+    let nobody = NoReferences::new(&TestEnv, &session);
     let mut source = PagableDeserializerImpl::new(b"", arcs.as_slice(), nobody);
     for used in 1..3 {
-        let refused = Held::pagable_deserialize(alloc, &mut source);
-        equal(&rt, refused, Err(Error::WrongKind), "reference");
-        let place = PagableDeserializer::<TestEnv>::position(&source);
-        equal(&rt, place.arc_index, used, "keys used");
+        let refused = refusal_and_keys(alloc, &mut source);
+        equal(&rt, refused, (Some(Error::WrongKind), used), "reference");
     }
-    let none = Held::pagable_deserialize(alloc, &mut source);
-    equal(&rt, none, Err(Error::NoMoreKeys), "no key left");
-    let place = PagableDeserializer::<TestEnv>::position(&source);
-    equal(&rt, place.arc_index, 2, "keys used");
+    let none = refusal_and_keys(alloc, &mut source);
+    equal(&rt, none, (Some(Error::NoMoreKeys), 2), "no key left");
     Ok(())
 }
 

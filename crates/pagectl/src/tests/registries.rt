@@ -2,10 +2,8 @@
 //! read of both stands in the data of `vectors`.
 
 use crate::tests::equal::equal;
-use pagable::{
-    Error, PagableSerialize, PagableSerializerImpl, PagableTagged, StaticStr, StaticValue,
-    StaticValueEntry,
-};
+use crate::tests::written::is_written;
+use pagable::{Error, PagableTagged, StaticStr, StaticValue, StaticValueEntry};
 use pagable_examples::{Animal, Zoo};
 use std::alloc::Global;
 use std::test::Fail;
@@ -15,26 +13,16 @@ fn zoo(alloc: Global) -> Result<Zoo, Error> {
     Zoo::new(alloc, &["b", "a", "b"], &[], &[])
 }
 
-/// A text under this index, whether or not it stands there.
-fn word(value: &'static str, index: u32) -> StaticStr {
-    StaticValue(StaticValueEntry { value, index })
-}
-
-/// Whether writing the value comes out so.
-fn is_written<T: PagableSerialize<Zoo>>(
+/// Whether a text under this index, whether or not it stands there, is written so.
+fn is_word_written(
     alloc: Global,
     zoo: &Zoo,
-    value: &T,
-    wanted: Result<&[u8], Error>,
+    value: &'static str,
+    index: u32,
+    wanted: Result<&[u8], u32>,
 ) -> bool {
-    let mut out = PagableSerializerImpl::testing_new(alloc, zoo);
-    if let Err(refusal) = value.pagable_serialize(&mut out) {
-        return wanted == Err(refusal);
-    }
-    match out.finish() {
-        Ok(data) => wanted == Ok(data.bytes.as_slice()),
-        Err(refusal) => wanted == Err(refusal),
-    }
+    let word: StaticStr = StaticValue(StaticValueEntry { value, index });
+    is_written(alloc, zoo, &word, wanted)
 }
 
 #[test]
@@ -55,17 +43,14 @@ fn equal_static_values_stand_one_after_another(rt: HostRuntime) -> Result<(), Fa
 #[test]
 fn a_static_value_is_written_under_its_own_index_alone(rt: HostRuntime) -> Result<(), Fail> {
     let zoo = zoo(rt.alloc()).ok().ok_or("no memory")?;
-    let rows: [(&'static str, u32, Result<&[u8], Error>); 6] = [
-        ("a", 0, Ok(&[0])),
-        ("b", 1, Ok(&[1])),
-        ("b", 2, Ok(&[2])),
-        ("b", 0, Err(Error::Unregistered)),
-        ("a", 1, Err(Error::Unregistered)),
-        ("z", 9, Err(Error::Unregistered)),
-    ];
-    for (text, index, wanted) in rows {
-        let found = is_written(rt.alloc(), &zoo, &word(text, index), wanted);
-        assert!(rt; found, "{text} under {index}");
+    for (text, index) in [("a", 0u8), ("b", 1), ("b", 2)] {
+        let found = is_word_written(rt.alloc(), &zoo, text, u32::from(index), Ok(&[index]));
+        equal(&rt, found, true, text);
+    }
+    let unregistered = Err(Error::Unregistered.number());
+    for (text, index) in [("b", 0), ("a", 1), ("z", 9)] {
+        let found = is_word_written(rt.alloc(), &zoo, text, index, unregistered);
+        equal(&rt, found, true, text);
     }
     Ok(())
 }
@@ -73,10 +58,10 @@ fn a_static_value_is_written_under_its_own_index_alone(rt: HostRuntime) -> Resul
 #[test]
 fn a_tag_need_not_be_registered_to_be_written(rt: HostRuntime) -> Result<(), Fail> {
     let zoo = zoo(rt.alloc()).ok().ok_or("no memory")?;
-    let rows: [(Animal, Result<&[u8], Error>); 3] = [
+    let rows: [(Animal, Result<&[u8], u32>); 3] = [
         (Animal::Cat, Ok(b"\x03Cat")),
         (Animal::Dog(7), Ok(b"\x03Dog\x07")),
-        (Animal::OldCat(5), Err(Error::Unregistered)),
+        (Animal::OldCat(5), Err(Error::Unregistered.number())),
     ];
     for (animal, wanted) in rows {
         let found = is_written(rt.alloc(), &zoo, &animal, wanted);

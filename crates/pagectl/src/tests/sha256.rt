@@ -1,6 +1,6 @@
 //! The program with SHA-256.
 
-use crate::serve::serve;
+use named_texts::serve::serve;
 use pagable::Sha256Key;
 use std::io::BufReader;
 use std::test::Fail;

@@ -18,6 +18,26 @@ fn fetch<S: PagableStorage<AnyEnv>>(
     Ok(storage.fetch_data_blocking(alloc, key)?.bytes.len())
 }
 
+/// What a storage answers to a store, to two fetches with the count of failures between them, and to a flush.
+fn asked<S: PagableStorage<AnyEnv>>(
+    alloc: Global,
+    storage: &mut S,
+    blob: PagableData,
+    key: DataKey,
+) -> (
+    Result<DataKey, Error>,
+    Result<usize, Error>,
+    u64,
+    Result<usize, Error>,
+    Result<(), Error>,
+) {
+    let stored = storage.store_data(alloc, blob);
+    let first = fetch(alloc, storage, key);
+    let failures = storage.failures();
+    let second = fetch(alloc, storage, key);
+    (stored, first, failures, second, storage.flush())
+}
+
 #[test]
 fn storages_over_another(rt: HostRuntime) -> Result<(), Fail> {
     let alloc = rt.alloc();
@@ -28,21 +48,32 @@ fn storages_over_another(rt: HostRuntime) -> Result<(), Fail> {
         bytes: vec![in alloc; 0, 9]?,
         arcs: Vec::new(alloc),
     };
-    let stored = PagableStorage::<AnyEnv>::store_data(&mut storage, alloc, blob);
+    let (stored, first, failures, second, flushed) = asked(alloc, &mut storage, blob, key);
     equal(&rt, stored, Ok(key), "stored");
-    let failed = fetch(alloc, &mut storage, key);
-    equal(&rt, failed, Err(Error::Storage(7)), "the call that fails");
-    let failures = PagableStorage::<AnyEnv>::failures(&storage);
+    equal(&rt, first, Err(Error::Storage(7)), "the call that fails");
     equal(&rt, failures, 1, "failures");
-    equal(&rt, fetch(alloc, &mut storage, key), Ok(2), "fetched");
+    equal(&rt, second, Ok(2), "fetched");
     equal(&rt, (storage.stores(), storage.fetches()), (1, 2), "counts");
-    let flushed = PagableStorage::<AnyEnv>::flush(&mut storage);
     equal(&rt, flushed, Ok(()), "flush");
     Ok(())
 }
 
-/// What a page-out of one cell comes to over a storage whose first call fails, or a closed one; what is listed then; and what
-/// another page-out comes to.
+type FailingPager = Pager<AnyEnv, FailingStorage<InMemoryBlobs<AnyEnv>>>;
+
+/// What a page-out of one cell comes to, what is listed then, and what another page-out comes to.
+fn two_page_outs(
+    alloc: Global,
+    pager: &mut FailingPager,
+) -> Result<(Option<Error>, usize, Option<Error>), Error> {
+    let node = TextNode::new(alloc, "x")?;
+    let cell = pager.new_loose(alloc, node).map_err(|refused| refused.0)?;
+    pager.unpin(cell)?;
+    let first = page_out_pending(alloc, pager).err();
+    let listed = pager.pending();
+    Ok((first, listed, page_out_pending(alloc, pager).err()))
+}
+
+/// The same over a storage whose first call fails, or a closed one.
 fn paged_out(
     alloc: Global,
     is_closed: bool,
@@ -51,13 +82,8 @@ fn paged_out(
     if is_closed {
         blobs.close();
     }
-    let mut pager = Pager::new(alloc, FailingStorage::new(blobs, 0), AnyEnv::new());
-    let node = TextNode::new(alloc, "x")?;
-    let cell = pager.new_loose(alloc, node).map_err(|refused| refused.0)?;
-    pager.unpin(cell)?;
-    let first = page_out_pending(alloc, &mut pager).err();
-    let listed = pager.pending();
-    Ok((first, listed, page_out_pending(alloc, &mut pager).err()))
+    let storage = FailingStorage::new(blobs, 0);
+    two_page_outs(alloc, &mut Pager::new(alloc, storage, AnyEnv::new()))
 }
 
 #[test]

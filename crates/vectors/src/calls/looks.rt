@@ -1,7 +1,7 @@
 //! Looks at a pager, which change nothing.
 
 use crate::calls::CellPager;
-use pagable::{Env, Error, HandleNumber, NodeSet, OptionalDataKey, PagableStorage, Pager};
+use pagable::{Error, HandleNumber, OptionalDataKey};
 use std::alloc::Global;
 
 /// The number of a key, or 0 for none.
@@ -13,13 +13,7 @@ fn number(key: OptionalDataKey) -> u128 {
 }
 
 /// A handle's node, the node's count and key, and whether the value is out of memory.
-fn seen<E: Env, S: PagableStorage<E>>(
-    pager: &Pager<E, S>,
-    handle: HandleNumber,
-) -> Result<(u64, u64, u128, bool), Error>
-where
-    E::Node: NodeSet<E>,
-{
+fn seen(pager: &CellPager, handle: HandleNumber) -> Result<(u64, u64, u128, bool), Error> {
     let node = pager.node_of(handle)?.0;
     let count = pager.count(handle)?;
     let key = number(pager.key(handle)?);

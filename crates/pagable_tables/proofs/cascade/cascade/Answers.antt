@@ -1,38 +1,71 @@
-use Rattle.std.proofs.Common.{arith}
+use Rattle.std.proofs.Common.{◌≡◌, ℕ, Bool, true, false, Option, Some, None, arith, inl, refl, ap, sym, ◌∙◌}
+use Rattle.std.specs.Prelude.{◌≢◌, IfSome}
+use Rattle.std.proofs.lemmas.Bool.Decides.{nat_tests}
+use Rattle.pagable_model.specs.declared.numbers.NodeNumber.{NodeNumber}
 use Rattle.pagable_tables.specs.Live.{live}
-use Rattle.pagable_tables.specs.Falling.{Steps}
+use Rattle.pagable_tables.specs.Falling.{Steps, has_value, is_node}
+use Rattle.pagable_tables.proofs.Shedding.{lasts-on, none-falls-in}
+use Rattle.pagable_tables.specs.ByNumber.{counts_at}
 use Rattle.pagable_tables.proofs.Standing.{valued-le, none-falls, one-falls}
 use Rattle.pagable_tables.proofs.Ended.{ended}
+use Rattle.pagable_tables.proofs.Fewer.{steps-fewer}
 use Rattle.pagable_tables.proofs.Next.{steps-on}
 use Rattle.pagable_tables.proofs.cascade.cascade.Goals as goal
 
+abbrev number-in : Option NodeNumber → ℕ
+number-in None = 0
+number-in (Some m) = m.0
+
+not-node : (r : Option NodeNumber) (n : ℕ) → is_node r n ≡ false → r ≢ Some (record { 0 = n })
+not-node None n other eq = absurd (cc)
+not-node (Some m) n other eq = let same : m.0 ≡ n = ap number-in eq in absurd (grind (arith, nat_tests))
+
+gone-node : (at : ℕ → Bool) (r : Option NodeNumber) (n : ℕ) → IfSome r (λ m. at m.0 ≡ false) → is_node r n ≡ true → at n ≡ false
+gone-node at None n gone is = absurd (cc)
+gone-node at (Some m) n gone is = let same : m.0 ≡ n = grind (arith, nat_tests) in sym (ap at same) ∙ gone
+
 pub fall-init : goal.fall-init
-fall-init c =
+fall-init g c =
     let w = c.requires.falling in
     let v = valued-le (live c.args.t.now.handles.places.items) in
     let b = c.budget-left.ensures in
     let few = w.2 in
-    ((w.0, w.1, omega arith), λ before w given f. f)
+    ((w.0, w.1, omega arith), λ before w given f. f, λ kept n. (inl refl, kept n), omega arith)
 
 pub overflow_sub-left : goal.overflow_sub-left
-overflow_sub-left c =
+overflow_sub-left g c =
     let w = c.fall.invariant.0 in
     let n = one-falls c.fall.t w.0 w.1 c.fall-test.true in
     let few = w.2 in
     omega arith
 
 pub fall-preserved : goal.fall-preserved
-fall-preserved c =
+fall-preserved g c =
     let i = c.fall.invariant.0 in
-    let s : Steps c.fall.t i.0 c.args.lists c.step.result c.step.new.t = c.step.ensures i.0 i.1 in
+    let s : Steps c.fall.t i.0 c.args.lists c.step-done.result c.step-done.new.t = c.step-done.ensures i.0 i.1 in
     let less = s.less in
     let few = i.2 in
-    ((s.rest, s.falling, omega arith), λ before w given f. steps-on before w given c.args.lists c.fall.t c.step.new.t i.0 c.step.result (c.fall.invariant.1 before w given f) i.1 c.fall-test.true s)
+    let fewer = steps-fewer c.fall.t c.step-done.new.t i.0 c.args.lists c.step-done.result s in
+    let so-far = c.fall.invariant.3 in (
+      (s.rest, s.falling, omega arith),
+      λ before w given f. steps-on before w given c.args.lists c.fall.t c.step-done.new.t i.0 c.step-done.result
+          (c.fall.invariant.1 before w given f) i.1 c.fall-test.true s,
+      λ kept n. lasts-on (is_node c.step-done.result n) (counts_at c.fall.t.nodes n)
+          (counts_at c.step-done.new.t.nodes n) _ _ _ (c.let_go.ensures n) (λ other. s.values n (not-node c.step-done.result n other))
+          (gone-node (λ m. has_value (counts_at c.step-done.new.t.nodes m)) c.step-done.result n s.gone) (c.fall.invariant.2 kept n),
+      omega arith,
+    )
 
 pub returns-clause-whole : goal.returns-clause-whole
-returns-clause-whole c = let w = c.fall.invariant.0 in none-falls c.fall.t w.0 w.1 (omega arith)
+returns-clause-whole g c = let w = c.fall.invariant.0 in none-falls c.fall.t w.0 w.1 (omega arith)
 
 pub returns-clause-falls : goal.returns-clause-falls
-returns-clause-falls c before w given so-far =
+returns-clause-falls g c before w given so-far =
     let i = c.fall.invariant.0 in
     ended before w given c.args.lists c.fall.t (c.fall.invariant.1 before w given so-far) (none-falls c.fall.t i.0 i.1 (omega arith))
+
+pub returns-clause-sheds : goal.returns-clause-sheds
+returns-clause-sheds g c = let w = c.fall.invariant.0 in record {
+  left = λ kept n. let l = c.fall.invariant.2 kept n in
+      (l.0, l.1 (none-falls-in c.fall.t (none-falls c.fall.t w.0 w.1 (omega arith)) n));
+}

@@ -1,14 +1,19 @@
-use Rattle.std.proofs.Common.{ℕ, ◌+◌, ◌*◌, ◌≤◌, Bool, List, length}
+use Rattle.std.proofs.Common.{nat_eq, ℕ, ◌+◌, ◌*◌, ◌≤◌, Bool, List, length}
 use Rattle.pagable_world.specs.World.{Core}
 use Rattle.pagable_tables.specs.Live.{live}
-use Rattle.pagable_tables.specs.Falling.{IsFalling, owns_nothing, valued}
+use Rattle.indexmap.specs.IndexMap.{get}
+use Rattle.pagable_tables.specs.ByNumber.{counts_at}
+use Rattle.pagable_tables.specs.Falling.{IsFalling, AreKept, owns_nothing, valued}
+use Rattle.pagable_tables.proofs.Shedding.{Lasting}
 use Rattle.pagable_tables.specs.Onward.{SoFar}
 use Rattle.pagable_tables.proofs.cascade.cascade.Given as goal
 
 abbrev pub invariant-fall : goal.invariant-fall
-invariant-fall l =
+invariant-fall g l =
     ((stack : List ℕ) × IsFalling l.t stack owns_nothing × (2 * valued (live l.t.handles.places.items) + length stack ≤ l.left))
     × ((before w : Core) (given : ℕ → Bool) → SoFar before w given l.lists l.initial.t → SoFar before w given l.lists l.t)
+    × (AreKept (counts_at l.initial.t.nodes) (get nat_eq l.initial.values) → (n : ℕ) → Lasting (counts_at l.t.nodes n) (get nat_eq l.initial.values n) (get nat_eq l.values n))
+    × (length (live l.t.handles.places.items) ≤ length (live l.initial.t.handles.places.items))
 
 abbrev pub decreases-fall : goal.decreases-fall
-decreases-fall l = l.left
+decreases-fall g l = l.left

@@ -8,7 +8,8 @@ use Rattle.pagable_tables.proofs.handles.find.Goals as goal
 
 pub returns-then-place-number-clause-none : goal.returns-then-place-number-clause-none
 returns-then-place-number-clause-none c =
-    none-live c.args.number c.args.places.now (dead-only c.args.number c.args.places.now _ _ c.requires (omega arith) (get_or_default c.args.places.now _ _ _ (omega arith)) c.if-place-number.true c.if-place.false)
+    none-live c.args.number c.args.places.now (dead-only c.args.number c.args.places.now _ _ c.requires (omega arith)
+    (get_or_default c.args.places.now _ _ _ (omega arith)) c.if-place-number.true c.if-place.false)
 
 pub loop-low-preserved-then-place-number-2 : goal.loop-low-preserved-then-place-number-2
 loop-low-preserved-then-place-number-2 c =
@@ -30,7 +31,8 @@ loop-low-preserved c =
 
 pub returns-clause-none : goal.returns-clause-none
 returns-clause-none c =
-    none-live c.args.number c.args.places.now (λ k d lt e. absurd (outside (λ (h : Place). h.row.number.0) c.args.places.now c.args.number _ _ c.loop-low-test.false c.loop-low.invariant.below c.loop-low.invariant.above k d lt e))
+    none-live c.args.number c.args.places.now (λ k d lt e. absurd (outside (λ (h : Place). h.row.number.0) c.args.places.now c.args.number _ _ c.loop-low-test.false
+    c.loop-low.invariant.below c.loop-low.invariant.above k d lt e))
 
 pub returns-then-place-clause-found : goal.returns-then-place-clause-found
 returns-then-place-clause-found c = row-got c.args.places.now _ _ c.args.number c.requires (slice_get-get_or c.args.places.now _ _ (omega arith)) c.if-place.true c.if-place-number.true

@@ -16,7 +16,8 @@ compact-requires c =
     let e = length-live-set c.args.handles.now.places.items c.args.at.place c.args.at.row (record { row = c.args.at.row; is_live = false }) c.requires.place in
     let n = length-set c.args.handles.now.places.items c.args.at.place (record { row = c.args.at.row; is_live = false }) in
     record {
-      ordered = rises-set (λ (s : Place). s.row.number.0) c.args.handles.now.places.items c.args.at.place _ (record { row = c.args.at.row; is_live = false }) c.requires.sound.ordered c.requires.place refl;
+      ordered = rises-set (λ (s : Place). s.row.number.0) c.args.handles.now.places.items c.args.at.place _
+          (record { row = c.args.at.row; is_live = false }) c.requires.sound.ordered c.requires.place refl;
       counted = omega arith;
     }
 
@@ -34,7 +35,8 @@ returns-else-handles-len-clause-sound c =
     let e = length-live-set c.args.handles.now.places.items c.args.at.place c.args.at.row (record { row = c.args.at.row; is_live = false }) c.requires.place in
     let n = length-set c.args.handles.now.places.items c.args.at.place (record { row = c.args.at.row; is_live = false }) in
     record {
-      ordered = rises-set (λ (s : Place). s.row.number.0) c.args.handles.now.places.items c.args.at.place _ (record { row = c.args.at.row; is_live = false }) c.requires.sound.ordered c.requires.place refl;
+      ordered = rises-set (λ (s : Place). s.row.number.0) c.args.handles.now.places.items c.args.at.place _
+          (record { row = c.args.at.row; is_live = false }) c.requires.sound.ordered c.requires.place refl;
       counted = omega arith;
     }
 

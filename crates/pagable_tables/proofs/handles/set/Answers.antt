@@ -12,7 +12,8 @@ returns-clause-sound c =
     let e = length-live-set c.args.handles.now.places.items c.args.at.place c.args.at.row (alive c.args.row) c.requires.place in
     let n = length-set c.args.handles.now.places.items c.args.at.place (alive c.args.row) in
     record {
-      ordered = rises-set (λ (s : Place). s.row.number.0) c.args.handles.now.places.items c.args.at.place _ (alive c.args.row) c.requires.sound.ordered c.requires.place (ap (λ (n : HandleNumber). n.0) c.requires.number);
+      ordered = rises-set (λ (s : Place). s.row.number.0) c.args.handles.now.places.items c.args.at.place _ (alive c.args.row) c.requires.sound.ordered c.requires.place
+          (ap (λ (n : HandleNumber). n.0) c.requires.number);
       counted = omega arith;
     }
 

@@ -1,10 +1,11 @@
-use Rattle.std.proofs.Common.{◌≡◌, ℕ, false, arith, refl, ap, sym, ◌∙◌, subst, Some, None, List, [], ◌∷◌}
+use Rattle.std.proofs.lemmas.Bool.Decides.{nat_tests}
+use Rattle.std.proofs.Common.{◌≡◌, ℕ, Bool, true, false, arith, refl, ap, sym, ◌∙◌, subst, Some, None, List, [], ◌∷◌}
 use Rattle.std.specs.Prelude.{◌≢◌, is_some}
 use Rattle.std.proofs.lemmas.Bool.{cases_eq}
 use Rattle.std.proofs.Common.{inl, inr}
 use Rattle.pagable_tables.specs.Live.{live}
 use Rattle.pagable_tables.specs.ByNumber.{counts_at, refs_at}
-use Rattle.pagable_tables.specs.Falling.{IsFalling, Fits, pins_in, holds_in, falls_in, cell_in, Right, owns_nothing}
+use Rattle.pagable_tables.specs.Falling.{IsFalling, Fits, pins_in, holds_in, falls_in, cell_in, has_value, is_right, is_bare, Right, owns_nothing}
 use Rattle.pagable_tables.specs.declared.rows.Counts.{Counts}
 use Rattle.pagable_tables.specs.declared.holdings.Holdings.{Holdings}
 use Rattle.pagable_tables.proofs.Fitting.{done-fits, first-waits, pins-le-held, settled-right}
@@ -14,7 +15,8 @@ there : (t : Holdings) (stack : List ℕ) → IsFalling t stack owns_nothing →
 there t [] w some none = some w.fits.chain
 there t (n ∷ ns) w some none =
     let top : t.top ≡ n = w.fits.chain.0 in
-    let fits : Fits (counts_at t.nodes) (refs_at t.nodes) (live t.handles.places.items) n (n ∷ ns) owns_nothing = subst (λ m. Fits (counts_at t.nodes) (refs_at t.nodes) (live t.handles.places.items) m (n ∷ ns) owns_nothing) top w.fits in
+    let fits : Fits (counts_at t.nodes) (refs_at t.nodes) (live t.handles.places.items) n (n ∷ ns) owns_nothing =
+    subst (λ m. Fits (counts_at t.nodes) (refs_at t.nodes) (live t.handles.places.items) m (n ∷ ns) owns_nothing) top w.fits in
     let waits = first-waits _ _ _ _ _ _ fits in
     let is : counts_at t.nodes n ≡ None = subst (λ m. counts_at t.nodes m ≡ None) top none in
     let a : falls_in (counts_at t.nodes n) ≡ false = ap falls_in is in
@@ -22,6 +24,10 @@ there t (n ∷ ns) w some none =
 
 pub unreachable-requires : goal.unreachable-requires
 unreachable-requires c = there c.args.t.now c.requires.falling.0 c.requires.falling.1 c.requires.some (sym c.counts_of.ensures ∙ c.in_default.is)
+
+-- where a node that fell still has a handle, it has a key, and nothing pins it
+settled-value : (y : Counts) (bare : Bool) → y.is_falling ≡ true → is_right y bare ≡ true → y.holds ≢ 0 → has_value (Some (record y { is_falling = false; next = 0 })) ≡ false
+settled-value y bare falls right held = grind (arith, nat_tests)
 
 -- the top stands first in the stack
 first : (t : Holdings) (n : ℕ) (ns : List ℕ) → IsFalling t (n ∷ ns) owns_nothing → IsFalling t (t.top ∷ ns) owns_nothing
@@ -51,10 +57,13 @@ returns-then-counts-eq0 c (n ∷ ns) w =
       falling = record {
         sound = w.sound;
         next = w.next;
-        fits = done-fits at at' refs refs' rows top ns counts v.fits is (ap pins_in gone ∙ sym none) holds' (ap falls_in gone) (subst (λ o. Right o (refs' top)) (sym gone) e.no_refs) e.others same c.requires.some;
+        fits = done-fits at at' refs refs' rows top ns counts v.fits is (ap pins_in gone ∙ sym none) holds' (ap falls_in gone)
+            (subst (λ o. Right o (refs' top)) (sym gone) e.no_refs) e.others same c.requires.some;
       };
       shorter = omega arith;
       same = refl;
+      values = λ m ne falls. (ap falls_in (sym (e.others m ne)) ∙ falls, ap has_value (e.others m ne));
+      gone = ap has_value gone;
       cells = λ m some. elim (cases_eq m top) [
         | inl eq ↦ absurd (let a : is_some (at' m) ≡ false = ap (λ k. is_some (at' k)) eq ∙ ap is_some gone in cc)
         | inr ne ↦ (sym (ap is_some (e.others m ne)) ∙ some, ap cell_in (e.others m ne))
@@ -77,6 +86,7 @@ returns-else-counts-eq0 c (n ∷ ns) w =
     let is : at top ≡ Some counts = sym c.counts_of.ensures ∙ c.in-Some.is in
     let now : Counts = record counts { is_falling = false; next = 0 } in
     let here : at' top ≡ Some now = e.here in
+    let falls : counts.is_falling ≡ true = sym (ap falls_in is) ∙ first-waits _ _ _ _ _ _ v.fits in
     let bare : refs' top ≡ [] = e.refs top ∙ c.requires.none in
     let right : Right (Some now) [] = settled-right now refl (let z = c.if-counts-eq0.false in omega arith) in
     record {
@@ -84,10 +94,13 @@ returns-else-counts-eq0 c (n ∷ ns) w =
       falling = record {
         sound = w.sound;
         next = w.next;
-        fits = done-fits at at' refs refs' rows top ns counts v.fits is (ap pins_in here) (ap holds_in here) (ap falls_in here) (subst (λ o. Right o (refs' top)) (sym here) (subst (λ r. Right (Some now) r) (sym bare) right)) e.others e.refs c.requires.some;
+        fits = done-fits at at' refs refs' rows top ns counts v.fits is (ap pins_in here) (ap holds_in here) (ap falls_in here)
+            (subst (λ o. Right o (refs' top)) (sym here) (subst (λ r. Right (Some now) r) (sym bare) right)) e.others e.refs c.requires.some;
       };
       shorter = omega arith;
       same = refl;
+      values = λ m ne falls. (ap falls_in (sym (e.others m ne)) ∙ falls, ap has_value (e.others m ne));
+      gone = ap has_value here ∙ settled-value counts (is_bare (refs top)) falls (subst (λ o. Right o (refs top)) is (v.fits.right top)) c.if-counts-eq0.false;
       cells = λ m some. elim (cases_eq m top) [
         | inl eq ↦ (ap (λ k. is_some (at k)) eq ∙ ap is_some is, ap (λ k. cell_in (at' k)) eq ∙ ap cell_in here ∙ sym (ap (λ k. cell_in (at k)) eq ∙ ap cell_in is))
         | inr ne ↦ (sym (ap is_some (e.others m ne)) ∙ some, ap cell_in (e.others m ne))

@@ -10,7 +10,7 @@ use Rattle.pagable_world.specs.declared.handles.HandleRow.{HandleRow}
 use Rattle.pagable_world.specs.Plain.{one}
 use Rattle.pagable_tables.specs.Live.{live, alive, AreSound, IsNext}
 use Rattle.pagable_tables.specs.ByNumber.{counts_at, refs_at}
-use Rattle.pagable_tables.specs.Falling.{IsFalling, Fits, Settles, GivesUp, CellsStay, cell_in, owns, owns_nothing, entry, is_valued, valued}
+use Rattle.pagable_tables.specs.Falling.{IsFalling, Fits, Settles, GivesUp, CellsStay, cell_in, ValueStays, owns, owns_nothing, entry, is_valued, valued}
 use Rattle.pagable_tables.specs.declared.rows.Counts.{Counts}
 use Rattle.pagable_tables.specs.declared.holdings.Holdings.{Holdings}
 use Rattle.pagable_tables.proofs.Alive.{only-row, none-found}
@@ -27,7 +27,8 @@ no-value false k m = refl
 
 -- the first node that falls has this reference, which was taken
 module _ (t mid : Holdings) (ns : List ℕ) (p : ArcRef) (i : ℕ) (x : HandleRow) (w : IsFalling t (t.top ∷ ns) owns_nothing) (popped : refs_at t.nodes t.top ≡ refs_at mid.nodes t.top ++ p ∷ [])
-    (others : (m : ℕ) → m ≢ t.top → refs_at mid.nodes m ≡ refs_at t.nodes m) (same : (m : ℕ) → counts_at mid.nodes m ≡ counts_at t.nodes m) (at : slice_get t.handles.places.items i ≡ Some (alive x)) (number : x.number.0 ≡ p.handle.0) where
+    (others : (m : ℕ) → m ≢ t.top → refs_at mid.nodes m ≡ refs_at t.nodes m) (same : (m : ℕ) → counts_at mid.nodes m ≡ counts_at t.nodes m)
+    (at : slice_get t.handles.places.items i ≡ Some (alive x)) (number : x.number.0 ≡ p.handle.0) where
   its-owner : is_owned t.top p.handle.0 x ≡ 1
   its-owner =
       let a = taken-owned (counts_at t.nodes) (counts_at mid.nodes) (refs_at t.nodes) (refs_at mid.nodes) (live t.handles.places.items) t.top ns p w.fits popped others same in
@@ -37,11 +38,13 @@ module _ (t mid : Holdings) (ns : List ℕ) (p : ArcRef) (i : ℕ) (x : HandleRo
   taken : mid.handles ≡ t.handles → mid.top ≡ t.top → mid.last_handle ≡ t.last_handle → IsFalling mid (t.top ∷ ns) (owns x)
   taken handles top last =
       let o = owner-is t.top p.handle.0 x its-owner in
-      let f : Fits (counts_at mid.nodes) (refs_at mid.nodes) (live t.handles.places.items) t.top (t.top ∷ ns) (owns x) = taken-fits (counts_at t.nodes) (counts_at mid.nodes) (refs_at t.nodes) (refs_at mid.nodes) (live t.handles.places.items) t.top ns p w.fits popped others same x o.1 in
+      let f : Fits (counts_at mid.nodes) (refs_at mid.nodes) (live t.handles.places.items) t.top (t.top ∷ ns) (owns x) =
+      taken-fits (counts_at t.nodes) (counts_at mid.nodes) (refs_at t.nodes) (refs_at mid.nodes) (live t.handles.places.items) t.top ns p w.fits popped others same x o.1 in
       record {
         sound = subst AreSound (sym handles) w.sound;
         next = subst (λ h. IsNext (mid.last_handle + 1) h.places.items) (sym handles) (subst (λ k. IsNext (k + 1) t.handles.places.items) (sym last) w.next);
-        fits = subst (λ h. Fits (counts_at mid.nodes) (refs_at mid.nodes) (live h.places.items) mid.top (t.top ∷ ns) (owns x)) (sym handles) (subst (λ k. Fits (counts_at mid.nodes) (refs_at mid.nodes) (live t.handles.places.items) k (t.top ∷ ns) (owns x)) (sym top) f);
+        fits = subst (λ h. Fits (counts_at mid.nodes) (refs_at mid.nodes) (live h.places.items) mid.top (t.top ∷ ns) (owns x)) (sym handles)
+            (subst (λ k. Fits (counts_at mid.nodes) (refs_at mid.nodes) (live t.handles.places.items) k (t.top ∷ ns) (owns x)) (sym top) f);
       }
 
 first : (t : Holdings) (n : ℕ) (ns : List ℕ) → IsFalling t (n ∷ ns) owns_nothing → IsFalling t (t.top ∷ ns) owns_nothing
@@ -56,32 +59,42 @@ give_up-requires-clause-falling c =
     let t = c.args.t.now in
     let s = top-stands t c.requires.falling.0 c.requires.some c.requires.falling.1 in
     let e = c.in-Some.ensures in
-    let f = c.in-Some-look.ensures in
-    (t.top ∷ s.0, taken t (record t { nodes = c.pop_reference.new.nodes }) s.0 c.in-Some.reference c.in-Some-look.at.place c.in-Some-look.at.row s.3 e.here e.others e.counts f.place (ap (λ (n : HandleNumber). n.0) f.number) refl refl refl)
+    let f = c.in-Some-look.ensures in (
+      t.top ∷ s.0,
+      taken t (record t { nodes = c.pop_reference.new.nodes }) s.0 c.in-Some.reference c.in-Some-look.at.place c.in-Some-look.at.row s.3 e.here e.others e.counts
+          f.place (ap (λ (n : HandleNumber). n.0) f.number) refl refl refl,
+    )
 
 pub unreachable-requires : goal.unreachable-requires
 unreachable-requires c =
     let t = c.args.t.now in
     let s = top-stands t c.requires.falling.0 c.requires.some c.requires.falling.1 in
     let e = c.in-Some.ensures in
-    let a = taken-there (counts_at t.nodes) (counts_at c.pop_reference.new.nodes) (refs_at t.nodes) (refs_at c.pop_reference.new.nodes) (live t.handles.places.items) t.top s.0 c.in-Some.reference s.3.fits e.here e.others e.counts in
+    let a = taken-there (counts_at t.nodes) (counts_at c.pop_reference.new.nodes) (refs_at t.nodes) (refs_at c.pop_reference.new.nodes)
+    (live t.handles.places.items) t.top s.0 c.in-Some.reference s.3.fits e.here e.others e.counts in
     let n = none-found c.in-Some.reference.handle.0 (live t.handles.places.items) c.in-None-look.ensures.none in
     absurd (omega arith)
 
-untouched : (t mid : Holdings) (stack : List ℕ) → IsFalling t stack owns_nothing → mid.handles ≡ t.handles → mid.top ≡ t.top → mid.last_handle ≡ t.last_handle → ((m : ℕ) → counts_at mid.nodes m ≡ counts_at t.nodes m) → ((m : ℕ) → refs_at mid.nodes m ≡ refs_at t.nodes m) → IsFalling mid stack owns_nothing
+untouched : (t mid : Holdings) (stack : List ℕ) → IsFalling t stack owns_nothing → mid.handles ≡ t.handles → mid.top ≡ t.top → mid.last_handle ≡ t.last_handle
+    → ((m : ℕ) → counts_at mid.nodes m ≡ counts_at t.nodes m) → ((m : ℕ) → refs_at mid.nodes m ≡ refs_at t.nodes m) → IsFalling mid stack owns_nothing
 untouched t mid stack w handles top last same refs =
-    let f : Fits (counts_at mid.nodes) (refs_at mid.nodes) (live t.handles.places.items) t.top stack owns_nothing = fits-same (counts_at t.nodes) (counts_at mid.nodes) (refs_at t.nodes) (refs_at mid.nodes) (live t.handles.places.items) t.top stack w.fits same refs in
+    let f : Fits (counts_at mid.nodes) (refs_at mid.nodes) (live t.handles.places.items) t.top stack owns_nothing =
+    fits-same (counts_at t.nodes) (counts_at mid.nodes) (refs_at t.nodes) (refs_at mid.nodes) (live t.handles.places.items) t.top stack w.fits same refs in
     record {
       sound = subst AreSound (sym handles) w.sound;
       next = subst (λ h. IsNext (mid.last_handle + 1) h.places.items) (sym handles) (subst (λ k. IsNext (k + 1) t.handles.places.items) (sym last) w.next);
-      fits = subst (λ h. Fits (counts_at mid.nodes) (refs_at mid.nodes) (live h.places.items) mid.top stack owns_nothing) (sym handles) (subst (λ k. Fits (counts_at mid.nodes) (refs_at mid.nodes) (live t.handles.places.items) k stack owns_nothing) (sym top) f);
+      fits = subst (λ h. Fits (counts_at mid.nodes) (refs_at mid.nodes) (live h.places.items) mid.top stack owns_nothing) (sym handles)
+          (subst (λ k. Fits (counts_at mid.nodes) (refs_at mid.nodes) (live t.handles.places.items) k stack owns_nothing) (sym top) f);
     }
 
 pub settle-requires-clause-falling : goal.settle-requires-clause-falling
 settle-requires-clause-falling c =
     let t = c.args.t.now in
-    let e = c.in-None.ensures in
-    (c.requires.falling.0, untouched t (record t { nodes = c.pop_reference.new.nodes }) c.requires.falling.0 c.requires.falling.1 refl refl refl e.counts (λ m. elim (cases_eq m t.top) [ inl eq ↦ ap (refs_at c.pop_reference.new.nodes) eq ∙ sym (e.here ∙ append-nil _) ∙ sym (ap (refs_at t.nodes) eq) | inr ne ↦ e.others m ne ]))
+    let e = c.in-None.ensures in (
+      c.requires.falling.0,
+      untouched t (record t { nodes = c.pop_reference.new.nodes }) c.requires.falling.0 c.requires.falling.1 refl refl refl e.counts
+          (λ m. elim (cases_eq m t.top) [ inl eq ↦ ap (refs_at c.pop_reference.new.nodes) eq ∙ sym (e.here ∙ append-nil _) ∙ sym (ap (refs_at t.nodes) eq) | inr ne ↦ e.others m ne ]),
+    )
 
 cells-through : (a b d : ℕ → Option Counts) → ((m : ℕ) → b m ≡ a m) → CellsStay b d → CellsStay a d
 cells-through a b d same stay m some = let s = stay m some in (sym (ap is_some (same m)) ∙ s.0, s.1 ∙ ap cell_in (same m))
@@ -102,7 +115,8 @@ returns-in-Some-look c stack w =
     let o = owner-is t.top p.handle.0 x (its-owner t mid s.0 p i x s.3 e.here e.others e.counts f.place number) in
     let v : of_value x ≡ 1 = ap (λ k. one (is_valued k)) o.0 in
     let kept : live c.give_up.new.t.handles.places.items ≡ live g.between.handles.places.items = ap (λ (h : Holdings). live h.handles.places.items) g.same in
-    let l : valued (live g.between.handles.places.items) + of_value x ≡ valued (live t.handles.places.items) + 0 = leaves-sums mid g.between x _ g.listed g.leaves of_value ∙ ap (λ k. valued (live t.handles.places.items) + k) (no-value g.listed (t.last_handle + 1) x.node) in
+    let l : valued (live g.between.handles.places.items) + of_value x ≡ valued (live t.handles.places.items) + 0 = leaves-sums mid g.between x _ g.listed g.leaves of_value
+    ∙ ap (λ k. valued (live t.handles.places.items) + k) (no-value g.listed (t.last_handle + 1) x.node) in
     let m = ap valued kept in
     let long = g.long in
     let n = ap length s.2 in
@@ -111,6 +125,8 @@ returns-in-Some-look c stack w =
       falling = g.falling;
       less = omega arith;
       cells = cells-through (counts_at t.nodes) (counts_at mid.nodes) (counts_at c.give_up.new.t.nodes) e.counts g.cells;
+      values = λ m _. subst (λ o. ValueStays o (counts_at c.give_up.new.t.nodes m)) (e.counts m) (g.values m);
+      gone = tt;
       what = inr (
         x,
         t.top,
@@ -132,7 +148,8 @@ returns-in-None c stack w =
     let t = c.args.t.now in
     let e = c.in-None.ensures in
     let mid : Holdings = record t { nodes = c.pop_reference.new.nodes } in
-    let g : Settles mid stack c.settle.new.t = c.settle.ensures stack (untouched t mid stack w refl refl refl e.counts (λ m. elim (cases_eq m t.top) [ inl eq ↦ ap (refs_at c.pop_reference.new.nodes) eq ∙ sym (e.here ∙ append-nil _) ∙ sym (ap (refs_at t.nodes) eq) | inr ne ↦ e.others m ne ])) in
+    let g : Settles mid stack c.settle.new.t = c.settle.ensures stack (untouched t mid stack w refl refl refl e.counts
+    (λ m. elim (cases_eq m t.top) [ inl eq ↦ ap (refs_at c.pop_reference.new.nodes) eq ∙ sym (e.here ∙ append-nil _) ∙ sym (ap (refs_at t.nodes) eq) | inr ne ↦ e.others m ne ])) in
     let rows = ap (λ (h : Holdings). live h.handles.places.items) g.same in
     let v = ap valued rows in
     let short = g.shorter in
@@ -141,5 +158,7 @@ returns-in-None c stack w =
       falling = g.falling;
       less = omega arith;
       cells = cells-through (counts_at t.nodes) (counts_at mid.nodes) (counts_at c.settle.new.t.nodes) e.counts g.cells;
+      values = λ m ne. subst (λ o. ValueStays o (counts_at c.settle.new.t.nodes m)) (e.counts m) (g.values m (λ eq. ne (ap (λ k. Some (record { 0 = k })) (sym eq))));
+      gone = g.gone;
       what = inl (refl, g.same);
     }

@@ -1,10 +1,14 @@
-use Rattle.std.proofs.Common.{◌≡◌, ℕ, ◌==◌, if◌then◌else◌, [], ◌∷◌, refl, ap, sym, ◌∙◌, subst, arith, Some, None}
-use Rattle.std.specs.Prelude.{◌≢◌, false}
+use Rattle.std.proofs.Common.{◌≡◌, ◌==◌, if◌then◌else◌, [], ◌∷◌, refl, ap, sym, ◌∙◌, subst, Some}
+use Rattle.std.specs.Prelude.{false}
 use Rattle.pagable_tables.specs.declared.rows.Counts.{Counts}
 use Rattle.pagable_tables.specs.Live.{live}
 use Rattle.pagable_tables.specs.ByNumber.{counts_at, refs_at}
-use Rattle.pagable_tables.specs.Falling.{Fits, is_new, owns_nothing}
+use Rattle.pagable_tables.specs.Falling.{Fits, ValueStays, has_value, falls_in, is_new, owns_nothing}
 use Rattle.pagable_tables.specs.Keyed.{keyed}
+use Rattle.pagable_tables.proofs.Shedding.{none-falls-in}
+use Rattle.std.proofs.Common.{ℕ, inl, inr, arith}
+use Rattle.std.proofs.lemmas.Bool.{cases_eq}
+use Rattle.std.proofs.lemmas.Bool.Decides.{nat_tests}
 use Rattle.pagable_tables.proofs.Fitting.{long-if}
 use Rattle.pagable_tables.proofs.KeyPut.{key-fits, key-cells, key-top}
 use Rattle.pagable_tables.proofs.keys.put_key.Goals as goal
@@ -14,7 +18,8 @@ returns-clause-cells c =
     let t = c.args.t.now in
     let n = c.args.node in
     let counts = c.in-Some.counts in
-    key-cells (counts_at t.nodes) (counts_at c.set_counts.new.nodes) (refs_at t.nodes) (refs_at c.set_counts.new.nodes) (live t.handles.places.items) t.top n counts c.args.key c.requires.steady.fits (sym c.counts_of.ensures ∙ c.in-Some.is) c.requires.key
+    key-cells (counts_at t.nodes) (counts_at c.set_counts.new.nodes) (refs_at t.nodes) (refs_at c.set_counts.new.nodes)
+    (live t.handles.places.items) t.top n counts c.args.key c.requires.steady.fits (sym c.counts_of.ensures ∙ c.in-Some.is) c.requires.key
     (c.set_counts.ensures.here ∙ ap Some c.counts_keyed-with_key.ensures) c.set_counts.ensures.others c.set_counts.ensures.refs
 
 pub returns-clause-falling : goal.returns-clause-falling
@@ -23,14 +28,34 @@ returns-clause-falling c =
     let n = c.args.node in
     let counts = c.in-Some.counts in
     let b = counts.pins == 0 in
-    let top : c.top_after-t.result ≡ (if b then n else t.top) = c.top_after-t.ensures ∙ ap (λ (l : Counts). if is_new false l.is_falling then n else t.top) c.counts_keyed-with_key.ensures ∙ key-top b n t.top in (
+    let top : c.top_after-t.result ≡ (if b then n else t.top) = c.top_after-t.ensures ∙ ap
+    (λ (l : Counts). if is_new false l.is_falling then n else t.top) c.counts_keyed-with_key.ensures ∙ key-top b n t.top in (
       if b then n ∷ [] else [],
       record {
         sound = c.requires.steady.sound;
         next = c.requires.steady.next;
         fits = subst (λ k. Fits (counts_at c.set_counts.new.nodes) (refs_at c.set_counts.new.nodes) (live t.handles.places.items) k (if b then n ∷ [] else []) owns_nothing) (sym top)
-            (key-fits (counts_at t.nodes) (counts_at c.set_counts.new.nodes) (refs_at t.nodes) (refs_at c.set_counts.new.nodes) (live t.handles.places.items) t.top n counts c.args.key c.requires.steady.fits (sym c.counts_of.ensures ∙ c.in-Some.is) c.requires.key
+            (key-fits (counts_at t.nodes) (counts_at c.set_counts.new.nodes) (refs_at t.nodes) (refs_at c.set_counts.new.nodes)
+            (live t.handles.places.items) t.top n counts c.args.key c.requires.steady.fits (sym c.counts_of.ensures ∙ c.in-Some.is) c.requires.key
             (c.set_counts.ensures.here ∙ ap Some c.counts_keyed-with_key.ensures) c.set_counts.ensures.others c.set_counts.ensures.refs b refl);
       },
       long-if b n [],
     )
+
+keyed-value : (y : Counts) (key top : ℕ) → y.is_falling ≡ false → ValueStays (Some y) (Some (keyed y key top))
+keyed-value y key top stood falls = (stood, grind (arith, nat_tests))
+
+pub returns-clause-values : goal.returns-clause-values
+returns-clause-values c m =
+    let t = c.args.t.now in
+    let n = c.args.node in
+    let counts = c.in-Some.counts in
+    let at = counts_at t.nodes in
+    let at' = counts_at c.set_counts.new.nodes in
+    let is : at n ≡ Some counts = sym c.counts_of.ensures ∙ c.in-Some.is in
+    let here = c.set_counts.ensures.here ∙ ap Some c.counts_keyed-with_key.ensures in
+    let stood : counts.is_falling ≡ false = sym (ap falls_in is) ∙ none-falls-in t c.requires.steady n in
+    elim (cases_eq m n) [
+      | inl eq ↦ subst (λ k. ValueStays (at k) (at' k)) (sym eq) (subst (λ o. ValueStays o (at' n)) (sym is) (subst (ValueStays (Some counts)) (sym here) (keyed-value counts c.args.key t.top stood)))
+      | inr ne ↦ λ falls. (ap falls_in (sym (c.set_counts.ensures.others m ne)) ∙ falls, ap has_value (c.set_counts.ensures.others m ne))
+    ]

@@ -1,7 +1,6 @@
-use Rattle.std.proofs.Common.{not, None, ◌≤◌, refl, sym, ◌∙◌, subst, arith, inl, inr}
+use Rattle.std.proofs.Common.{not, None, refl, sym, ◌∙◌, arith, inl, inr}
 use Rattle.pagable_world.specs.Kinds.{any_mode}
 use Rattle.pagable_tables.specs.ByNumber.{counts_at}
-use Rattle.pagable_tables.specs.Core.{core_of}
 use Rattle.pagable_tables.proofs.Alive.{row-le-live}
 use Rattle.pagable_tables.proofs.Begun.{not-closed}
 use Rattle.pagable_tables.proofs.Coming.{some-held}
@@ -9,10 +8,11 @@ use Rattle.pagable_tables.proofs.Fitting.{handle_of, held-here}
 use Rattle.pagable_tables.proofs.Worlds.{still, owner-same}
 use Rattle.pagable_tables.proofs.keeps.FallCalls.{set-key-whole}
 use Rattle.pagable_tables.proofs.keeps.Placed.{whole-so}
+use Rattle.pagable_tables.proofs.Shedding.{sheds-still}
 use Rattle.pagable_tables.proofs.keys.set_data_key.Goals as goal
 
 pub set_key-requires-clause-live : goal.set_key-requires-clause-live
-set_key-requires-clause-live c =
+set_key-requires-clause-live g c =
     let t = c.args.t.now.holdings in
     let x = c.in-Ok.at.row in
     let l = row-le-live (handle_of x.node.0) t.handles.places.items c.in-Ok.at.place x c.in-Ok.ensures.place in
@@ -21,10 +21,10 @@ set_key-requires-clause-live c =
     some-held (counts_at t.nodes x.node.0) (omega arith)
 
 pub returns-in-Err-clause-set : goal.returns-in-Err-clause-set
-returns-in-Err-clause-set c stored closed failures e = record { does = inl (record { e = c.in-Err.e; why = c.in-Err.ensures.fault stored closed failures any_mode; told = refl; stays = still _ }) }
+returns-in-Err-clause-set g c stored closed failures e = record { does = inl (record { e = c.in-Err.e; why = c.in-Err.ensures.fault stored closed failures any_mode; told = refl; stays = still _ }) }
 
 pub returns-clause-set : goal.returns-clause-set
-returns-clause-set c stored closed failures e =
+returns-clause-set g c stored closed failures e =
     let row = c.in-Ok.at.row in
     record {
       does = inr (
@@ -35,4 +35,11 @@ returns-clause-set c stored closed failures e =
     }
 
 pub returns-clause-whole : goal.returns-clause-whole
-returns-clause-whole c = whole-so c.set_key.ensures.steady (set-key-whole c.args.me c.args.handle c.args.key c.set_key.result c.requires.whole.core (returns-clause-set c (λ key. None) (not c.args.lists) 0 (not-closed c.args.lists)))
+returns-clause-whole g c = whole-so c.set_key.ensures.steady (set-key-whole c.args.me c.args.handle c.args.key c.set_key.result c.requires.whole.core
+    (returns-clause-set g c (λ key. None) (not c.args.lists) 0 (not-closed c.args.lists)))
+
+pub returns-in-Err-clause-sheds : goal.returns-in-Err-clause-sheds
+returns-in-Err-clause-sheds g c = sheds-still c.args.t.now.holdings _ c.requires.whole.steady
+
+pub returns-then-not-is_loose-clause-sheds : goal.returns-then-not-is_loose-clause-sheds
+returns-then-not-is_loose-clause-sheds g c = sheds-still c.args.t.now.holdings _ c.requires.whole.steady

@@ -19,7 +19,8 @@ returns-clause-loosened c stored closed failures =
         row,
         record { live = c.in-Ok.ensures.found; own = owner-same c.args.me row.owner c.in-Ok.ensures.owner; as_asked = search rules },
         c.in-Ok.ensures.number,
-        subst (λ q. Alike (with_mode (core_of c.args.t.now stored closed failures) q modes.LoosePinned) (core_of c.turn.new.t stored closed failures)) c.in-Ok.ensures.number (c.turn.ensures.turned stored closed failures),
+        subst (λ q. Alike (with_mode (core_of c.args.t.now stored closed failures) q modes.LoosePinned) (core_of c.turn.new.t stored closed failures)) c.in-Ok.ensures.number
+            (c.turn.ensures.turned stored closed failures),
       );
       refused = tt;
     }

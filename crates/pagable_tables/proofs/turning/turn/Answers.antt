@@ -48,7 +48,8 @@ returns-clause-turned c stored closed failures =
     c.counts_pinned-pinned.ensures ∙ ap (λ p. record y { pins = y.pins + one (not p) }) c.pins.ensures in
     let e = c.set_counts.ensures in
     alike _ _ (c.set.ensures.rows ∙ changed-known turned t.handles.places.items c.args.at.place x c.requires.whole.steady.sound.ordered c.requires.place)
-    (turn-cells (counts_at t.nodes) (counts_at c.set_counts.new.nodes) (refs_at t.nodes) (refs_at c.set_counts.new.nodes) (live t.handles.places.items) (live c.set.new.handles.places.items) t.top x y c.requires.whole.steady.fits is c.set.ensures.sums (e.here ∙ ap Some made) e.others e.refs)
+    (turn-cells (counts_at t.nodes) (counts_at c.set_counts.new.nodes) (refs_at t.nodes) (refs_at c.set_counts.new.nodes) (live t.handles.places.items)
+    (live c.set.new.handles.places.items) t.top x y c.requires.whole.steady.fits is c.set.ensures.sums (e.here ∙ ap Some made) e.others e.refs)
     (record { handles = omega arith; entries = omega arith }) refl
 
 pub returns-clause-whole : goal.returns-clause-whole

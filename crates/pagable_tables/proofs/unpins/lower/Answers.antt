@@ -1,12 +1,15 @@
 use Rattle.std.proofs.Common.{◌≡◌, ℕ, Bool, ◌+◌, ◌-◌, ◌≤◌, true, false, if◌then◌else◌, [], ◌∷◌, sum_by, refl, ap, sym, ◌∙◌, subst, arith, Some, None}
 use Rattle.std.specs.Prelude.{◌≢◌}
+use Rattle.std.proofs.Common.{inl, inr}
+use Rattle.std.proofs.lemmas.Bool.{cases_eq}
+use Rattle.std.proofs.lemmas.Bool.Decides.{nat_tests}
 use Rattle.pagable_world.specs.declared.handles.HandleRow.{HandleRow}
 use Rattle.pagable_world.specs.Plain.{one}
 use Rattle.pagable_world.specs.Kinds.{is_pinning}
 use Rattle.pagable_tables.specs.declared.rows.Counts.{Counts}
 use Rattle.pagable_tables.specs.Live.{live}
 use Rattle.pagable_tables.specs.ByNumber.{counts_at, refs_at}
-use Rattle.pagable_tables.specs.Falling.{Fits, pins_in, holds_in, after, is_new, is_fallen_by, owns_nothing, entry, MayList}
+use Rattle.pagable_tables.specs.Falling.{Fits, pins_in, holds_in, after, is_new, is_fallen_by, owns_nothing, entry, has_value, falls_in, ValueStays, MayList}
 use Rattle.pagable_tables.specs.Lowering.{unpinned}
 use Rattle.pagable_tables.proofs.Alive.{length-live-le, changed-known, row-le-live}
 use Rattle.pagable_tables.proofs.Coming.{held-few}
@@ -14,6 +17,10 @@ use Rattle.pagable_tables.proofs.Fitting.{new-top, long-if, pin_of, handle_of, p
 use Rattle.pagable_tables.proofs.Leaving.{with-entry}
 use Rattle.pagable_tables.proofs.Lowered.{lower-fits, lower-cells, keyed-then}
 use Rattle.pagable_tables.proofs.unpins.lower.Goals as goal
+
+-- no value goes at once
+lowered-value : (y : Counts) (listed : Bool) (top : ℕ) → 1 ≤ y.pins → ValueStays (Some y) (Some (after (record y { holds = y.holds + 1 }) true listed top))
+lowered-value y listed top some falls = let stood : y.is_falling ≡ false = grind (arith, nat_tests) in (stood, grind (arith, nat_tests))
 
 pub unreachable-requires : goal.unreachable-requires
 unreachable-requires c =
@@ -67,9 +74,12 @@ returns c =
     let here : at' n ≡ Some (after more true listed old.top) = c.set_counts.ensures.here ∙ ap Some left in
     let others : (m : ℕ) → m ≢ n → at' m ≡ at m = λ m ne. c.set_counts.ensures.others m ne ∙ ap (λ s. counts_at s m) nodes in
     let same : (m : ℕ) → refs' m ≡ refs m = λ m. c.set_counts.ensures.refs m ∙ ap (λ s. refs_at s m) nodes in
-    let some : 1 ≤ counts.pins = (let a = w.fits.pinned n in let d = ap pins_in is in let l = row-le-live (pin_of n) old.handles.places.items c.args.at.place x c.requires.place in let h = pin-here x in let p = ap (λ m. one (is_pinning m)) c.requires.pinned in omega arith) in
-    let held : 1 ≤ counts.holds = (let a = w.fits.holding n in let d = ap holds_in is in let l = row-le-live (handle_of n) old.handles.places.items c.args.at.place x c.requires.place in let h = held-here x in omega arith) in
-    let top : c.top_after-t.result ≡ (if b then n else old.top) = c.top_after-t.ensures ∙ ap (λ (l : Counts). if is_new counts.is_falling l.is_falling then n else mid.top) left ∙ ap (λ t. if is_new counts.is_falling (after more true listed old.top).is_falling then n else t) kept ∙ new-top more true listed old.top n b refl in
+    let some : 1 ≤ counts.pins = (let a = w.fits.pinned n in let d = ap pins_in is in let l = row-le-live (pin_of n) old.handles.places.items c.args.at.place x c.requires.place in
+    let h = pin-here x in let p = ap (λ m. one (is_pinning m)) c.requires.pinned in omega arith) in
+    let held : 1 ≤ counts.holds = (let a = w.fits.holding n in let d = ap holds_in is in let l =
+    row-le-live (handle_of n) old.handles.places.items c.args.at.place x c.requires.place in let h = held-here x in omega arith) in
+    let top : c.top_after-t.result ≡ (if b then n else old.top) = c.top_after-t.ensures ∙ ap (λ (l : Counts). if is_new counts.is_falling l.is_falling then n else mid.top) left
+    ∙ ap (λ t. if is_new counts.is_falling (after more true listed old.top).is_falling then n else t) kept ∙ new-top more true listed old.top n b refl in
     let sums : (f : HandleRow → ℕ) → sum_by f rows' + f x ≡ sum_by f rows + f (unpinned x) + (if listed then f (entry (old.last_handle + 1) x.node) else 0) =
     λ f. let a = c.set.ensures.sums f in let d = ap (sum_by f) e.rows in let g = with-entry f (live c.set.new.handles.places.items) listed (old.last_handle + 1) x.node in omega arith in
     record {
@@ -85,12 +95,17 @@ returns c =
       comes = subst (λ k. MayList (record old { handles = c.set.new.handles }) x.node k listed mid) c.wants_entry-wanted.ensures c.enlist_if-listed.ensures;
       same = refl;
       cells = lower-cells at at' refs refs' rows rows' old.top x counts listed (old.last_handle + 1) w.fits is c.requires.pinned c.requires.plain sums here others same some;
+      values = λ m. elim (cases_eq m n) [
+        | inl eq ↦ subst (λ k. ValueStays (at k) (at' k)) (sym eq) (subst (λ o. ValueStays o (at' n)) (sym is) (subst (ValueStays (Some counts)) (sym here) (lowered-value counts listed old.top some)))
+        | inr ne ↦ λ falls. (ap falls_in (sym (others m ne)) ∙ falls, ap has_value (others m ne))
+      ];
       keyed = λ falls. keyed-then counts listed held (top-falls b n old.top w.fits.chain (λ z. falls (top ∙ z)));
       more = if b then n ∷ [] else [];
       falling = record {
         sound = e.sound;
         next = e.next;
-        fits = subst (λ t. Fits at' refs' rows' t (if b then n ∷ [] else []) owns_nothing) (sym top) (lower-fits at at' refs refs' rows rows' old.top x counts listed (old.last_handle + 1) w.fits is c.requires.pinned c.requires.plain sums here others same some b refl);
+        fits = subst (λ t. Fits at' refs' rows' t (if b then n ∷ [] else []) owns_nothing) (sym top)
+            (lower-fits at at' refs refs' rows rows' old.top x counts listed (old.last_handle + 1) w.fits is c.requires.pinned c.requires.plain sums here others same some b refl);
       };
       long = long-if b n [];
     }

@@ -8,23 +8,42 @@ use Rattle.pagable_tables.proofs.Begun.{not-closed}
 use Rattle.pagable_tables.proofs.Worlds.{still, owner-same}
 use Rattle.pagable_tables.proofs.keeps.FallCalls.{unpin-whole}
 use Rattle.pagable_tables.proofs.keeps.Placed.{whole-so}
+use Rattle.pagable_tables.proofs.Shedding.{sheds-still}
 use Rattle.pagable_tables.proofs.unpins.unpin.Goals as goal
 
 pub returns-in-Err-clause-unpinned : goal.returns-in-Err-clause-unpinned
-returns-in-Err-clause-unpinned c stored closed failures e = record { does = inl (record { e = c.in-Err.e; why = c.in-Err.ensures.fault stored closed failures is_loose; told = refl; stays = still _ }) }
+returns-in-Err-clause-unpinned g c stored closed failures e = record {
+  does = inl (record {
+    e = c.in-Err.e;
+    why = c.in-Err.ensures.fault stored closed failures is_loose;
+    told = refl;
+    stays = still _;
+  });
+}
 
 pub returns-in-LoosePinned-clause-unpinned : goal.returns-in-LoosePinned-clause-unpinned
-returns-in-LoosePinned-clause-unpinned c stored closed failures e =
+returns-in-LoosePinned-clause-unpinned g c stored closed failures e =
     let row = c.in-Ok.at.row in
     let w = core_of c.args.t.now stored closed failures in
     record {
       does = inr (
         row,
         record { live = c.in-Ok.ensures.found; own = owner-same c.args.me row.owner c.in-Ok.ensures.owner; as_asked = ap is_loose c.in-LoosePinned.is },
-        inr (c.in-LoosePinned.is, subst (λ q. Falls w (with_mode w q modes.LooseUnpinned) nobody c.let_go.result (core_of c.let_go.new.t stored closed failures)) c.in-Ok.ensures.number (c.let_go.ensures.falls stored closed failures e)),
+        inr (
+          c.in-LoosePinned.is,
+          subst (λ q. Falls w (with_mode w q modes.LooseUnpinned) nobody c.let_go.result (core_of c.let_go.new.t stored closed failures))
+              c.in-Ok.ensures.number (c.let_go.ensures.falls stored closed failures e),
+        ),
       );
     }
 
 pub returns-in-LoosePinned-clause-whole : goal.returns-in-LoosePinned-clause-whole
-returns-in-LoosePinned-clause-whole c =
-    whole-so c.let_go.ensures.steady (unpin-whole c.args.me c.args.handle c.let_go.result c.requires.whole.core (returns-in-LoosePinned-clause-unpinned c (λ key. None) (not c.args.lists) 0 (not-closed c.args.lists)))
+returns-in-LoosePinned-clause-whole g c =
+    whole-so c.let_go.ensures.steady (unpin-whole c.args.me c.args.handle c.let_go.result c.requires.whole.core
+    (returns-in-LoosePinned-clause-unpinned g c (λ key. None) (not c.args.lists) 0 (not-closed c.args.lists)))
+
+pub returns-in-Err-clause-sheds : goal.returns-in-Err-clause-sheds
+returns-in-Err-clause-sheds g c = sheds-still c.args.t.now.holdings _ c.requires.whole.steady
+
+pub returns-in-LooseUnpinned-clause-sheds : goal.returns-in-LooseUnpinned-clause-sheds
+returns-in-LooseUnpinned-clause-sheds g c = sheds-still c.args.t.now.holdings _ c.requires.whole.steady

@@ -1,0 +1,197 @@
+-- A value that was read of a form names no handle twice, where the handles that were got are apart. So nothing is to be said against its references, where each is good.
+use Rattle.std.proofs.Common.{◌≡◌, ℕ, zero, suc, ◌+◌, ◌≤◌, ◌==◌, ◌||◌, Bool, true, false, List, [], ◌∷◌, length, Some, None, Result, Ok, Err, inr, refl, sym, ap, subst, ◌∙◌, arith, if◌then◌else◌}
+use Rattle.std.specs.Prelude.{slice_get, not}
+use Rattle.std.proofs.lemmas.List.{append-nil}
+use Rattle.std.proofs.lemmas.List.Sums.{sum_by-cons}
+use Rattle.pagable_model.specs.declared.error.Error.{Error}
+use Rattle.pagable_model.specs.declared.error.Error.TheVariants as errors
+use Rattle.pagable_model.specs.Meaning.{Meaning}
+use Rattle.pagable_model.specs.References.{references_in}
+use Rattle.pagable_model.specs.Reading.{Rest, read}
+use Rattle.pagable_model.specs.Writing.{kind_of_arc}
+use Rattle.pagable_model.specs.Standing.{Answer, answer_at, handles_at}
+use Rattle.pagable_world.specs.declared.handles.HandleRow.{HandleRow}
+use Rattle.pagable_world.specs.declared.handles.Owner.{Owner}
+use Rattle.pagable_world.specs.declared.handles.Owner.TheVariants as owners
+use Rattle.pagable_world.specs.Plain.{ArcRef, Blob, Types, type_of, Among, is_in, if_there, one, times}
+use Rattle.pagable_world.specs.Kinds.{is_owner}
+use Rattle.pagable_world.specs.World.{Core, type_at}
+use Rattle.pagable_world.specs.Loads.{answer_of, answers_from, read_with, reads, next_of}
+use Rattle.pagable_world.specs.Refusals.{refused_if, is_type, row_fault, reference_fault, references_fault, IsReference}
+use Rattle.pagable_laws.specs.FormLaws.{rest, LooksUp, no-references, more-references}
+use Rattle.pagable_laws.proofs.Again.{read_again}
+use Rattle.pagable_laws.proofs.Along.{Along, number-along, integer-along, text-along, pattern-along, none-along, pair-along, variant-along, reference-along, followed-along, AllTwo, no-two, more-two, append-two}
+use Rattle.pagable_laws.proofs.Related.{Out, both-given, both-refused, first-refused, OutLook, both-looked-up, both-not, read_par}
+use Rattle.pagable_laws.proofs.Sums.{self-number, same-number, at-most-sum, counted, one-true}
+use Rattle.pagable_laws.proofs.Decoding.{read-gives}
+use Rattle.pagable_laws.proofs.ReadingStepsKinds.{kinds_of}
+use Rattle.pagable_laws.proofs.Asking.{IsFormOf}
+
+-- no handle was got twice
+abbrev pub AreApart : List ArcRef → Type 0
+AreApart got = (i j : ℕ) (r q : ArcRef) → slice_get got i ≡ Some r → slice_get got j ≡ Some q → r.handle.0 ≡ q.handle.0 → i ≡ j
+
+-- no cause
+abbrev no_cause : Error → Type 0
+no_cause e = ⊥
+
+-- the one was got in the place of the other
+record InPlace (got refs : List ArcRef) (g r : ArcRef) : Type 0 where
+  place : ℕ
+  of_got : slice_get got place ≡ Some g
+  of_refs : slice_get refs place ≡ Some r
+
+-- a reference is read as its own kind
+own_look : ℕ → ArcRef → Result ArcRef Error
+own_look kind r = if r.kind.0 == kind then Ok r else Err errors.WrongKind
+
+looks-own : (rs : List ArcRef) → LooksUp own_look kind_of_arc rs rs
+unfolding own_look
+looks-own [] = no-references
+looks-own (r ∷ rs) = more-references r rs r rs (let e = self-number r.kind.0 in rw e refl) (looks-own rs)
+
+kind-at : (got refs : List ArcRef) → kinds_of got ≡ kinds_of refs → (place : ℕ) (r : ArcRef) → slice_get refs place ≡ Some r → (g : ArcRef) × (slice_get got place ≡ Some g) × (g.kind.0 ≡ r.kind.0)
+kind-at got [] same place r is = absurd (cc)
+kind-at [] (x ∷ refs) same place r is = absurd (cc)
+kind-at (g ∷ got) (x ∷ refs) same zero r is = (g, refl, cc)
+kind-at (g ∷ got) (x ∷ refs) same (suc place) r is = kind-at got refs (cc) place r is
+
+module _ (types : Types) (t : ℕ) (blob : Blob) (refs got : List ArcRef) (f : IsFormOf types t blob refs) (same : kinds_of got ≡ kinds_of refs) where
+  abbrev Answers : Answer → ArcRef → Type 0
+  Answers a r = (kind : ℕ) → OutLook no_cause (InPlace got refs) (a kind) (own_look kind r)
+
+  answer-own : (g r : ArcRef) (place : ℕ) → slice_get got place ≡ Some g → slice_get refs place ≡ Some r → g.kind.0 ≡ r.kind.0 → Answers (answer_of (Some g)) r
+  unfolding own_look
+  answer-own g r place at there is kind = by (g.kind.0 == kind) refl
+    where
+      by : (b : Bool) → (g.kind.0 == kind) ≡ b → OutLook no_cause (InPlace got refs) (if g.kind.0 == kind then Ok g else Err errors.WrongKind) (if r.kind.0 == kind then Ok r else Err errors.WrongKind)
+      by true e = let d : (r.kind.0 == kind) ≡ true = ap (λ k. k == kind) (sym is) ∙ e in rw (e, d) (both-looked-up g r (record { place = place; of_got = at; of_refs = there }))
+      by false e = let d : (r.kind.0 == kind) ≡ false = ap (λ k. k == kind) (sym is) ∙ e in rw (e, d) (both-not errors.WrongKind)
+
+  all-answer : (place : ℕ) (rs : List ArcRef) (keys : List ℕ) → ((i : ℕ) → slice_get rs i ≡ slice_get refs (place + i)) → length keys ≡ length rs → AllTwo Answers (answers_from got place keys) rs
+  unfolding answers_from
+  all-answer place [] [] at few = no-two
+  all-answer place [] (k ∷ ks) at few = absurd (omega arith)
+  all-answer place (r ∷ rs) [] at few = absurd (omega arith)
+  all-answer place (r ∷ rs) (k ∷ ks) at few =
+      let start : place + 0 ≡ place = omega arith in
+      let there : slice_get refs place ≡ Some r = ap (slice_get refs) (sym start) ∙ sym (at 0) in
+      let g = kind-at got refs same place r there in
+      let here = subst (λ o. Answers (λ kind. answer_of o kind) r) (sym g.1) (answer-own g.0 r place g.1 there g.2) in
+      more-two _ r _ rs here (all-answer (place + 1) rs ks (λ i. let next : place + suc i ≡ place + 1 + i = omega arith in at (suc i) ∙ ap (slice_get refs) next) (omega arith))
+
+  both-own : {own : Meaning ArcRef} {after : Rest Answer} {n : Meaning ArcRef} {left : Rest ArcRef} {first : Result (Meaning ArcRef × Rest Answer) Error} {second : Result
+      (Meaning ArcRef × Rest ArcRef) Error}
+      → Out no_cause Answers (Along ⊥ (InPlace got refs)) first second → first ≡ Ok (own, after) → second ≡ Ok (n, left) → Along ⊥ (InPlace got refs) own n
+  both-own {own} {after} {n} {left} (both-given p q v s) e d =
+      let one_side : p ≡ (own, after) = cc in
+      let other_side : q ≡ (n, left) = cc in
+      subst (λ (z : Meaning ArcRef × Rest ArcRef). Along ⊥ (InPlace got refs) own z.0) other_side (subst (λ (z : Meaning ArcRef × Rest Answer). Along ⊥ (InPlace got refs) z.0 q.0) one_side v)
+  both-own (both-refused x) e d = absurd (cc)
+  both-own (first-refused x r c) e d = absurd c
+
+  -- what is read refers in each place to what was got there
+  in-place : (own : Meaning ArcRef) → next_of types t blob got ≡ reads own → Along ⊥ (InPlace got refs) own f.own
+  in-place own is =
+      let given = read-gives _ _ own is in
+      let par = read_par {E = no_cause} {F = ⊥} {S = Answers} {R = InPlace got refs} answer_at own_look (λ kind a r h. h kind) 0 f.shape (inr f.can) in
+      let again = read_again types.parts f.shape f.can 0 own_look kind_of_arc f.own blob.bytes [] refs refs [] (looks-own refs) f.form in
+      let whole : read (record { levels = 0; look = own_look; parts = types.parts }) f.shape (rest blob.bytes refs) ≡ Ok (f.own, rest [] []) = rw (append-nil, append-nil) at again in
+      let shaped : read_with types t blob got ≡ read (handles_at 0 types.parts) f.shape (rest blob.bytes (answers_from got 0 blob.keys)) = rw f.is refl in
+      let first : read (handles_at 0 types.parts) f.shape (rest blob.bytes (answers_from got 0 blob.keys)) ≡ Ok (own, given.0) = sym shaped ∙ given.1 in
+      both-own (par.out (rest blob.bytes (answers_from got 0 blob.keys)) (rest blob.bytes refs) (record { bytes = refl; refs = all-answer 0 refs blob.keys
+          (λ i. let start : i ≡ 0 + i = omega arith in ap (slice_get refs) start) f.as_many })) first whole
+
+  -- ---- references, one by one
+
+  refs-two : {m n : Meaning ArcRef} → Along ⊥ (InPlace got refs) m n → AllTwo (InPlace got refs) (references_in m) (references_in n)
+  unfolding references_in
+  refs-two (number-along n) = no-two
+  refs-two (integer-along z) = no-two
+  refs-two (text-along t) = no-two
+  refs-two (pattern-along t) = no-two
+  refs-two none-along = no-two
+  refs-two (pair-along x y a b h g) = append-two (refs-two h) (refs-two g)
+  refs-two (variant-along n x a h) = refs-two h
+  refs-two (reference-along g r h) = more-two g r [] [] h no-two
+  refs-two (followed-along kind x a n h) = absurd n
+
+  each-other : {xs ys : List ArcRef} → AllTwo (InPlace got refs) xs ys → (x : ArcRef) → Among xs x → (y : ArcRef) × InPlace got refs x y
+  each-other no-two x (i, e) = absurd (cc)
+  each-other (more-two a b xs ys h g) x (zero, e) = let same : a ≡ x = cc in (b, subst (λ z. InPlace got refs z b) same h)
+  each-other (more-two a b xs ys h g) x (suc i, e) = each-other g x (i, e)
+
+  module _ (apart : AreApart got) where
+    -- where a handle was got, all that is named by it was one reference
+    no-more : (q : ℕ) (r : ArcRef) (g : ArcRef) → InPlace got refs g r → g.handle.0 ≡ q → {xs ys : List ArcRef} → AllTwo (InPlace got refs) xs ys
+        → times (λ (x : ArcRef). x.handle.0 == q) xs ≤ times (λ (y : ArcRef). y.handle.0 == r.handle.0) ys
+    no-more q r g p is no-two = omega arith
+    no-more q r g p is (more-two a b xs ys h more) =
+        let tail = no-more q r g p is more in
+        at (a.handle.0 == q) refl tail (sum_by-cons (λ (x : ArcRef). one (x.handle.0 == q)) a xs) (sum_by-cons (λ (y : ArcRef). one (y.handle.0 == r.handle.0)) b ys)
+      where
+        at : (t : Bool) → (a.handle.0 == q) ≡ t → times (λ (x : ArcRef). x.handle.0 == q) xs ≤ times (λ (y : ArcRef). y.handle.0 == r.handle.0) ys
+            → times (λ (x : ArcRef). x.handle.0 == q) (a ∷ xs) ≡ one (a.handle.0 == q) + times (λ (x : ArcRef). x.handle.0 == q) xs
+            → times (λ (y : ArcRef). y.handle.0 == r.handle.0) (b ∷ ys) ≡ one (b.handle.0 == r.handle.0) + times (λ (y : ArcRef). y.handle.0 == r.handle.0) ys
+            → times (λ (x : ArcRef). x.handle.0 == q) (a ∷ xs) ≤ times (λ (y : ArcRef). y.handle.0 == r.handle.0) (b ∷ ys)
+        at false e tail left right = let z : one (a.handle.0 == q) ≡ 0 = ap one e in omega (arith, z, tail, left, right)
+        at true e tail left right =
+            let place = apart h.place p.place a g h.of_got p.of_got (same-number a.handle.0 q e ∙ sym is) in
+            let both : Some b ≡ Some r = sym h.of_refs ∙ (ap (slice_get refs) place ∙ p.of_refs) in
+            let same : b.handle.0 ≡ r.handle.0 = let s : b ≡ r = cc in ap (λ (x : ArcRef). x.handle.0) s in
+            let z : one (a.handle.0 == q) ≡ 1 = ap one e in
+            let w : one (b.handle.0 == r.handle.0) ≡ 1 = ap (λ n. one (n == r.handle.0)) same ∙ ap one (self-number r.handle.0) in
+            omega (arith, z, w, tail, left, right)
+
+    -- what is read names no handle twice
+    pub reads-once : (own : Meaning ArcRef) → next_of types t blob got ≡ reads own → (q : ℕ) → times (λ (r : ArcRef). r.handle.0 == q) (references_in own) ≤ 1
+    reads-once own is q = at (times (λ (r : ArcRef). r.handle.0 == q) (references_in own)) refl
+      where
+        at : (n : ℕ) → times (λ (r : ArcRef). r.handle.0 == q) (references_in own) ≡ n → times (λ (r : ArcRef). r.handle.0 == q) (references_in own) ≤ 1
+        at zero e = omega (arith, e)
+        at (suc n) e =
+            let two = refs-two (in-place own is) in
+            let some = counted (λ (r : ArcRef). one (r.handle.0 == q)) (references_in own) (omega (arith, e)) in
+            let r = each-other two some.0 some.1 in
+            let le = no-more q r.0 some.0 r.1 (same-number some.0.handle.0 q (one-true _ some.2)) two in
+            let few = f.once r.0.handle.0 in
+            omega (arith, le, few)
+
+-- ---- nothing is said against references that are good and apart
+
+module _ (w : Core) (owner : Owner) where
+  fine-one : (seen : List ℕ) (r : ArcRef) → IsReference w owner r → is_in seen r.handle.0 ≡ false → reference_fault w owner seen r ≡ None
+  fine-one seen r is new =
+      let at : (is.row.node.0 == r.node.0) ≡ true = ap (λ n. n.0 == r.node.0) is.at ∙ self-number r.node.0 in
+      let own : is_owner owner is.row.owner ≡ true = ap (is_owner owner) is.owned ∙ self-owner owner in
+      let typed : is_type (type_of r.kind.0) (type_at w r.node.0) ≡ true = ap (is_type (type_of r.kind.0)) is.typed ∙ self-number (type_of r.kind.0) in
+      let fits = is.fits in
+      ap (λ found. if_there (λ (row : HandleRow). row_fault w r (refused_if (not (is_owner owner row.owner) || is_in seen r.handle.0) errors.NotYours) row) (Some errors.NoSuchHandle) found) is.live
+      ∙ rw (at, own, new, fits, typed) refl
+    where
+      self-owner : (o : Owner) → is_owner o o ≡ true
+      self-owner owners.Caller = refl
+      self-owner (owners.Value n) = self-number n.0
+      self-owner owners.List = refl
+      self-owner (owners.Load n) = self-number n.0
+      self-owner (owners.Worker n) = self-number n.0
+
+  pub fine : (seen : List ℕ) (rs : List ArcRef) → ((r : ArcRef) → Among rs r → IsReference w owner r) → ((r : ArcRef) → Among rs r → is_in seen r.handle.0 ≡ false)
+      → ((q : ℕ) → times (λ (r : ArcRef). r.handle.0 == q) rs ≤ 1) → references_fault w owner seen rs ≡ None
+  unfolding references_fault is_in
+  fine seen [] good new once = refl
+  fine seen (r ∷ rs) good new once =
+      let first = fine-one seen r (good r (zero, refl)) (new r (zero, refl)) in
+      let rest = fine (r.handle.0 ∷ seen) rs (λ q among. good q (suc among.0, among.1)) (λ q among. by q among (r.handle.0 == q.handle.0) refl)
+      (λ q. let a = once q in let b = sum_by-cons (λ (x : ArcRef). one (x.handle.0 == q)) r rs in omega (arith, a, b)) in
+      rw first rest
+    where
+      by : (q : ArcRef) → Among rs q → (b : Bool) → (r.handle.0 == q.handle.0) ≡ b → (r.handle.0 == q.handle.0) || is_in seen q.handle.0 ≡ false
+      by q among false e = let n = new q (suc among.0, among.1) in rw (e, n) refl
+      by q among true e =
+          let a = once q.handle.0 in
+          let b = sum_by-cons (λ (x : ArcRef). one (x.handle.0 == q.handle.0)) r rs in
+          let c = at-most-sum (λ (x : ArcRef). one (x.handle.0 == q.handle.0)) rs q among in
+          let d : one (q.handle.0 == q.handle.0) ≡ 1 = ap one (self-number q.handle.0) in
+          let z : one (r.handle.0 == q.handle.0) ≡ 1 = ap one e in
+          absurd (omega (arith, a, b, c, d, z))

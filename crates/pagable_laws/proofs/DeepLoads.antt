@@ -1,0 +1,258 @@
+-- A load is refused as too deep only where the reading of its key comes to a blob that lies too deep, or to one that enters a level too many.
+use Rattle.std.proofs.Common.{◌≡◌, ℕ, ◌+◌, ◌<◌, ◌==◌, ◌||◌, Bool, true, false, List, [], ◌∷◌, length, Option, Some, None, Ok, Err, inl, inr, if◌then◌else◌, refl, sym, ap, subst, ◌∙◌, arith}
+use Rattle.std.specs.Prelude.{not}
+use Rattle.pagable_model.specs.declared.error.Error.TheVariants as errors
+use Rattle.pagable_world.specs.declared.calls.Want.{Want}
+use Rattle.pagable_world.specs.declared.calls.Want.TheVariants as wants
+use Rattle.pagable_world.specs.declared.handles.HandleRow.{HandleRow}
+use Rattle.pagable_world.specs.declared.handles.Owner.{Owner}
+use Rattle.pagable_world.specs.declared.handles.Owner.TheVariants as owners
+use Rattle.pagable_world.specs.declared.events.Took.TheVariants as took
+use Rattle.pagable_world.specs.declared.events.Took.{Took}
+use Rattle.pagable_world.specs.declared.events.Event.{Event}
+use Rattle.pagable_world.specs.declared.events.Event.TheVariants as events
+use Rattle.pagable_world.specs.declared.events.EventReply.{EventReply}
+use Rattle.pagable_world.specs.declared.events.EventReply.TheVariants as answers
+use Rattle.pagable_world.specs.Plain.{Error, Kind, HandleNumber, LoadNumber, Blob, Tree, Types, type_of, is_eager, is_in, is_loose_kind, longest_path, if_there}
+use Rattle.pagable_world.specs.Kinds.{any_mode, is_owner, owner_worker}
+use Rattle.pagable_world.specs.World.{Core, OpenLoad, Root, of_cell, of_key, Frame, Reading, Todo, Walking, Seen, IsLawful, row_at}
+use Rattle.pagable_world.specs.Refusals.{earlier, where_so, refused_if, spent, load_fault, named_fault, Refused}
+use Rattle.pagable_world.specs.Calls.{birth_fault, is_usable}
+use Rattle.pagable_world.specs.LoadCalls.{AskCall, AsksInVain, node_fault, root_fault, cell_fault, is_owned_in, is_known}
+use Rattle.pagable_world.specs.Loads.{Next, reads, asks, is_faulty, next_in, need_at, need_of, needs_nested, needs_lazy, is_broken, RefusesBlob, RefusesNested, RefusesRoot, Fails, Does, handles_of}
+use Rattle.pagable_world.specs.Workers.{Site}
+use Rattle.pagable_world.specs.Workers as workers
+use Rattle.pagable_world.specs.Events.{Happens}
+use Rattle.pagable_world.specs.Order.{after_kinds, LeadsDown, is-there, goes-down, ReadsTooDeep}
+use Rattle.pagable_world.specs.Pager.{MachineState, world_of, FramesFit, IsReadingOf, of_caller, of_worker}
+use Rattle.pagable_laws.specs.DeepLaws.{LoadIsDeep, DeepLoadLaw}
+use Rattle.pagable_laws.proofs.Trees.{same_some}
+use Rattle.pagable_laws.proofs.Fitting.{asked}
+use Rattle.pagable_laws.proofs.Chains.{IsGoingOn}
+use Rattle.pagable_laws.proofs.Deeply.{along-first}
+use Rattle.pagable_laws.proofs.ReadingStepsKinds.{kinds_of, asks-by-kinds, faulty-by-kinds}
+use Rattle.pagable_laws.proofs.ReadingStepsMachine.{reading-stands}
+use Rattle.pagable_laws.proofs.Asking.{FramesAsked}
+use Rattle.pagable_laws.proofs.KnownSteps.{eager-nested}
+use Rattle.pagable_laws.proofs.Sound.{either}
+use Rattle.pagable_laws.proofs.Soundly.{by-all, by-handle-row}
+
+-- ---- what isn't refused as too deep
+
+abbrev No : Option Error → Type 0
+No c = c ≡ Some errors.TooDeep → ⊥
+
+no-earlier : (a b : Option Error) → No a → No b → No (earlier a b)
+no-earlier a b x y is = elim (either a b errors.TooDeep is) [ inl p ↦ x p | inr q ↦ y q ]
+
+no-test : (b : Bool) (f : Error) → (Some f ≡ Some errors.TooDeep → ⊥) → No (refused_if b f)
+no-test true f x is = x is
+no-test false f x is = cc
+
+no-where : (b : Bool) (c : Option Error) → No c → No (where_so b c)
+no-where true c x is = x is
+no-where false c x is = cc
+
+no-spent : (n : ℕ) → No (spent n)
+no-spent n = no-test _ errors.NumbersSpent (λ e. cc)
+
+no-load : (w : Core) (me : Owner) (l : LoadNumber) → No (load_fault w me l)
+no-load w me l is = at (w.loads l.0) is
+  where
+    at : (found : Option OpenLoad) → No (if_there (λ (load : OpenLoad). refused_if (not (is_owner me load.owner)) errors.NotYours) (Some errors.NoSuchHandle) found)
+    at None is = cc
+    at (Some load) is = no-test (not (is_owner me load.owner)) errors.NotYours (λ e. cc) is
+
+no-node : (w : Core) (kind : Kind) (key : ℕ) → No (node_fault w kind key)
+no-node w kind key is = at (is_usable w kind key) is
+  where
+    at : (b : Bool) → No (if b then spent w.last.handle else birth_fault w)
+    at true is = no-spent w.last.handle is
+    at false is = no-earlier (spent w.last.node) (spent w.last.handle) (no-spent w.last.node) (no-spent w.last.handle) is
+
+no-named : (w : Core) (owner : Owner) (seen : List ℕ) (hs : List HandleNumber) → No (named_fault w owner seen hs)
+unfolding named_fault
+no-named w owner seen [] is = cc
+no-named w owner seen (h ∷ hs) is = no-earlier _ _ (λ e. at (row_at w h) e) (no-named w owner (h.0 ∷ seen) hs) is
+  where
+    at : (found : Option HandleRow) → No (if_there (λ (row : HandleRow). refused_if (not (is_owner owner row.owner) || is_in seen h.0) errors.NotYours) (Some errors.NoSuchHandle) found)
+    at None e = cc
+    at (Some row) e = no-test (not (is_owner owner row.owner) || is_in seen h.0) errors.NotYours (λ f. cc) e
+
+no-root : (w : Core) (me : Owner) (t : ℕ) (found : Option OpenLoad) → No (if_there (λ (load : OpenLoad). root_fault w me t load.root) None found)
+no-root w me t None is = cc
+no-root w me t (Some load) is = at load.root is
+  where
+    at : (root : Root) → No (root_fault w me t root)
+    at (of_cell node u h) e = no-earlier (refused_if (not (t == u)) errors.WrongKind) (where_so (is_owned_in w me h.0) (spent w.last.handle)) (no-test (not (t == u)) errors.WrongKind
+        (λ f. cc)) (no-where (is_owned_in w me h.0) (spent w.last.handle) (no-spent w.last.handle)) e
+    at of_key e = cc
+
+no-cell : (found : Option OpenLoad) → No (if_there (λ (load : OpenLoad). cell_fault load.root) None found)
+no-cell None is = cc
+no-cell (Some load) is = at load.root is
+  where
+    at : (root : Root) → No (cell_fault root)
+    at (of_cell node u h) e = cc
+    at of_key e = cc
+
+not-refused : {cause before : Option Error} {full : Type 0} {w w' : Core} → Refused cause before full w errors.TooDeep w' → No cause → ⊥
+not-refused r none = elim r.why [ inl is ↦ none is | inr memory ↦ absurd (let e = memory.0 in cc) ]
+
+-- ---- a path down
+
+module _ (types : Types) (stored : ℕ → Option Blob) where
+  -- a path goes on by one more reference
+  goes-further : {t key n u last : ℕ} (blob : Blob) (kinds : List ℕ) (kind : Kind) (child : ℕ) → LeadsDown types stored t key n u last → stored last ≡ Some blob
+      → after_kinds types u blob kinds ≡ asks kind child → is_eager kind.0 ≡ true
+      → LeadsDown types stored t key (n + 1) (type_of kind.0) child
+  goes-further blob kinds kind child (is-there t key) is next eager = goes-down t key child 0 (0 + 1) (type_of kind.0) child blob kinds kind refl is next eager (is-there (type_of kind.0) child)
+  goes-further blob kinds kind child (goes-down t key c n longer u last b ks k e at step own more) is next eager =
+      goes-down t key c (n + 1) (longer + 1) (type_of kind.0) child b ks k (omega (arith, e)) at step own (goes-further blob kinds kind child more is next eager)
+
+  module _ (trees : ℕ → Tree) (root_key root_type : ℕ) where
+    -- what a frame says of its blob
+    record IsDown (frame : Frame) (n : ℕ) : Type 0 where
+      down : LeadsDown types stored root_type root_key n frame.node_type frame.key
+      is : stored frame.key ≡ Some frame.blob
+
+    down-to : (frame : Frame) (below : List Frame) → FramesFit types stored trees root_key root_type (frame ∷ below) → FramesAsked types (frame ∷ below) → IsDown frame (length below)
+    unfolding FramesFit FramesAsked
+    down-to frame [] (fits, key, of_type) got =
+        record { down = subst (λ q. LeadsDown types stored root_type root_key 0 frame.node_type q) (sym key) (subst (λ q. LeadsDown types stored root_type root_key 0 q root_key)
+            (sym of_type) (is-there root_type root_key)); is = fits.is }
+    down-to frame (under ∷ rest) (fits, of_type, next, more) (got, eager, next2, more_asked) =
+        let u = down-to under rest more more_asked in
+        let step = asks-by-kinds types under.node_type under.blob under.got frame.kind frame.key next in
+        let d = goes-further under.blob (kinds_of under.got) frame.kind frame.key u.down u.is step eager in
+        let long : length rest + 1 ≡ length (under ∷ rest) = omega arith in
+        record { down = subst (λ n. LeadsDown types stored root_type root_key n frame.node_type frame.key) long (subst (λ q. LeadsDown types stored root_type root_key
+            (length rest + 1) q frame.key) (sym of_type) d); is = fits.is }
+
+    broken-is : (below : List Frame) (next : Next) (e : Error) → need_at below next ≡ is_broken e → next ≡ is_faulty e
+    broken-is below (is_faulty f) e is = let same : f ≡ e = cc in ap is_faulty same
+    broken-is [] (reads own) e is = absurd (cc)
+    broken-is (x ∷ xs) (reads own) e is = absurd (cc)
+    broken-is below (asks kind key) e is = absurd (at (is_eager kind.0) is)
+      where
+        at : (b : Bool) → (if b then needs_nested kind key else needs_lazy kind key) ≡ is_broken e → ⊥
+        at true f = cc
+        at false f = cc
+
+    of-blob : (frames : List Frame) → FramesFit types stored trees root_key root_type frames → FramesAsked types frames → need_of types frames ≡ is_broken errors.TooDeep
+        → ReadsTooDeep types stored root_type root_key
+    of-blob [] fits got is = absurd (cc)
+    of-blob (top ∷ below) fits got is =
+        let d = down-to top below fits got in
+        record { n = length below; last_type = top.node_type; last = top.key; blob = top.blob; down = d.down; is = d.is; deep = inr
+            (kinds_of top.got, faulty-by-kinds types top.node_type top.blob top.got errors.TooDeep (broken-is below (next_in types top) errors.TooDeep is)) }
+
+    of-path : (frames : List Frame) → FramesFit types stored trees root_key root_type frames → FramesAsked types frames → (kind : Kind) (key : ℕ) (blob : Blob)
+        → need_of types frames ≡ needs_nested kind key → stored key ≡ Some blob
+        → longest_path < length frames → ReadsTooDeep types stored root_type root_key
+    of-path [] fits got kind key blob needs is long = absurd (cc)
+    of-path (top ∷ below) fits got kind key blob needs is long =
+        let d = down-to top below fits got in
+        let step = asks-by-kinds types top.node_type top.blob top.got kind key (asked below (next_in types top) kind key (inl needs)) in
+        let further = goes-further top.blob (kinds_of top.got) kind key d.down d.is step (eager-nested below (next_in types top) kind key needs) in
+        record { n = length below + 1; last_type = type_of kind.0; last = key; blob = blob; down = further; is = is; deep = inl (omega (arith, long)) }
+
+-- ---- a load's step
+
+module _ {N B W : Type 0} (m : Seen N B W) (lawful : IsLawful m.values) (w : Core) (me : Owner) (reading : Reading) (trees : ℕ → Tree) (root_key root_type : ℕ)
+    (fits : FramesFit m.values.types w.stored trees root_key root_type reading.frames)
+    (got : FramesAsked m.values.types reading.frames) where
+  abbrev Deep : Type 0
+  Deep = ReadsTooDeep m.values.types w.stored root_type root_key
+
+  blob-deep : RefusesBlob m.values reading errors.TooDeep → Deep
+  blob-deep (inl is) = of-blob m.values.types w.stored trees root_key root_type reading.frames fits got is
+  blob-deep (inr (inl (top, below, is, causes))) = absurd (let f = lawful.own_reading top.node_type errors.TooDeep causes in cc)
+  blob-deep (inr (inr memory)) = absurd (cc)
+
+  not-vain : (want : Want) (load : OpenLoad) (u : Core) → AsksInVain w load want errors.TooDeep u → ⊥
+  not-vain wants.Root load u f = f.refused
+  not-vain (wants.Nested kind key) load u f = f.1.refused
+
+  not-asked : (want : Want) (u : Core) → AskCall w me reading.load want (Err errors.TooDeep) u → ⊥
+  not-asked want u c = elim c.refused [
+    | inl r ↦ not-refused r (no-earlier _ _ (no-load w me reading.load) (no-where (is_known w want) (spent w.last.handle) (no-spent w.last.handle)))
+    | inr (load, owned, vain) ↦ not-vain want load u vain
+  ]
+
+  nested-deep : (u : Core) → RefusesNested m.values.types w me reading errors.TooDeep u → Deep
+  nested-deep u (kind, key, needs, inl c) = absurd (not-asked (wants.Nested kind key) u c)
+  nested-deep u (kind, key, needs, inr (blob, is, long, c)) = of-path m.values.types w.stored trees root_key root_type reading.frames fits got kind key blob needs c.gives.2.1.found long
+
+  root-not : (u : Core) → RefusesRoot m.values w me reading errors.TooDeep u → ⊥
+  root-not u r = elim r.refuses [
+    | inl (is, ended) ↦ not-refused ended.refused.1 (no-earlier _ _ (no-load w me reading.load) (no-earlier _ _ (no-root w me _ (w.loads reading.load.0)) (λ f. by-all w
+        (owners.Load reading.load) [] (m.values.references r.x) errors.TooDeep f)))
+    | inr (is, handed) ↦ no-earlier _ _ (no-load w me reading.load) (no-earlier _ _ (no-cell (w.loads reading.load.0)) (no-named w (owners.Load reading.load) [] (handles_of
+        (m.values.references r.x)))) handed.refused.0
+  ]
+
+  pub fails-deep : (w' : Core) → Fails m.values w me reading errors.TooDeep w' → Deep
+  fails-deep w' (inr ended) = absurd (by-handle-row w me ended.ended.refused.h any_mode errors.TooDeep ended.ended.refused.why)
+  fails-deep w' (inl gives) = elim gives.meets [
+    | inl (refuses, a) ↦ blob-deep refuses
+    | inr (inl (first, c)) ↦ absurd (not-asked wants.Root gives.mid c)
+    | inr (inr (inl nested)) ↦ nested-deep gives.mid nested
+    | inr (inr (inr (inl (kind, key, needs, c)))) ↦
+        absurd (not-refused c.refused (no-earlier _ _ (no-load w me reading.load) (no-earlier _ _ (no-test (not (is_loose_kind kind.0)) errors.WrongKind (λ e. cc)) (no-node w kind key))))
+    | inr (inr (inr (inr (inl node)))) ↦
+        absurd (not-refused node.adopted.refused.1 (no-earlier _ _ (no-load w me reading.load) (no-earlier _ _ (no-test _ errors.WrongMode (λ e. cc))
+        (no-earlier _ _ (no-test _ errors.WrongKind (λ e. cc)) (no-earlier _ _ (λ f. by-all w (owners.Load reading.load) [] (m.values.references node.x) errors.TooDeep f)
+            (no-node w node.reads_node.top.kind node.reads_node.top.key))))))
+    | inr (inr (inr (inr (inr root)))) ↦ absurd (root-not gives.mid root)
+  ]
+
+-- ---- an event
+
+module _ {N B W E : Type 0} (m : Seen N B W) (lawful : IsLawful m.values) (s s' : MachineState N E) (trees trees' : ℕ → Tree) (on : IsGoingOn m.values s trees) where
+  by-reading : (me : Owner) (reading : Reading) (load : OpenLoad) → IsReadingOf s.work reading → s.pager.core.loads reading.load.0 ≡ Some load → (w' : Core)
+      → Fails m.values s.pager.core me reading errors.TooDeep w'
+      → ReadsTooDeep m.values.types s.pager.core.stored reading.node_type load.key
+  by-reading me reading load is open_load w' fails =
+      fails-deep m lawful s.pager.core me reading trees load.key reading.node_type (on.stands.readings reading is load open_load) (on.asked reading is) w' fails
+
+  by-first : (me : Owner) (reading : Reading) (load : OpenLoad) → reading.frames ≡ [] → (w' : Core) → Fails m.values s.pager.core me reading errors.TooDeep w'
+      → ReadsTooDeep m.values.types s.pager.core.stored reading.node_type load.key
+  unfolding FramesFit FramesAsked
+  by-first me reading load none w' fails =
+      fails-deep m lawful s.pager.core me reading trees load.key reading.node_type (subst (λ fs. FramesFit m.values.types s.pager.core.stored trees load.key reading.node_type fs) (sym none) tt)
+      (subst (λ fs. FramesAsked m.values.types fs) (sym none) tt) w' fails
+
+  load-deep : (event : Event N B W) (reply : EventReply N B W) → Happens m (world_of s) event reply (world_of s') → LoadIsDeep m.values s trees event reply s' trees'
+  load-deep (events.LoadStep l) (answers.LoadMoved (Ok reply)) is = λ reading load at open_load ended.
+      let x = is.moves in
+      let same : x.reading ≡ reading = same_some _ _ (sym x.at ∙ at) in
+      let fails = subst (λ a. Does m.values s.pager.core owners.Caller x.reading a x.frames s'.pager.core) ended x.does.does in
+      subst (λ (r : Reading). ReadsTooDeep m.values.types s.pager.core.stored r.node_type load.key) same (elim (reading-stands (world_of s) on.whole.pager.whole l x.reading x.at) [
+        | inl there ↦ by-reading owners.Caller x.reading load (of_caller l.0 there) (ap s.pager.core.loads (on.whole.readings l.0 x.reading there).number ∙ open_load) s'.pager.core fails.0
+        | inr begun ↦ by-first owners.Caller x.reading load begun.0 s'.pager.core fails.0
+      ])
+  load-deep (events.WorkerStep n) (answers.WorkerMoved (Ok reply)) is = λ walking r place through reading below load i there todo open_load taken.
+      let x = is.moves in
+      let same : x.walking ≡ walking = same_some _ _ (sym x.at ∙ there) in
+      let front = ap (λ (y : Walking). y.todo) same ∙ todo in
+      let does =
+          subst (λ (k : Took W). workers.Does m n.0 (record { core = s.pager.core; shelf = s.work.shelves x.walking.table; todo = x.walking.todo }) x.walking.todo k x.after) taken x.does.does in
+      let step = subst (λ (t : List Todo). workers.Does m n.0 (record { core = s.pager.core; shelf = s.work.shelves x.walking.table; todo = x.walking.todo }) t (took.Pin i
+          (Err errors.TooDeep)) x.after) front does in
+      by-reading (owner_worker n.0) reading load (of_worker n.0 place walking r through below there todo) open_load x.after.core step.1.refused.0.does.0
+  load-deep (events.LoadStep l) (answers.LoadMoved (Err e)) is = tt
+  load-deep (events.LoadStep l) reply is = absurd is
+  load-deep (events.WorkerStep n) (answers.WorkerMoved (Err e)) is = tt
+  load-deep (events.WorkerStep n) reply is = absurd is
+  load-deep (events.Call call) reply is = tt
+  load-deep (events.LoadStart h) reply is = tt
+  load-deep (events.LoadKey key t) reply is = tt
+  load-deep events.TableNew reply is = tt
+  load-deep (events.WorkerItem t item) reply is = tt
+  load-deep (events.WorkerListed t i) reply is = tt
+
+pub deep_load_law : {N B W : Type 0} (E : Type 0) (m : Seen N B W) → DeepLoadLaw E m
+deep_load_law E m start moments trees whole idle chain stands lawful readable settled =
+    along-first m lawful readable (LoadIsDeep m.values)
+    (λ s s' trees trees' event reply on low is. load-deep m lawful s s' trees trees' on event reply is) start moments trees whole idle chain stands settled

@@ -1,0 +1,189 @@
+-- Two kinds or keys never get one identity through one cache, and one kind and key gets the same for as long as its node is held.
+use Rattle.std.proofs.Common.{◌≡◌, ℕ, zero, suc, ◌+◌, ◌≤◌, ◌==◌, Bool, true, false, List, [], ◌∷◌, Some, None, inl, inr, refl, sym, ap, subst, ◌∙◌, if◌then◌else◌, arith}
+use Rattle.std.proofs.lemmas.Bool.Decides.{nat_tests}
+use Rattle.pagable_model.specs.declared.data_key.OptionalDataKey.TheVariants as optional
+use Rattle.pagable_world.specs.declared.calls.Call.TheVariants as calls
+use Rattle.pagable_world.specs.declared.events.Event.TheVariants as events
+use Rattle.pagable_world.specs.declared.events.Event.{Event}
+use Rattle.pagable_world.specs.declared.handles.Owner.TheVariants as owners
+use Rattle.pagable_world.specs.declared.rows.Mode.TheVariants as modes
+use Rattle.pagable_world.specs.declared.rows.Mode.{Mode}
+use Rattle.pagable_world.specs.Plain.{OptionalDataKey, Kind, ArcRef, LoadNumber, type_of, Among, is_pinned_kind}
+use Rattle.pagable_world.specs.Kinds.{mode_of, fits_mode, is_pinning}
+use Rattle.pagable_world.specs.World.{Core, Last, Alike, Seen, usable}
+use Rattle.pagable_world.specs.Calls.{with_handle, with_node, with_cached, next_node}
+use Rattle.pagable_world.specs.LoadCalls.{GetsKnown, adopted, first_key}
+use Rattle.pagable_world.specs.Pager.{MachineState, world_of, IsWhole, IsMachineWhole}
+use Rattle.pagable_world.specs.Runs.{KeepsOpen, Moment, AreMoments, state_after}
+use Rattle.pagable_world.specs.OneWorker.{GetsReference, IsFilledByReading, LeavesCache, StaysAlive, OneIdentityLaw}
+use Rattle.pagable_laws.specs.TreeSteps.{Change, GetsRow, nothing_felt}
+use Rattle.pagable_laws.proofs.Goes.{Quiet, Goes, KnowsNext, quiet-then, quiet-goes, goes-quiet, alike, a-handle, fell-anyhow, adopts}
+use Rattle.pagable_laws.proofs.Calling.{gets-known}
+use Rattle.pagable_laws.proofs.Outlasting.{among-found}
+use Rattle.pagable_laws.proofs.ReadingStepsRows.{cached-rows, got-known, got-fallen, got-born, is-cached}
+use Rattle.pagable_laws.proofs.EventSteps.{event-goes}
+use Rattle.pagable_laws.proofs.Sums.{self-number}
+use Rattle.pagable_laws.proofs.Usable.{IsEntered, IsHeldFor, can-use, entered-of, stays-alike, stays-fell}
+use Rattle.pagable_laws.proofs.UsableSteps.{event-lasts}
+
+-- ---- what is got
+
+-- that the node is held means that the cache has it
+abbrev HeldEnters : Core → Kind → ℕ → ℕ → Type 0
+HeldEnters w kind key n = IsHeldFor kind.0 key n w.rows → IsEntered kind.0 key n w.cache w.cells
+
+-- a reference that is got is of the node that the cache gives, or of the next one where it gives none
+data Got (w : Core) (kind : Kind) (key n : ℕ) (w' : Core) : Type 0 where
+  got-old : usable w kind.0 key ≡ Some n → Quiet w w' → HeldEnters w' kind key n → Got w kind key n w'
+  got-new : usable w kind.0 key ≡ None → n ≡ w.last.node + 1 → (l : LoadNumber) (own : OptionalDataKey) (references : List ArcRef) → Alike (adopted w l kind key own references) w'
+      → Got w kind key n w'
+
+-- a mode that fits a kind of pins is that of a pin
+pinning-by : (kind : ℕ) (mode : Mode) → fits_mode kind mode ≡ true → is_pinned_kind kind ≡ true → is_pinning mode ≡ true
+pinning-by kind modes.Pinned fits is = refl
+pinning-by kind modes.Shared fits is = refl
+pinning-by kind modes.LoosePinned fits is = refl
+pinning-by kind modes.LooseUnpinned fits is = absurd (grind (arith, nat_tests))
+
+held-by : {w w' : Core} {n : ℕ} {row : _} (kind : Kind) (key : ℕ) → GetsRow w w' kind n row → IsHeldFor kind.0 key n w'.rows
+held-by {w' = w'} {row = row} kind key g = record { row = row; live = among-found row.number.0 w'.rows row g.live; at = g.at; pins_it = pinning-by kind.0 row.mode g.fits }
+
+-- what is got, with its row
+record Gotten (w : Core) (kind : Kind) (key n : ℕ) (w' : Core) : Type 0 where
+  held : IsHeldFor kind.0 key n w'.rows
+  from : Got w kind key n w'
+
+module _ {w w' : Core} (whole : IsWhole w) (kind : Kind) (key n : ℕ) (g : GetsReference w kind key n w') where
+  old : (m : ℕ) → usable w kind.0 key ≡ Some m → GetsRow w w' kind m g.row → Quiet w w' → (IsEntered kind.0 key m w.cache w.cells → HeldEnters w' kind key m) → Gotten w kind key n w'
+  old m is gets q enters = subst (λ x. Gotten w kind key x w') (sym gets.at ∙ g.at) (record { held = held-by kind key gets; from = got-old is q (enters (entered-of kind.0 key m w is)) })
+
+  known : GetsKnown w g.l kind key g.k w' → Gotten w kind key n w'
+  known c = old c.n c.known (got-known whole.handles kind g.k g.row g.made c.next.above c.n (owners.Load g.l) c.leaves) (gets-known c) (λ e h. stays-alike kind.0 key c.n c.leaves e h)
+
+  new : (own : OptionalDataKey) (references : List ArcRef) → g.k.0 ≡ w.last.handle + 1 → usable w kind.0 key ≡ None → Alike (adopted w g.l kind key own references) w' → Gotten w kind key n w'
+  new own references above none a =
+      let gets = got-born whole.handles kind g.k g.row g.made above g.l key own references a in
+      let next = sym gets.at ∙ g.at in
+      record { held = subst (λ x. IsHeldFor kind.0 key x w'.rows) next (held-by kind key gets); from = got-new none (sym next) g.l own references a }
+
+  got : Gotten w kind key n w'
+  got = elim g.gets [
+    | inl asked ↦ known asked.gives.2
+    | inr (inl lazy) ↦ elim lazy.makes.3 [ inl c ↦ known c | inr (none, few, next, a) ↦ new (optional.Some key) [] next.above none a ]
+    | inr (inr (t, references, c)) ↦ elim c.makes [
+      | inl (m, is, f) ↦
+          let gets = got-fallen whole.handles kind g.k g.row g.made c.next.above m (owners.Load g.l) f in
+          old m is gets (quiet-then (a-handle w _ _ (owners.Load g.l)) (fell-anyhow f)) (λ e h. stays-fell kind.0 key m f.falls e h)
+      | inr (none, few, a) ↦ new (first_key kind.0 key) references c.next.above none a
+    ]
+  ]
+
+-- ---- each node is known once
+
+-- the node was given, and each entry of the cache that names it is of this kind and key
+record IsKnownOnce (kind key n : ℕ) (w : Core) : Type 0 where
+  given : n ≤ w.last.node
+  only : (k q : ℕ) → w.cache k q ≡ Some n → (k ≡ kind) × (q ≡ key)
+
+once-goes : (kind key n : ℕ) {c : Change} {w w' : Core} → Goes c w w' → KnowsNext c w → IsKnownOnce kind key n w → IsKnownOnce kind key n w'
+once-goes kind key n {w = w} g next once =
+    let few = once.given in
+    let more = g.nodes in
+    record {
+      given = omega (arith, few, more);
+      only = λ k q is. elim (g.cache k q n is) [
+        | inl there ↦ once.only k q there
+        | inr knows ↦ absurd (let e = next k q n knows in omega (arith, e, few))
+      ];
+    }
+
+once-got : {w w' : Core} (kind : Kind) (key n : ℕ) → IsWhole w → IsFilledByReading w → Got w kind key n w' → IsKnownOnce kind.0 key n w'
+once-got {w} kind key n whole filled (got-old is q enters) =
+    let there = is-cached w kind.0 key n is in
+    once-goes kind.0 key n (quiet-goes nothing_felt q) (λ k q n known. absurd known) (record { given = (whole.cache kind.0 key n there).given; only = λ k q is. filled kind.0 key k q n there is })
+once-got {w} {w'} kind key n whole filled (got-new none next l own references a) =
+    let g = goes-quiet (adopts w l kind key own references) (alike a) in
+    let made = with_handle (with_node w (type_of kind.0) own references) (next_node w) (mode_of kind.0) (owners.Load l) in
+    let last = ap (λ (x : Last). x.node) (a.last ∙ (cached-rows made kind key (next_node w)).1) in
+    record {
+      given = omega (arith, next, last);
+      only = λ k q is. elim (g.cache k q n is) [
+        | inl there ↦ absurd (let few = (whole.cache k q n there).given in omega (arith, few, next))
+        | inr known ↦ (known.0, known.1)
+      ];
+    }
+
+-- ---- what is got is known
+
+entered-got : {w w' : Core} (kind : Kind) (key n : ℕ) → w.closed ≡ false → Got w kind key n w' → HeldEnters w' kind key n
+entered-got kind key n opened (got-old is q enters) h = enters h
+entered-got {w} {w'} kind key n opened (got-new none next l own references a) h = stays-alike kind.0 key n a (entered w.closed opened) h
+  where
+    made : Core
+    made = with_handle (with_node w (type_of kind.0) own references) (next_node w) (mode_of kind.0) (owners.Load l)
+
+    entered : (b : Bool) → b ≡ false → let d = if b then made else with_cached made kind key (next_node w) in IsEntered kind.0 key n d.cache d.cells
+    entered true is = absurd (cc)
+    entered false is =
+        let k = self-number kind.0 in
+        let q = self-number key in
+        let m = self-number n in
+        let e : (n == w.last.node + 1) ≡ true = ap (λ x. n == x) (sym next) ∙ m in
+        record { entry = rw (k, q) (ap (λ (x : ℕ). Some x) (sym next)); there = rw e refl }
+
+keeps-open : {N B W : Type 0} (event : Event N B W) → LeavesCache event → KeepsOpen event
+keeps-open (events.Call calls.Close) leaves = leaves
+keeps-open event leaves = tt
+
+-- ---- along a chain
+
+module _ {N B W E : Type 0} (m : Seen N B W) (kind : Kind) (key n : ℕ) where
+  abbrev Leave : List (Moment N E B W) → Type 0
+  Leave xs = (x : Moment N E B W) → Among xs x → LeavesCache x.event
+
+  once-along : (s : MachineState N E) (xs : List (Moment N E B W)) → IsMachineWhole m.values s → AreMoments m s xs → Leave xs → IsKnownOnce kind.0 key n s.pager.core
+      → IsMachineWhole m.values (state_after s xs) × IsKnownOnce kind.0 key n (state_after s xs).pager.core
+  unfolding state_after
+  once-along s [] whole chain leaves once = (whole, once)
+  once-along s (x ∷ xs) whole (does, more) leaves once =
+      let kept = leaves x (zero, refl) in
+      let g = event-goes m (world_of s) (world_of x.after) x.event x.reply (keeps-open x.event kept) does.step.happens in
+      once-along x.after xs does.whole more (λ y (i, is). leaves y (suc i, is)) (once-goes kind.0 key n g.goes (g.knows whole.pager.whole kept) once)
+
+  used-along : (s : MachineState N E) (xs : List (Moment N E B W)) → AreMoments m s xs → Leave xs → StaysAlive kind n xs
+      → IsEntered kind.0 key n s.pager.core.cache s.pager.core.cells → IsHeldFor kind.0 key n s.pager.core.rows → usable (state_after s xs).pager.core kind.0 key ≡ Some n
+  unfolding state_after
+  used-along s [] chain leaves alive e h = can-use kind.0 key n s.pager.core e h
+  used-along s (x ∷ xs) (does, more) leaves (a, alive) e h =
+      let h' : IsHeldFor kind.0 key n x.after.pager.core.rows = record { row = a.row; live = a.live; at = a.at; pins_it = pinning-by kind.0 a.row.mode a.fits } in
+      let l = event-lasts kind.0 key n m (world_of s) (world_of x.after) x.event x.reply (leaves x (zero, refl)) does.step.happens in
+      used-along x.after xs more (λ y (i, is). leaves y (suc i, is)) alive (l.lasts e h h') h'
+
+-- ---- the law
+
+differ : {u last : Core} (kind other_kind : Kind) (key other_key n other_n : ℕ) → IsKnownOnce kind.0 key n u → Got u other_kind other_key other_n last → other_n ≡ n → other_key ≡ key
+differ {u} kind other_kind key other_key n other_n once (got-old is q enters) same_node =
+    (once.only other_kind.0 other_key (subst (λ (x : ℕ). u.cache other_kind.0 other_key ≡ Some x) same_node (is-cached u other_kind.0 other_key other_n is))).1
+differ {u} kind other_kind key other_key n other_n once (got-new none next l own references a) same_node = absurd (let few = once.given in omega (arith, few, next, same_node))
+
+same : {u last : Core} (kind other_kind : Kind) (key other_key n other_n : ℕ) → usable u kind.0 key ≡ Some n → Got u other_kind other_key other_n last
+    → other_kind ≡ kind → other_key ≡ key → other_n ≡ n
+same {u} {last} kind other_kind key other_key n other_n is got same_kind same_key = by got
+  where
+    used : usable u other_kind.0 other_key ≡ Some n
+    used = subst (λ (k : Kind). usable u k.0 other_key ≡ Some n) (sym same_kind) (subst (λ q. usable u kind.0 q ≡ Some n) (sym same_key) is)
+
+    by : Got u other_kind other_key other_n last → other_n ≡ n
+    by (got-old other q enters) = cc
+    by (got-new none next l own references a) = absurd (cc)
+
+pub one_identity_law : {N B W : Type 0} (E : Type 0) (m : Seen N B W) → OneIdentityLaw E m
+one_identity_law E m w first between last kind other_kind key other_key n other_n whole filled opened gets whole' chain leaves gets' =
+    let a = got whole kind key n gets in
+    let s = once-along m kind key n first between whole' chain leaves (once-got kind key n whole filled a.from) in
+    let b = got s.0.pager.whole other_kind other_key other_n gets' in
+    record {
+      differ = λ same_kind same_node. differ kind other_kind key other_key n other_n s.1 b.from same_node;
+      same = λ same_kind same_key alive.
+          same kind other_kind key other_key n other_n (used-along m kind key n first between chain leaves alive (entered-got kind key n opened a.from a.held) a.held) b.from same_kind same_key;
+    }

@@ -1,0 +1,96 @@
+-- What a load has got goes on to be what its blobs asked for, whatever happens.
+use Rattle.std.proofs.Common.{◌≡◌, ℕ, Bool, true, false, List, [], ◌∷◌, refl, sym, subst, inl, inr, if◌then◌else◌}
+use Rattle.std.specs.Prelude.{Option, Some, None}
+use Rattle.pagable_world.specs.Plain.{Kind, Types, is_eager}
+use Rattle.pagable_world.specs.declared.handles.HandleRow.{HandleRow}
+use Rattle.pagable_world.specs.declared.events.Event.{Event}
+use Rattle.pagable_world.specs.declared.events.EventReply.{EventReply}
+use Rattle.pagable_world.specs.declared.events.LoadAnswer.{LoadAnswer}
+use Rattle.pagable_world.specs.World.{Core, Frame, Reading, World, Values}
+use Rattle.pagable_world.specs.Loads.{Next, reads, asks, is_faulty, next_in, need_at, need_of, needs_nested, needs_lazy, nested_frame, with_got}
+use Rattle.pagable_world.specs.Pager.{IsReadingOf}
+use Rattle.pagable_laws.specs.TreeSteps.{Change, KeepsReadings, ReadingFeels, reads-root, reads-blob, gets-known, gets-lazy, makes-known, makes-node, reading-ends, EventFeels, by-call, by-reading, by-key, by-nothing}
+use Rattle.pagable_laws.specs.ReadLaws.{Needs}
+use Rattle.pagable_laws.proofs.Fitting.{asked}
+use Rattle.pagable_laws.proofs.ReadingStepsMachine.{is-reading-of}
+use Rattle.pagable_laws.proofs.Asking.{none-got, one-got, FramesAsked}
+
+-- what is read together with a value is asked for through a reference that isn't loose
+pub eager-nested : (below : List Frame) (next : Next) (kind : Kind) (key : ℕ) → need_at below next ≡ needs_nested kind key → is_eager kind.0 ≡ true
+eager-nested below (asks k q) kind key is = by (is_eager k.0) refl is
+  where
+    by : (b : Bool) → is_eager k.0 ≡ b → (if b then needs_nested k q else needs_lazy k q) ≡ needs_nested kind key → is_eager kind.0 ≡ true
+    by true e is = let same : k ≡ kind = cc in subst (λ (x : Kind). is_eager x.0 ≡ true) same e
+    by false e is = absurd (cc)
+eager-nested [] (reads own) kind key is = absurd (cc)
+eager-nested (x ∷ xs) (reads own) kind key is = absurd (cc)
+eager-nested below (is_faulty e) kind key is = absurd (cc)
+
+module _ (types : Types) where
+  -- one more reference was got that the innermost blob asked for
+  with-asked : (frame : Frame) (below : List Frame) (kind : Kind) (key : ℕ) (row : HandleRow) → FramesAsked types (frame ∷ below) → next_in types frame ≡ asks kind key
+      → FramesAsked types (with_got kind row (frame ∷ below))
+  unfolding FramesAsked
+  with-asked frame [] kind key row got next = one-got frame.got _ _ key got next refl
+  with-asked frame (under ∷ rest) kind key row (got, eager, asked_below, more) next = (one-got frame.got _ _ key got next refl, eager, asked_below, more)
+
+  needed-asked : (frames : List Frame) (kind : Kind) (key : ℕ) (row : HandleRow) → FramesAsked types frames → Needs types frames kind key → FramesAsked types (with_got kind row frames)
+  unfolding FramesAsked
+  needed-asked [] kind key row got needs = tt
+  needed-asked (frame ∷ below) kind key row got needs = with-asked frame below kind key row got (asked below (next_in types frame) kind key needs)
+
+  nested-asked : (frames : List Frame) (kind : Kind) (key : ℕ) (blob : _) → FramesAsked types frames → need_of types frames ≡ needs_nested kind key
+      → FramesAsked types (nested_frame kind key blob ∷ frames)
+  unfolding FramesAsked
+  nested-asked [] kind key blob got needs = absurd (cc)
+  nested-asked (frame ∷ below) kind key blob got needs =
+      (none-got [] refl, eager-nested below (next_in types frame) kind key needs, asked below (next_in types frame) kind key (inl needs), got)
+
+  made-asked : (top : Frame) (below : List Frame) (row : HandleRow) → FramesAsked types (top ∷ below) → FramesAsked types (with_got top.kind row below)
+  unfolding FramesAsked
+  made-asked top [] row got = tt
+  made-asked top (under ∷ rest) row (got, eager, next, more) = with-asked under rest top.kind top.key row more next
+
+  none-asked : (frames : List Frame) → frames ≡ [] → FramesAsked types frames
+  unfolding FramesAsked
+  none-asked [] is = tt
+  none-asked (x ∷ xs) is = absurd (cc)
+
+no-end : {X : Type 0} {answer : Option X} {x : X} → answer ≡ None → answer ≡ Some x → ⊥
+no-end none is = cc
+
+-- what a load's step leaves
+pub asked-after : {N : Type 0} {v : Values N} {w w' : Core} (reading : Reading) (answer : Option (LoadAnswer N)) (frames : List Frame) {c : Change} → answer ≡ None → FramesAsked v.types reading.frames
+    → ReadingFeels v w reading answer frames w' c → FramesAsked v.types frames
+unfolding FramesAsked
+asked-after {v = v} reading answer frames none got (reads-root load blob none_read at stored a is) = subst (λ fs. FramesAsked v.types fs) (sym is) (none-got [] refl)
+asked-after {v = v} reading answer frames none got (reads-blob kind key blob needs stored a is) =
+    subst (λ fs. FramesAsked v.types fs) (sym is) (nested-asked v.types reading.frames kind key blob got needs)
+asked-after {v = v} reading answer frames none got (gets-known kind key n row needs known gets a is) =
+    subst (λ fs. FramesAsked v.types fs) (sym is) (needed-asked v.types reading.frames kind key row got needs)
+asked-after {v = v} reading answer frames none got (gets-lazy kind key row needs gets a is) =
+    subst (λ fs. FramesAsked v.types fs) (sym is) (needed-asked v.types reading.frames kind key row got (inr needs))
+asked-after {v = v} reading answer frames none got (makes-known x r n row known gets a is) =
+    subst (λ fs. FramesAsked v.types fs) (sym is) (made-asked v.types r.top r.below row (subst (λ fs. FramesAsked v.types fs) r.frames got))
+asked-after {v = v} reading answer frames none got (makes-node x r row gets a is) =
+    subst (λ fs. FramesAsked v.types fs) (sym is) (made-asked v.types r.top r.below row (subst (λ fs. FramesAsked v.types fs) r.frames got))
+asked-after reading answer frames none got (reading-ends end a is) = absurd (no-end none a)
+
+-- so it is of all that is read
+abbrev pub ReadingsAsked : Types → World → Type 0
+ReadingsAsked types u = (reading : Reading) → IsReadingOf u.work reading → FramesAsked types reading.frames
+
+kept : (types : Types) (u u' : World) → ReadingsAsked types u → KeepsReadings u u' → ReadingsAsked types u'
+kept types u u' held keeps reading is = elim (keeps reading is) [ inl old ↦ held reading old | inr new ↦ none-asked types reading.frames new.0 ]
+
+module _ {N B W : Type 0} (v : Values N) {u u' : World} (held : ReadingsAsked v.types u) where
+  pub event-asked : (event : Event N B W) (reply : EventReply N B W) {c : Change} → EventFeels v u event reply u' c → ReadingsAsked v.types u'
+  event-asked event reply (by-call c call answer called replied feels keeps) = kept v.types u u' held keeps
+  event-asked event reply (by-key k key row is sets keeps) = kept v.types u u' held keeps
+  event-asked event reply (by-nothing stays keeps) = kept v.types u u' held keeps
+  event-asked event reply (by-reading c reading answer frames stepped opens feels steps) = λ after is. elim (steps after is) [
+    | inl old ↦ held after old
+    | inr (none, same) ↦
+        let before : FramesAsked v.types reading.frames = elim (is-reading-of u event reading stepped) [ inl there ↦ held reading there | inr begun ↦ none-asked v.types reading.frames begun.0 ] in
+        subst (λ (r : Reading). FramesAsked v.types r.frames) (sym same) (asked-after reading answer frames none before feels)
+  ]

@@ -1,0 +1,429 @@
+-- Where each load is done in one piece, one of a cell whose key a page-out set is refused by chance alone.
+use Rattle.std.proofs.Common.{◌≡◌, ℕ, zero, suc, ◌+◌, ◌<◌, ◌≤◌, ◌==◌, Bool, true, false, List, [], ◌∷◌, Option, Some, None, Ok, Err, ◌⊎◌, inl, inr, if◌then◌else◌, refl, sym, ap, subst, ◌∙◌, arith}
+use Rattle.std.specs.Prelude.{slice_get, not, is_some}
+use Rattle.pagable_model.specs.declared.error.Error.TheVariants as errors
+use Rattle.pagable_world.specs.declared.handles.HandleRow.{HandleRow}
+use Rattle.pagable_world.specs.declared.handles.Owner.TheVariants as owners
+use Rattle.pagable_world.specs.declared.rows.Mode.TheVariants as modes
+use Rattle.pagable_world.specs.declared.answers.Beginning.TheVariants as beginnings
+use Rattle.pagable_world.specs.declared.calls.Call.TheVariants as calls
+use Rattle.pagable_world.specs.declared.calls.Reply.TheVariants as replies
+use Rattle.pagable_world.specs.declared.events.LoadAnswer.{LoadAnswer}
+use Rattle.pagable_world.specs.declared.events.LoadAnswer.TheVariants as ends
+use Rattle.pagable_world.specs.declared.events.LoadReply.{LoadReply}
+use Rattle.pagable_world.specs.declared.events.Event.{Event}
+use Rattle.pagable_world.specs.declared.events.Event.TheVariants as events
+use Rattle.pagable_world.specs.declared.events.EventReply.{EventReply}
+use Rattle.pagable_world.specs.declared.events.EventReply.TheVariants as answers
+use Rattle.pagable_world.specs.Plain.{Error, ArcRef, HandleNumber, LoadNumber, NodeNumber, Tree, Among, if_there, is_in, times, updated}
+use Rattle.pagable_world.specs.Kinds.{any_mode, is_owner, held, find_row}
+use Rattle.pagable_world.specs.World.{Core, OpenLoad, of_cell, of_key, Frame, Reading, Seen, IsLawful, row_at}
+use Rattle.pagable_world.specs.Refusals.{IsReference, refused_if, references_fault, handle_fault}
+use Rattle.pagable_world.specs.LoadCalls.{BeginCall, BeginKeyCall}
+use Rattle.pagable_world.specs.Loads.{Does, IsDecoded, gone_on}
+use Rattle.pagable_world.specs.Workers.{fresh}
+use Rattle.pagable_world.specs.Events.{ReadingsAre, reading_at, reading_after, LoadSteps, Stays, Happens}
+use Rattle.pagable_world.specs.Pager.{MachineState, world_of, IsMachineWhole, of_caller, FrameFits, FramesFit}
+use Rattle.pagable_world.specs.Runs.{ReadsItsTypes, Moment, AreMoments, TreesAlong}
+use Rattle.pagable_world.specs.OneWorker.{Turn, of_load, of_worker, of_nobody, turn_of, StandTogether, IsOfChance, IsLoadOfPagedOut, LoadIsSound}
+use Rattle.pagable_laws.specs.LoadLaws.{IsBeginOf, HasBegun, SoundLaw}
+use Rattle.pagable_laws.specs.ReadRuns.{FramesHeld}
+use Rattle.pagable_laws.proofs.Trees.{same_some}
+use Rattle.pagable_laws.proofs.Sums.{self-number, same-number}
+use Rattle.pagable_laws.proofs.Goes.{at-updated}
+use Rattle.pagable_laws.proofs.Coming.{event-turns, updated-at}
+use Rattle.pagable_laws.proofs.Chains.{IsGoingOn, idle-goes, goes}
+use Rattle.pagable_laws.proofs.Taking.{row-held}
+use Rattle.pagable_laws.proofs.Fitting.{first-fits}
+use Rattle.pagable_laws.proofs.Decoding.{decodes}
+use Rattle.pagable_laws.proofs.Outlasting.{stands-whole, stands-alike}
+use Rattle.pagable_laws.proofs.ReadingSteps.{caller-free, reading-feels}
+use Rattle.pagable_laws.proofs.ReadingStepsMachine.{reading-was, reading-stands}
+use Rattle.pagable_laws.proofs.ReadingStepsGive.{got-typed}
+use Rattle.pagable_laws.proofs.HeightSteps.{HeightsIn, heights-at-first, heights-on}
+use Rattle.pagable_laws.proofs.Sound.{by-chance, by-references, by-handle}
+use Rattle.pagable_laws.proofs.Known.{IsForm}
+use Rattle.pagable_laws.proofs.Soundly.{load-cause}
+use Rattle.pagable_laws.proofs.Apart.{fine, reads-once}
+use Rattle.pagable_laws.proofs.LoadsLive.{times_got, LoadReady, once-none, apart-once, got-cons, with-one}
+use Rattle.pagable_laws.proofs.LoadsReady.{goes-ready}
+
+-- ---- whose turn it is
+
+is_turn : ℕ → Turn → Bool
+is_turn n (of_load k) = k == n
+is_turn n t = false
+
+turn-is : (n : ℕ) (t : Turn) → is_turn n t ≡ true → t ≡ of_load n
+unfolding is_turn
+turn-is n (of_load k) is = ap of_load (same-number k n is)
+turn-is n (of_worker k) is = absurd (cc)
+turn-is n of_nobody is = absurd (cc)
+
+turn-isnt : (n : ℕ) (t : Turn) → is_turn n t ≡ false → t ≡ of_load n → ⊥
+unfolding is_turn
+turn-isnt n t isnt is = let e : is_turn n t ≡ true = ap (is_turn n) is ∙ self-number n in cc
+
+number-or : (a n : ℕ) → (a ≡ n) ⊎ (a ≡ n → ⊥)
+number-or a n = at (a == n) refl
+  where
+    at : (b : Bool) → (a == n) ≡ b → (a ≡ n) ⊎ (a ≡ n → ⊥)
+    at true e = inl (same-number a n e)
+    at false e = inr (λ is. let f : (a == n) ≡ true = ap (λ x. x == n) is ∙ self-number n in cc)
+
+module _ {N B W : Type 0} where
+  -- a load's turn is its begin, or a step
+  pub turn-cases : (n : ℕ) (event : Event N B W) (reply : EventReply N B W) → turn_of event reply ≡ of_load n → IsBeginOf n event reply ⊎ ((l : LoadNumber) × (l.0 ≡ n) × (event ≡ events.LoadStep l))
+  turn-cases n (events.LoadStep l) reply is = inr (l, cc, refl)
+  turn-cases n (events.LoadStart h) (answers.Started (Ok (beginnings.Load l key))) is = inl (cc)
+  turn-cases n (events.Call (calls.LoadBegin h)) (answers.CallReply (replies.Begun (Ok (beginnings.Load l key)))) is = inl (cc)
+  turn-cases n (events.LoadKey k t) (answers.Started (Ok (beginnings.Load l key))) is = inl (cc)
+  turn-cases n (events.WorkerItem t item) (answers.WorkerMade (Ok v)) is = absurd (cc)
+  turn-cases n (events.WorkerListed t i) (answers.WorkerMade (Ok v)) is = absurd (cc)
+  turn-cases n event reply is = absurd (cc)
+
+  begin-turn : (n : ℕ) (event : Event N B W) (reply : EventReply N B W) → IsBeginOf n event reply → turn_of event reply ≡ of_load n
+  begin-turn n (events.LoadStart h) (answers.Started (Ok (beginnings.Load l key))) is = ap of_load is
+  begin-turn n (events.Call (calls.LoadBegin h)) (answers.CallReply (replies.Begun (Ok (beginnings.Load l key)))) is = ap of_load is
+  begin-turn n (events.LoadKey k t) (answers.Started (Ok (beginnings.Load l key))) is = ap of_load is
+  begin-turn n event reply is = absurd is
+
+  begin-or : (n : ℕ) (event : Event N B W) (reply : EventReply N B W) → IsBeginOf n event reply ⊎ (IsBeginOf n event reply → ⊥)
+  begin-or n (events.LoadStart h) (answers.Started (Ok (beginnings.Load l key))) = number-or l.0 n
+  begin-or n (events.Call (calls.LoadBegin h)) (answers.CallReply (replies.Begun (Ok (beginnings.Load l key)))) = number-or l.0 n
+  begin-or n (events.LoadKey k t) (answers.Started (Ok (beginnings.Load l key))) = number-or l.0 n
+  begin-or n event reply = inr (λ b. b)
+
+-- ---- ready
+
+-- the load, if it is open and read, is ready
+abbrev Ready : {N E : Type 0} → MachineState N E → LoadNumber → Type 0
+Ready s l = (reading : Reading) (load : OpenLoad) → reading_at (world_of s) l ≡ Some reading → s.pager.core.loads l.0 ≡ Some load → LoadReady s.pager.core l load reading.frames
+
+same-load : (a b : LoadNumber) → a.0 ≡ b.0 → a ≡ b
+same-load a b is = ap (λ n. record { 0 = n }) is
+
+module _ {N B W E : Type 0} (m : Seen N B W) (s s' : MachineState N E) (whole : IsMachineWhole m.values s) (whole' : IsMachineWhole m.values s') where
+  abbrev w : Core
+  w = s.pager.core
+
+  abbrev w' : Core
+  w' = s'.pager.core
+
+  -- a load of a number that wasn't given yet isn't read
+  unread : (l : LoadNumber) (reading : Reading) → w.last.load < l.0 → s.work.readings l.0 ≡ Some reading → ⊥
+  unread l reading above is =
+      let r = whole.readings l.0 reading is in
+      let few = (whole.pager.whole.loads.numbered l.0 (ap is_some r.open_load)).1 in
+      omega (arith, above, few)
+
+  nothing-ready : (l : LoadNumber) (load : OpenLoad) (frames : List Frame) → frames ≡ []
+      → ((node : NodeNumber) (t : ℕ) (h : HandleNumber) → load.root ≡ of_cell node t h → (row : HandleRow) × (row_at w' h ≡ Some row) × (row.owner ≡ owners.Caller)) → LoadReady w' l load frames
+  nothing-ready l load frames none begun =
+      record { begun = begun; live = λ frame r among got. absurd (let there = subst (λ fs. Among fs frame) none among in let e = there.1 in cc); once = once-none frames none }
+
+  -- what has just begun has read nothing
+  begun-empty : (l : LoadNumber) (reading : Reading) (readings : ℕ → Option Reading) → ReadingsAre readings (world_of s') → ((r : Reading) → readings l.0 ≡ Some r → r.frames ≡ [])
+      → reading_at (world_of s') l ≡ Some reading → reading.frames ≡ []
+  begun-empty l reading readings are none at = elim (reading-stands (world_of s') whole'.pager.whole l reading at) [
+    | inl there ↦ none reading (reading-was readings (world_of s') are l.0 reading there).0
+    | inr begun ↦ begun.0
+  ]
+
+  by-call : (h : HandleNumber) (k l : LoadNumber) (key : ℕ) → BeginCall w owners.Caller h (Ok (beginnings.Load k key)) w' → ReadingsAre s.work.readings (world_of s') → k.0 ≡ l.0 → Ready s' l
+  by-call h k l key b are same = λ reading load at open_load.
+      let g = b.begins in
+      let row : HandleRow = g.0 in
+      let next = g.2.2.above in
+      let a = g.2.4.2 in
+      let there : w'.loads l.0 ≡ Some (record { owner = owners.Caller; key = key; root = of_cell row.node g.2.4.0 h }) =
+      ap w'.loads (sym same ∙ next) ∙ a.loads (w.last.load + 1) ∙ updated-at (w.last.load + 1) _ w.loads in
+      let is : record { owner = owners.Caller; key = key; root = of_cell row.node g.2.4.0 h } ≡ load = same_some _ _ (sym there ∙ open_load) in
+      let st = stands-alike a (with-one w row.node modes.LooseUnpinned (owners.Load k) (stands-whole whole.pager.whole.handles h.0 row g.1.live)) in
+      nothing-ready l load reading.frames (begun-empty l reading s.work.readings are (λ r e. absurd (unread l r (omega (arith, same, next)) e)) at)
+      (λ node t q root.
+      let e : of_cell row.node g.2.4.0 h ≡ of_cell node t q = ap (λ (x : OpenLoad). x.root) is ∙ root in
+      let hs : h ≡ q = cc in
+      (row, subst (λ (x : HandleNumber). row_at w' x ≡ Some row) hs st.live, g.1.own))
+
+  by-key : (k l : LoadNumber) (key t : ℕ) (b : BeginKeyCall w owners.Caller key (Ok (beginnings.Load k key)) w') → ReadingsAre (updated k.0 (Some (fresh k t)) s.work.readings) (world_of s')
+      → k.0 ≡ l.0 → Ready s' l
+  by-key k l key t b are same = λ reading load at open_load.
+      let g = b.begins in
+      let next = g.1.above in
+      let there : w'.loads l.0 ≡ Some (record { owner = owners.Caller; key = key; root = of_key }) =
+      ap w'.loads (sym same ∙ next) ∙ g.2.loads (w.last.load + 1) ∙ updated-at (w.last.load + 1) _ w.loads in
+      let is : record { owner = owners.Caller; key = key; root = of_key } ≡ load = same_some _ _ (sym there ∙ open_load) in
+      nothing-ready l load reading.frames
+      (begun-empty l reading (updated k.0 (Some (fresh k t)) s.work.readings) are (λ r e. elim (at-updated k.0 (Some (fresh k t)) s.work.readings l.0 r e) [
+        | inl (here, f) ↦ ap (λ (x : Reading). x.frames) (sym (same_some _ _ f))
+        | inr old ↦ absurd (unread l r (omega (arith, same, next)) old)
+      ]) at)
+      (λ node q h root. let e : of_key ≡ of_cell node q h = ap (λ (x : OpenLoad). x.root) is ∙ root in absurd (cc))
+
+  begin-ready : (l : LoadNumber) (event : Event N B W) (reply : EventReply N B W) → IsBeginOf l.0 event reply → Happens m (world_of s) event reply (world_of s') → Ready s' l
+  begin-ready l (events.LoadStart h) (answers.Started (Ok (beginnings.Load k key))) is x = by-call h k l key x.step x.readings is
+  begin-ready l (events.Call (calls.LoadBegin h)) (answers.CallReply (replies.Begun (Ok (beginnings.Load k key)))) is x = by-call h k l key x.step.does x.readings is
+  begin-ready l (events.LoadKey q t) (answers.Started (Ok (beginnings.Load k key))) is x =
+      let same : key ≡ q = x.step.begins.0 in
+      by-key k l q t (subst (λ y. BeginKeyCall w owners.Caller q (Ok (beginnings.Load k y)) w') same x.step) x.begun is
+  begin-ready l event reply is x = absurd is
+
+  -- ---- steps
+
+  -- a step that ends closes the load
+  closes : (reading : Reading) (end : LoadAnswer N) (frames : List Frame) → Does m.values w owners.Caller reading (Some end) frames w' → w'.loads reading.load.0 ≡ None
+  closes reading (ends.Pinned k) frames does = elim does.0.ended.installs.3.falls [
+    | inl (away, f) ↦ f.falls.leaves.loads reading.load.0 ∙ updated-at reading.load.0 None w.loads
+    | inr (here, f) ↦ f.falls.leaves.loads reading.load.0 ∙ updated-at reading.load.0 None w.loads
+  ]
+  closes reading (ends.Read x) frames does = does.0.handed.hands.1.falls.leaves.loads reading.load.0 ∙ updated-at reading.load.0 None w.loads
+  closes reading (ends.Refused e) frames does = elim does.0 [
+    | inl gives ↦ gives.closes.leaves.loads reading.load.0 ∙ updated-at reading.load.0 None gives.mid.loads
+    | inr ended ↦ ended.ended.refused.closes.leaves.loads reading.load.0 ∙ updated-at reading.load.0 None w.loads
+  ]
+
+-- a load's own step, where the chain goes on
+module _ {N B W E : Type 0} (m : Seen N B W) (lawful : IsLawful m.values) (readable : ReadsItsTypes m.values.types) (s s' : MachineState N E) (trees : ℕ → Tree)
+    (on : IsGoingOn m.values s trees) (whole' : IsMachineWhole m.values s') where
+  abbrev core : Core
+  core = s.pager.core
+
+  -- what a load has read, where it is one of the machine's or has just begun
+  record IsAt (l : LoadNumber) (reading : Reading) (load : OpenLoad) : Type 0 where
+    number : reading.load ≡ l
+    given : l.0 ≤ core.last.load
+    fits : FramesFit m.values.types core.stored trees load.key reading.node_type reading.frames
+    got : FramesHeld core reading.load reading.frames
+
+  is-at : (l : LoadNumber) (reading : Reading) (load : OpenLoad) → reading_at (world_of s) l ≡ Some reading → core.loads l.0 ≡ Some load → IsAt l reading load
+  unfolding FramesFit
+  is-at l reading load at open_load = elim (reading-stands (world_of s) on.whole.pager.whole l reading at) [
+    | inl there ↦
+        let a = on.whole.readings l.0 reading there in
+        let is = of_caller l.0 there in
+        record {
+          number = same-load reading.load l a.number;
+          given = (on.whole.pager.whole.loads.numbered l.0 (ap is_some open_load)).1;
+          fits = on.stands.readings reading is load (ap core.loads a.number ∙ open_load);
+          got = on.reads reading is;
+        }
+    | inr begun ↦ record {
+      number = begun.2;
+      given = begun.3;
+      fits = subst (λ fs. FramesFit m.values.types core.stored trees load.key reading.node_type fs) (sym begun.0) tt;
+      got = λ frame r among got. absurd (let there = subst (λ fs. Among fs frame) begun.0 among in let e = there.1 in cc);
+    }
+  ]
+
+  -- the load was open, and is the same
+  was-open : (l : LoadNumber) (reply : LoadReply N) → LoadSteps m.values (world_of s) l reply (world_of s') → (load : OpenLoad) → s'.pager.core.loads l.0 ≡ Some load → core.loads l.0 ≡ Some load
+  was-open l reply x load open_load =
+      let f = reading-feels m core owners.Caller caller-free s'.pager.core x.reading reply.ended x.frames x.does in
+      let few : l.0 ≤ core.last.load = elim (reading-stands (world_of s) on.whole.pager.whole l x.reading x.at) [
+        | inl there ↦ let a = on.whole.readings l.0 x.reading there in (on.whole.pager.whole.loads.numbered l.0 (ap is_some a.open_load)).1
+        | inr begun ↦ begun.3
+      ] in
+      elim (f.goes.loads l.0 load open_load) [ inl was ↦ was | inr (above, begins) ↦ absurd (omega (arith, few, above)) ]
+
+  step-ready : (l : LoadNumber) (reply : LoadReply N) → LoadSteps m.values (world_of s) l reply (world_of s') → Ready s l → Ready s' l
+  step-ready l reply x ready reading load at open_load = by reply.ended refl
+    where
+      was : core.loads l.0 ≡ Some load
+      was = was-open l reply x load open_load
+
+      a : IsAt l x.reading load
+      a = is-at l x.reading load x.at was
+
+      before : LoadReady core x.reading.load load x.reading.frames
+      before = subst (λ k. LoadReady core k load x.reading.frames) (sym a.number) (ready x.reading load x.at was)
+
+      by : (answer : Option (LoadAnswer N)) → reply.ended ≡ answer → LoadReady s'.pager.core l load reading.frames
+      by (Some end) e =
+          let shut = closes m s s' on.whole whole' x.reading end x.frames (subst (λ o. Does m.values core owners.Caller x.reading o x.frames s'.pager.core) e x.does.does) in
+          let f : s'.pager.core.loads l.0 ≡ None = ap (λ (k : LoadNumber). s'.pager.core.loads k.0) (sym a.number) ∙ shut in
+          absurd (cc)
+      by None e =
+          let go = subst (λ o. Does m.values core owners.Caller x.reading o x.frames s'.pager.core) e x.does.does in
+          let after = goes-ready m.values lawful readable core s'.pager.core x.reading load trees load.key x.reading.node_type on.whole.pager.whole.handles before a.got a.fits x.frames go in
+          let now : s'.work.readings l.0 ≡ Some (gone_on x.reading x.frames) =
+          x.readings l.0 ∙ ap (λ (o : Option OpenLoad). if_there (λ (z : OpenLoad). updated l.0 (reading_after reply.ended x.reading x.frames) s.work.readings l.0) None o) open_load
+          ∙ updated-at l.0 (reading_after reply.ended x.reading x.frames) s.work.readings ∙ ap (λ o. reading_after o x.reading x.frames) e in
+          let same : Some (gone_on x.reading x.frames) ≡ Some reading = rw now at at in
+          let frames : x.frames ≡ reading.frames = ap (λ (r : Reading). r.frames) (same_some _ _ same) in
+          subst (λ fs. LoadReady s'.pager.core l load fs) frames (subst (λ k. LoadReady s'.pager.core k load x.frames) a.number after)
+
+  stays-ready : (l : LoadNumber) → Stays (world_of s) (world_of s') → Ready s l → Ready s' l
+  stays-ready l st ready reading load at open_load =
+      let was : core.loads l.0 ≡ Some load = sym (st.core.loads l.0) ∙ open_load in
+      let same : s'.work.readings l.0 ≡ s.work.readings l.0 = st.readings l.0 ∙ ap (λ (o : Option OpenLoad). if_there (λ (z : OpenLoad). s.work.readings l.0) None o) open_load in
+      let here : reading_at (world_of s) l ≡ Some reading = rw (same, st.core.loads l.0) at at in
+      let b = ready reading load here was in
+      record {
+        begun = λ node t h root. let c = b.begun node t h root in (c.0, subst (λ rows. find_row h.0 rows ≡ Some c.0) (sym st.core.rows) c.1, c.2);
+        live = λ frame r among got. let c = b.live frame r among got in (c.0, subst (λ rows. find_row r.handle.0 rows ≡ Some c.0) (sym st.core.rows) c.1, c.2);
+        once = b.once;
+      }
+
+  -- ---- it is sound
+
+  references-fine : (l : LoadNumber) (reading : Reading) (load : OpenLoad) → IsAt l reading load → LoadReady core l load reading.frames → (frame : Frame) (below : List Frame) (x : N)
+      → reading.frames ≡ frame ∷ below
+      → (decoded : IsDecoded m.values frame x) → IsForm m.values frame → references_fault core (owners.Load reading.load) [] (m.values.references x) ≡ None
+  unfolding is_in
+  references-fine l reading load a ready frame below x is decoded form =
+      fine core (owners.Load reading.load) [] (m.values.references x) good-one (λ r among. refl) once
+    where
+      here : FramesFit m.values.types core.stored trees load.key reading.node_type (frame ∷ below)
+      here = subst (λ fs. FramesFit m.values.types core.stored trees load.key reading.node_type fs) is a.fits
+
+      fits : FrameFits m.values.types core.stored trees frame
+      fits = first-fits m.values.types load.key reading.node_type core.stored trees frame below here
+
+      front : Among reading.frames frame
+      front = subst (λ fs. Among fs frame) (sym is) (zero, refl)
+
+      good-one : (r : ArcRef) → Among (m.values.references x) r → IsReference core (owners.Load reading.load) r
+      good-one r among =
+          let got = (decodes lawful readable frame x fits decoded).got r among in
+          let b = ready.live frame r front got in
+          let own : b.0.owner ≡ owners.Load reading.load = b.2 ∙ ap (λ (k : LoadNumber). owners.Load k) (sym a.number) in
+          let stood = (a.got frame r front got).is b.0 b.1 own in
+          let live = subst (λ (n : NodeNumber). 0 < held n.0 core.rows) stood.0 (row-held core r.handle b.0 b.1) in
+          record { row = b.0; live = b.1; at = stood.0; owned = own; fits = stood.1; typed = on.stands.pager.typed r.node.0 live ∙ ap (λ (n : ℕ). Some n) (got-typed frame fits r got) }
+
+      top-once : (q : ℕ) → times (λ (r : ArcRef). r.handle.0 == q) frame.got ≤ 1
+      top-once q =
+          let all = subst (λ fs. (n : ℕ) → times_got n fs ≤ 1) is ready.once q in
+          let c = got-cons q frame below in
+          omega (arith, all, c)
+
+      once : (q : ℕ) → times (λ (r : ArcRef). r.handle.0 == q) (m.values.references x) ≤ 1
+      once q =
+          let named = lawful.refers x decoded.own decoded.means (λ r. r.handle.0 == q) in
+          let few = reads-once m.values.types frame.node_type frame.blob form.refs frame.got form.form form.kinds (apart-once frame.got top-once) decoded.own decoded.read q in
+          omega (arith, named, few)
+
+  callers-handle : (l : LoadNumber) (load : OpenLoad) (frames : List Frame) (node : NodeNumber) (t : ℕ) (h : HandleNumber) (e : Error) → LoadReady core l load frames
+      → load.root ≡ of_cell node t h → handle_fault core owners.Caller h any_mode ≡ Some e → ⊥
+  callers-handle l load frames node t h e ready root fault =
+      let b = ready.begun node t h root in
+      let own : is_owner owners.Caller b.0.owner ≡ true = ap (is_owner owners.Caller) b.2 in
+      let f : handle_fault core owners.Caller h any_mode ≡ None =
+      ap (λ found. if_there (λ (row : HandleRow). if not (is_owner owners.Caller row.owner) then Some errors.NotYours else refused_if (not (any_mode row.mode)) errors.WrongMode)
+          (Some errors.NoSuchHandle) found) b.1 ∙ rw own refl in
+      cc
+
+  sound : (low : HeightsIn (world_of s)) (l : LoadNumber) (reply : LoadReply N) → LoadSteps m.values (world_of s) l reply (world_of s') → Ready s l → (load : OpenLoad) (e : Error)
+      → core.loads l.0 ≡ Some load → IsLoadOfPagedOut s load
+      → reply.ended ≡ Some (ends.Refused e)
+      → IsOfChance e
+  sound low l reply x ready load e open_load paged ended =
+      let r = ready x.reading load x.at open_load in
+      let a = is-at l x.reading load x.at open_load in
+      elim (load-cause m lawful readable s s' trees trees on low l reply x load e open_load paged ended) [
+        | by-chance chance ↦ chance
+        | by-references frame below y frames decoded form fault ↦ absurd (let f = references-fine l x.reading load a r frame below y frames decoded form in cc)
+        | by-handle node t h root fault ↦ absurd (callers-handle l load x.reading.frames node t h e r root fault)
+      ]
+
+  load-step-ready : (l : LoadNumber) (reply : EventReply N B W) → Happens m (world_of s) (events.LoadStep l) reply (world_of s') → Ready s l → Ready s' l
+  load-step-ready l (answers.LoadMoved (Ok reply)) is ready = step-ready l reply is.moves ready
+  load-step-ready l (answers.LoadMoved (Err e)) is ready = stays-ready l is.refused.1 ready
+  load-step-ready l reply is ready = absurd is
+
+  turn-ready : (l : LoadNumber) (event : Event N B W) (reply : EventReply N B W) → Happens m (world_of s) event reply (world_of s') → turn_of event reply ≡ of_load l.0 → Ready s l → Ready s' l
+  turn-ready l event reply is turn ready = elim (turn-cases l.0 event reply turn) [
+    | inl begins ↦ begin-ready m s s' on.whole whole' l event reply begins is
+    | inr (k, same, e) ↦
+        let own : event ≡ events.LoadStep l = e ∙ ap (λ (q : LoadNumber). events.LoadStep q) (same-load k l same) in
+        load-step-ready l reply (subst (λ (x : Event N B W). Happens m (world_of s) x reply (world_of s')) own is) ready
+  ]
+
+-- ---- along a chain
+
+module _ {N B W E : Type 0} (m : Seen N B W) where
+  -- once a load has a turn, all have been its own from the first on
+  abbrev TurnsOn : LoadNumber → List (Moment N E B W) → Type 0
+  TurnsOn l xs =
+      (i j : ℕ) (a b : Moment N E B W) → i < j → slice_get xs i ≡ Some a → slice_get xs j ≡ Some b → turn_of b.event b.reply ≡ of_load l.0 → turn_of a.event a.reply ≡ of_load l.0
+
+  abbrev NoTurns : LoadNumber → List (Moment N E B W) → Type 0
+  NoTurns l xs = (i : ℕ) (a : Moment N E B W) → slice_get xs i ≡ Some a → turn_of a.event a.reply ≡ of_load l.0 → ⊥
+
+  abbrev BegunFirst : LoadNumber → List (Moment N E B W) → Type 0
+  BegunFirst l xs = (k : ℕ) (c : Moment N E B W) → slice_get xs k ≡ Some c → c.event ≡ events.LoadStep l → HasBegun xs l.0 k
+
+  -- a load goes on in one piece, or has no turn any more, or hasn't begun
+  data Stage (s : MachineState N E) (l : LoadNumber) (xs : List (Moment N E B W)) : Type 0 where
+    going : Ready s l → TurnsOn l xs → Stage s l xs
+    off : NoTurns l xs → Stage s l xs
+    ahead : BegunFirst l xs → Stage s l xs
+
+  later-begun : (x : Moment N E B W) (xs : List (Moment N E B W)) (n k : ℕ) → (IsBeginOf n x.event x.reply → ⊥) → HasBegun (x ∷ xs) n (suc k) → HasBegun xs n k
+  later-begun x xs n k isnt h = by h.i h.a h.before h.at h.begins
+    where
+      by : (i : ℕ) (a : Moment N E B W) → i < suc k → slice_get (x ∷ xs) i ≡ Some a → IsBeginOf n a.event a.reply → HasBegun xs n k
+      by zero a before at begins = let same : a ≡ x = cc in absurd (isnt (subst (λ (y : Moment N E B W). IsBeginOf n y.event y.reply) same begins))
+      by (suc i) a before at begins = record { i = i; a = a; before = omega (arith, before); at = at; begins = begins }
+
+  module _ (lawful : IsLawful m.values) (readable : ReadsItsTypes m.values.types) where
+    module _ (s : MachineState N E) (trees : ℕ → Tree) (on : IsGoingOn m.values s trees) (x : Moment N E B W) (xs : List (Moment N E B W)) (whole' : IsMachineWhole m.values x.after)
+        (is : Happens m (world_of s) x.event x.reply (world_of x.after))
+        (together : StandTogether (x ∷ xs)) where
+      next-going : (l : LoadNumber) → Ready s l → TurnsOn l (x ∷ xs) → (b : Bool) → is_turn l.0 (turn_of x.event x.reply) ≡ b → Stage x.after l xs
+      next-going l ready turns true e =
+          going (turn-ready m lawful readable s x.after trees on whole' l x.event x.reply is (turn-is l.0 (turn_of x.event x.reply) e) ready)
+          (λ i j a b lt at there. turns (suc i) (suc j) a b (omega (arith, lt)) at there)
+      next-going l ready turns false e = off (λ i a at turn. turn-isnt l.0 (turn_of x.event x.reply) e (turns 0 (suc i) x a (omega arith) refl at turn))
+
+      next-ahead : (l : LoadNumber) → BegunFirst l (x ∷ xs) → IsBeginOf l.0 x.event x.reply ⊎ (IsBeginOf l.0 x.event x.reply → ⊥) → Stage x.after l xs
+      next-ahead l first (inl begins) =
+          let turn = begin-turn l.0 x.event x.reply begins in
+          going (begin-ready m s x.after on.whole whole' l x.event x.reply begins is)
+          (λ i j a b lt at there own. together 0 (suc i) (suc j) x a b (omega arith) (omega (arith, lt)) refl at there (λ nobody. let e : of_load l.0 ≡ of_nobody = sym turn ∙ nobody in cc)
+              (own ∙ sym turn) ∙ turn)
+      next-ahead l first (inr isnt) = ahead (λ k c at step. later-begun x xs l.0 k isnt (first (suc k) c at step))
+
+      next-stage : (l : LoadNumber) → Stage s l (x ∷ xs) → Stage x.after l xs
+      next-stage l (going ready turns) = next-going l ready turns (is_turn l.0 (turn_of x.event x.reply)) refl
+      next-stage l (off none) = off (λ i a at turn. none (suc i) a at turn)
+      next-stage l (ahead first) = next-ahead l first (begin-or l.0 x.event x.reply)
+
+      load-sound : (low : HeightsIn (world_of s)) → ((l : LoadNumber) → Stage s l (x ∷ xs)) → (trees' : ℕ → Tree) (event : Event N B W) (reply : EventReply N B W) → x.event ≡ event
+          → Happens m (world_of s) event reply (world_of x.after) → LoadIsSound s trees event reply x.after trees'
+      load-sound low stage trees' (events.LoadStep l) (answers.LoadMoved (Ok reply)) same h = λ load e open_load paged ended. by load e open_load paged ended (stage l)
+        where
+          by : (load : OpenLoad) (e : Error) → s.pager.core.loads l.0 ≡ Some load → IsLoadOfPagedOut s load → reply.ended ≡ Some (ends.Refused e) → Stage s l (x ∷ xs) → IsOfChance e
+          by load e open_load paged ended (going ready turns) = sound m lawful readable s x.after trees on whole' low l reply h.moves ready load e open_load paged ended
+          by load e open_load paged ended (off none) = absurd (none 0 x refl (ap (λ (v : Event N B W). turn_of v x.reply) same))
+          by load e open_load paged ended (ahead first) = absurd (let b = first 0 x refl same in let lt = b.before in omega (arith, lt))
+      load-sound low stage trees' (events.LoadStep l) (answers.LoadMoved (Err e)) same h = tt
+      load-sound low stage trees' (events.LoadStep l) reply same h = absurd h
+      load-sound low stage trees' (events.Call call) reply same h = tt
+      load-sound low stage trees' (events.LoadStart k) reply same h = tt
+      load-sound low stage trees' (events.LoadKey key t) reply same h = tt
+      load-sound low stage trees' (events.WorkerStep n) reply same h = tt
+      load-sound low stage trees' events.TableNew reply same h = tt
+      load-sound low stage trees' (events.WorkerItem t item) reply same h = tt
+      load-sound low stage trees' (events.WorkerListed t i) reply same h = tt
+
+    sound-along : (s : MachineState N E) (trees : ℕ → Tree) (xs : List (Moment N E B W)) → IsGoingOn m.values s trees → HeightsIn (world_of s) → StandTogether xs
+        → ((l : LoadNumber) → Stage s l xs) → AreMoments m s xs
+        → TreesAlong m LoadIsSound s trees xs
+    sound-along s trees [] on low together stage chain = tt
+    sound-along s trees (x ∷ xs) on low together stage (does, more) = λ premised.
+        let g = goes m lawful readable s trees x on does premised in
+        let turns = event-turns m (world_of s) (world_of x.after) on.work (λ v w there. (on.whole.walkings v w there).table.1) x.event x.reply does.step.happens in
+        let a = g.after in (
+          g.trees',
+          record { keeps = a.keeps; stands = a.stands; so = load-sound s trees on x xs does.whole does.step.happens together low stage g.trees' x.event x.reply refl does.step.happens },
+          sound-along x.after g.trees' xs g.on (heights-on m s x.after trees on.fits low on.work x.event x.reply turns)
+              (λ i j k p q r lt lt2 at there here. together (suc i) (suc j) (suc k) p q r (omega (arith, lt)) (omega (arith, lt2)) at there here)
+              (λ l. next-stage s trees on x xs does.whole does.step.happens together l (stage l)) more,
+        )
+
+pub sound_law : {N B W : Type 0} (E : Type 0) (m : Seen N B W) → SoundLaw E m
+sound_law E m start moments trees whole idle chain together begun stands lawful readable settled =
+    sound-along m lawful readable start trees moments (idle-goes m lawful readable start trees whole idle settled stands) (heights-at-first start idle) together
+    (λ l. ahead (λ k c at step. begun k c l at step)) chain

@@ -1,0 +1,344 @@
+-- Why a load is refused whose key a page-out has published: by chance, or by a handle.
+use Rattle.std.proofs.Common.{◌≡◌, ℕ, ◌≤◌, ◌==◌, Bool, true, false, List, [], ◌∷◌, length, ◌⊎◌, inl, inr, Option, Some, None, Err, refl, sym, ap, subst, ◌∙◌, if◌then◌else◌, arith}
+use Rattle.std.specs.Prelude.{Result, not, nat_lt, nat_le}
+use Rattle.pagable_model.specs.Refusals.{is_own_reading}
+use Rattle.pagable_model.specs.Stored.{RefusesFetch}
+use Rattle.pagable_model.specs.declared.error.Error.TheVariants as errors
+use Rattle.pagable_world.specs.declared.calls.Want.{Want}
+use Rattle.pagable_world.specs.declared.calls.Want.TheVariants as wants
+use Rattle.pagable_world.specs.declared.handles.Owner.TheVariants as owners
+use Rattle.pagable_world.specs.Plain.{Error, Kind, HandleNumber, LoadNumber, NodeNumber, Blob, Tree, Types, type_of, is_eager, is_loose_kind, longest_path, if_there}
+use Rattle.pagable_world.specs.Kinds.{any_mode}
+use Rattle.pagable_world.specs.World.{Core, OpenLoad, of_cell, Frame, Reading, Seen, Values, IsLawful}
+use Rattle.pagable_world.specs.Refusals.{rank, earlier, where_so, refused_if, spent, handle_fault, references_fault, load_fault, AreHandlesFull, Refused}
+use Rattle.pagable_world.specs.Calls.{FetchCall, birth_fault, is_usable}
+use Rattle.pagable_world.specs.LoadCalls.{AskCall, LazyCall, ask_fault, is_known, node_fault, root_fault, is_owned_in}
+use Rattle.pagable_world.specs.Loads.{Next, reads, asks, is_faulty, need_of, needs_nested, needs_lazy, to_adopt, need_at, next_in, is_broken, IsDecoded, RefusesBlob, RefusesNested, RefusesNode, RefusesRoot, IsOfKey, EndsClosed, Fails}
+use Rattle.pagable_world.specs.Workers.{fresh}
+use Rattle.pagable_world.specs.Events.{reading_at, reading_of_load, reading_of_root}
+use Rattle.pagable_world.specs.Pager.{MachineState, world_of, IsMachineWhole, StandsFor, FitsRoot, FramesFit, of_caller}
+use Rattle.pagable_world.specs.Runs.{ReadsItsTypes}
+use Rattle.pagable_world.specs.OneWorker.{IsOfChance, IsPagedOutAs, IsLoadOfPagedOut}
+use Rattle.pagable_laws.specs.PageOutLaws.{WorkFits}
+use Rattle.pagable_laws.proofs.Trees.{same_some}
+use Rattle.pagable_laws.proofs.Sums.{self-number}
+use Rattle.pagable_laws.proofs.Taking.{adopted-over}
+use Rattle.pagable_laws.proofs.Fitting.{first-typed}
+use Rattle.pagable_laws.proofs.HeightSteps.{HeightsIn}
+use Rattle.pagable_laws.proofs.Asking.{FramesAsked}
+use Rattle.pagable_laws.proofs.Known.{IsForm, root-there, needed, not-broken, formed}
+use Rattle.pagable_laws.proofs.KnownSteps.{ReadingsAsked, eager-nested}
+
+-- ---- refusals
+
+pub either : (a b : Option Error) (e : Error) → earlier a b ≡ Some e → (a ≡ Some e) ⊎ (b ≡ Some e)
+either None b e is = inr is
+either (Some x) None e is = inl is
+either (Some x) (Some y) e is = by (nat_lt (rank y) (rank x)) is
+  where
+    by : (b : Bool) → (if b then Some y else Some x) ≡ Some e → (Some x ≡ Some e) ⊎ (Some y ≡ Some e)
+    by true is = inr is
+    by false is = inl is
+
+chance-if : (b : Bool) (e : Error) → refused_if b errors.NumbersSpent ≡ Some e → IsOfChance e
+chance-if true e is = let same : errors.NumbersSpent ≡ e = cc in subst IsOfChance same tt
+chance-if false e is = absurd (cc)
+
+where-chance : (b : Bool) (n : ℕ) (e : Error) → where_so b (spent n) ≡ Some e → IsOfChance e
+where-chance true n e is = chance-if (nat_le _ n) e is
+where-chance false n e is = absurd (cc)
+
+birth-chance : (w : Core) (e : Error) → birth_fault w ≡ Some e → IsOfChance e
+birth-chance w e is = elim (either (spent w.last.node) (spent w.last.handle) e is) [ inl a ↦ chance-if _ e a | inr b ↦ chance-if _ e b ]
+
+node-chance : (w : Core) (kind : Kind) (key : ℕ) (e : Error) → node_fault w kind key ≡ Some e → IsOfChance e
+node-chance w kind key e is = by (is_usable w kind key) is
+  where
+    by : (b : Bool) → (if b then spent w.last.handle else birth_fault w) ≡ Some e → IsOfChance e
+    by true is = chance-if _ e is
+    by false is = birth-chance w e is
+
+never : (b : Bool) (f e : Error) → b ≡ false → refused_if b f ≡ Some e → ⊥
+never true f e is so = cc
+never false f e is so = cc
+
+memory-chance : (e : Error) → e ≡ errors.OutOfMemory → IsOfChance e
+memory-chance e is = subst IsOfChance (sym is) tt
+
+reading-chance : (e : Error) → is_own_reading e ≡ true → IsOfChance e
+reading-chance errors.RegexRefused is = tt
+reading-chance errors.OutOfMemory is = tt
+reading-chance (errors.Custom text) is = tt
+reading-chance e is = absurd (cc)
+
+fetch-chance : (key : ℕ) (found : Option Blob) (blob : Blob) (before after : ℕ) (e : Error) → found ≡ Some blob → RefusesFetch key found before after e → IsOfChance e
+fetch-chance key found blob before after (errors.NoData k) is why = absurd (let a = why.1 in cc)
+fetch-chance key found blob before after errors.OutOfMemory is why = tt
+fetch-chance key found blob before after (errors.Storage code) is why = tt
+fetch-chance key found blob before after e is why = absurd why
+
+loose-not : (kind : ℕ) → is_eager kind ≡ true → is_loose_kind kind ≡ false
+loose-not kind is = by (is_loose_kind kind) is
+  where
+    by : (b : Bool) → not b ≡ true → b ≡ false
+    by true is = absurd (cc)
+    by false is = refl
+
+-- what a load gets unread it asks for through a loose reference
+lazy-loose : (below : List Frame) (next : Next) (kind : Kind) (key : ℕ) → need_at below next ≡ needs_lazy kind key → not (is_loose_kind kind.0) ≡ false
+lazy-loose below (asks k q) kind key is = by (is_eager k.0) refl is
+  where
+    by : (b : Bool) → is_eager k.0 ≡ b → (if b then needs_nested k q else needs_lazy k q) ≡ needs_lazy kind key → is_eager kind.0 ≡ false
+    by false e is = let same : k ≡ kind = cc in subst (λ (x : Kind). is_eager x.0 ≡ false) same e
+    by true e is = absurd (cc)
+lazy-loose [] (reads own) kind key is = absurd (cc)
+lazy-loose (x ∷ xs) (reads own) kind key is = absurd (cc)
+lazy-loose below (is_faulty e) kind key is = absurd (cc)
+
+second-eager : (types : Types) (top under : Frame) (rest : List Frame) → FramesAsked types (top ∷ under ∷ rest) → is_eager top.kind.0 ≡ true
+unfolding FramesAsked
+second-eager types top under rest (a, eager, next, more) = eager
+
+last-type : (types : Types) (stored : ℕ → Option Blob) (trees : ℕ → Tree) (k t : ℕ) (root : Frame) → FramesFit types stored trees k t (root ∷ []) → root.node_type ≡ t
+unfolding FramesFit
+last-type types stored trees k t root (fits, key, typed) = typed
+
+same-type : (a b : ℕ) → a ≡ b → not (a == b) ≡ false
+same-type a b is = ap (λ x. not (x == b)) is ∙ ap not (self-number b)
+
+-- ---- the load
+
+-- Why it is refused: by chance, by a reference of what was read, or by the handle that began it.
+pub data Cause {N : Type 0} (v : Values N) (w : Core) (load : OpenLoad) (reading : Reading) (e : Error) : Type 0 where
+  by-chance : IsOfChance e → Cause v w load reading e
+  by-references : (frame : Frame) (below : List Frame) (x : N) → reading.frames ≡ frame ∷ below → (decoded : IsDecoded v frame x) → IsForm v frame
+      → references_fault w (owners.Load reading.load) [] (v.references x) ≡ Some e → Cause v w load reading e
+  by-handle : (node : NodeNumber) (t : ℕ) (h : HandleNumber) → load.root ≡ of_cell node t h → handle_fault w owners.Caller h any_mode ≡ Some e → Cause v w load reading e
+
+module _ {N B W E : Type 0} (m : Seen N B W) (s : MachineState N E) (trees : ℕ → Tree) (whole : IsMachineWhole m.values s) (stands : StandsFor m.values s trees) (lawful : IsLawful m.values)
+    (readable : ReadsItsTypes m.values.types)
+    (fit : WorkFits m.values s trees) (low : HeightsIn (world_of s)) (got : ReadingsAsked m.values.types (world_of s)) where
+  abbrev v : Values N
+  v = m.values
+
+  abbrev w : Core
+  w = s.pager.core
+
+  module _ (l : LoadNumber) (reading : Reading) (load : OpenLoad) (at : reading_at (world_of s) l ≡ Some reading) (may : load_fault w owners.Caller l ≡ None)
+      (open_load : w.loads l.0 ≡ Some load) (paged : IsLoadOfPagedOut s load) where
+    abbrev node : NodeNumber
+    node = paged.0
+
+    abbrev t : ℕ
+    t = paged.1
+
+    abbrev out : IsPagedOutAs s node.0 load.key
+    out = paged.4
+
+    -- what is read of it
+    record Read : Type 0 where
+      number : reading.load ≡ l
+      fits : FramesFit v.types w.stored trees load.key reading.node_type reading.frames
+      asked : FramesAsked v.types reading.frames
+      of_type : reading.node_type ≡ t
+
+    by-fresh : (found : Option OpenLoad) → found ≡ Some load → reading_of_load l found ≡ Some reading → fresh l t ≡ reading
+    by-fresh found there is =
+        let r : reading_of_root l load.root ≡ Some reading = subst (λ o. reading_of_load l o ≡ Some reading) there is in
+        same_some _ _ (sym (ap (reading_of_root l) paged.3) ∙ r)
+
+    is-read : Read
+    unfolding FramesFit FramesAsked
+    is-read = by (s.work.readings l.0) refl at
+      where
+        by : (found : Option Reading) → s.work.readings l.0 ≡ found → reading_at (world_of s) l ≡ Some reading → Read
+        by (Some r) e is =
+            let same : Some r ≡ Some reading = rw e at is in
+            let there = e ∙ same in
+            let a = whole.readings l.0 reading there in
+            let is_of = of_caller l.0 there in
+            let same_load = same_some _ _ (sym a.open_load ∙ open_load) in
+            record {
+              number = ap (λ n. record { 0 = n }) a.number;
+              fits = stands.readings reading is_of load (ap w.loads a.number ∙ open_load);
+              asked = got reading is_of;
+              of_type = subst (λ root. FitsRoot root reading) (ap (λ (x : OpenLoad). x.root) same_load ∙ paged.3) a.typed;
+            }
+        by None e is =
+            let begun : reading_of_load l (w.loads l.0) ≡ Some reading = rw e at is in
+            let same = by-fresh (w.loads l.0) open_load begun in
+            record {
+              number = ap (λ (r : Reading). r.load) (sym same);
+              fits = subst (λ (r : Reading). FramesFit v.types w.stored trees load.key r.node_type r.frames) same tt;
+              asked = subst (λ (r : Reading). FramesAsked v.types r.frames) same tt;
+              of_type = ap (λ (r : Reading). r.node_type) (sym same);
+            }
+
+    -- the tree that it reads
+    typed : (trees out.i.node.0).type ≡ reading.node_type
+    typed =
+        let r = stands.pager.loads l.0 load node t paged.2 open_load paged.3 in
+        ap (λ n. (trees n).type) out.of_node ∙ r.typed ∙ sym is-read.of_type
+
+    found : (blob : Blob) × (w.stored load.key ≡ Some blob)
+    found = root-there v s trees fit low readable out.t load.key reading.node_type out.i out.height out.known typed
+
+    abbrev C : Error → Type 0
+    C e = Cause v w load reading e
+
+    no-load-fault : (e : Error) → load_fault w owners.Caller reading.load ≡ Some e → ⊥
+    no-load-fault e is = let f = ap (load_fault w owners.Caller) is-read.number ∙ may in cc
+
+    not-faulty : (e : Error) → need_of v.types reading.frames ≡ is_broken e → ⊥
+    not-faulty = not-broken v s trees fit low readable out.t load.key reading.node_type out.i out.height out.known typed reading.frames is-read.fits is-read.asked
+
+    need-there : (kind : Kind) (key : ℕ) → (need_of v.types reading.frames ≡ needs_nested kind key) ⊎ (need_of v.types reading.frames ≡ needs_lazy kind key)
+        → (blob : Blob) × (w.stored key ≡ Some blob) × (is_eager kind.0 ≡ true → length reading.frames ≤ longest_path)
+    need-there kind key needs =
+        let n = needed v s trees fit low readable out.t load.key reading.node_type out.i out.height out.known typed reading.frames is-read.fits is-read.asked kind key needs in
+        (n.blob, n.is, n.short)
+
+    -- the front of what is needed
+    front : (frames : List Frame) (kind : Kind) (key : ℕ) → need_of v.types frames ≡ needs_nested kind key → is_eager kind.0 ≡ true
+    front [] kind key is = absurd (cc)
+    front (top ∷ below) kind key is = eager-nested below (next_in v.types top) kind key is
+
+    front-lazy : (frames : List Frame) (kind : Kind) (key : ℕ) → need_of v.types frames ≡ needs_lazy kind key → not (is_loose_kind kind.0) ≡ false
+    front-lazy [] kind key is = absurd (cc)
+    front-lazy (top ∷ below) kind key is = lazy-loose below (next_in v.types top) kind key is
+
+    form-of : (frame : Frame) (below : List Frame) → reading.frames ≡ frame ∷ below → (x : N) → IsDecoded v frame x → IsForm v frame
+    form-of frame below is x decoded =
+        formed v s trees fit low readable out.t load.key reading.node_type out.i out.height out.known typed frame below
+        (subst (λ fs. FramesFit v.types w.stored trees load.key reading.node_type fs) is is-read.fits) (subst (λ fs. FramesAsked v.types fs) is is-read.asked) decoded.own decoded.read
+
+    -- ---- asking
+
+    vain-chance : (want : Want) (key : ℕ) (blob : Blob) (mid : Core) (e : Error) → w.stored key ≡ Some blob → (let r : Result Blob Error = Err e in FetchCall w key r mid) → IsOfChance e
+    vain-chance want key blob mid e is f = fetch-chance key (w.stored key) blob w.failures mid.failures e is f.refused
+
+    ask-chance : (want : Want) (mid : Core) (e : Error)
+        → Refused (ask_fault w owners.Caller reading.load want) (ask_fault w owners.Caller reading.load want) ((is_known w want ≡ true) × AreHandlesFull w) w e mid → IsOfChance e
+    ask-chance want mid e r = elim r.why [
+      | inl is ↦ elim (either (load_fault w owners.Caller reading.load) (where_so (is_known w want) (spent w.last.handle)) e is) [ inl a ↦ absurd (no-load-fault e a) | inr b ↦ where-chance
+          (is_known w want) w.last.handle e b ]
+      | inr memory ↦ memory-chance e memory.0
+    ]
+
+    root-asked : (mid : Core) (e : Error) → AskCall w owners.Caller reading.load wants.Root (Err e) mid → IsOfChance e
+    root-asked mid e c = elim c.refused [
+      | inl r ↦ ask-chance wants.Root mid e r
+      | inr (other, owned, vain) ↦
+          let same : other ≡ load = same_some _ _ (sym owned.stands_open ∙ (ap (λ (x : LoadNumber). w.loads x.0) is-read.number ∙ open_load)) in
+          vain-chance wants.Root other.key found.0 mid e (ap (λ (x : OpenLoad). w.stored x.key) same ∙ found.1) vain
+    ]
+
+    nested-asked : (kind : Kind) (key : ℕ) (blob : Blob) (mid : Core) (e : Error) → w.stored key ≡ Some blob → AskCall w owners.Caller reading.load (wants.Nested kind key) (Err e) mid → IsOfChance e
+    nested-asked kind key blob mid e is c = elim c.refused [
+      | inl r ↦ ask-chance (wants.Nested kind key) mid e r
+      | inr (other, owned, vain) ↦ vain-chance (wants.Nested kind key) key blob mid e is vain.1
+    ]
+
+    -- ---- the causes
+
+    of-blob : (e : Error) → RefusesBlob v reading e → IsOfChance e
+    of-blob e (inl is) = absurd (not-faulty e is)
+    of-blob e (inr (inl (top, below, is, causes))) = reading-chance e (lawful.own_reading top.node_type e causes)
+    of-blob e (inr (inr memory)) = memory-chance e memory
+
+    of-nested : (mid : Core) (e : Error) → RefusesNested v.types w owners.Caller reading e mid → IsOfChance e
+    of-nested mid e (kind, key, needs, inl asked) = let n = need-there kind key (inl needs) in nested-asked kind key n.0 mid e n.1 asked
+    of-nested mid e (kind, key, needs, inr (blob, is, deep, asked)) = absurd (let n = (need-there kind key (inl needs)).2 (front reading.frames kind key needs) in omega arith)
+
+    of-lazy : (mid : Core) (e : Error) (kind : Kind) (key : ℕ) → need_of v.types reading.frames ≡ needs_lazy kind key → LazyCall w owners.Caller reading.load kind key (Err e) mid → IsOfChance e
+    of-lazy mid e kind key needs c = elim c.refused.why [
+      | inr memory ↦ memory-chance e memory.0
+      | inl is ↦ elim (either (load_fault w owners.Caller reading.load) _ e is) [
+        | inl a ↦ absurd (no-load-fault e a)
+        | inr b ↦ elim (either (refused_if (not (is_loose_kind kind.0)) errors.WrongKind) (node_fault w kind key) e b) [
+          | inl a ↦ absurd (never (not (is_loose_kind kind.0)) errors.WrongKind e (front-lazy reading.frames kind key needs) a)
+          | inr b ↦ node-chance w kind key e b
+        ]
+      ]
+    ]
+
+    -- the blob that becomes a node is read through a reference that isn't loose, and is of its kind's type
+    node-right : (top : Frame) (below : List Frame) → reading.frames ≡ top ∷ below → need_of v.types reading.frames ≡ to_adopt → (is_eager top.kind.0 ≡ true) × (top.node_type ≡ type_of top.kind.0)
+    node-right top below is needs = by below (subst (λ fs. FramesFit v.types w.stored trees load.key reading.node_type fs) is is-read.fits) (subst
+        (λ fs. FramesAsked v.types fs) is is-read.asked) (ap (need_of v.types) (sym is) ∙ needs)
+      where
+        by : (below : List Frame) → FramesFit v.types w.stored trees load.key reading.node_type (top ∷ below) → FramesAsked v.types (top ∷ below) → need_of v.types (top ∷ below) ≡ to_adopt
+            → (is_eager top.kind.0 ≡ true) × (top.node_type ≡ type_of top.kind.0)
+        by [] fits asked adopts = let o = adopted-over [] (next_in v.types top) adopts in absurd (let e = o.2 in cc)
+        by (under ∷ rest) fits asked adopts = (second-eager v.types top under rest asked, first-typed v.types load.key reading.node_type w.stored trees top under rest fits)
+
+    of-node : (mid : Core) (e : Error) → RefusesNode v w owners.Caller reading e mid → C e
+    of-node mid e r =
+        let n = r.reads_node in
+        let right = node-right n.top n.below n.frames n.needs in
+        elim r.adopted.refused.1.why [
+          | inr memory ↦ by-chance (memory-chance e memory.0)
+          | inl is ↦ elim (either (load_fault w owners.Caller reading.load) _ e is) [
+            | inl a ↦ absurd (no-load-fault e a)
+            | inr b ↦ elim (either (refused_if (is_loose_kind n.top.kind.0) errors.WrongMode) _ e b) [
+              | inl a ↦ absurd (never (is_loose_kind n.top.kind.0) errors.WrongMode e (loose-not n.top.kind.0 right.0) a)
+              | inr c ↦ elim (either (refused_if (not (v.node_type r.x == type_of n.top.kind.0)) errors.WrongKind) _ e c) [
+                | inl a ↦ absurd (never (not (v.node_type r.x == type_of n.top.kind.0)) errors.WrongKind e (same-type (v.node_type r.x) (type_of n.top.kind.0) (n.decoded.typed ∙ right.1)) a)
+                | inr d ↦ elim (either (references_fault w (owners.Load reading.load) [] (v.references r.x)) (node_fault w n.top.kind n.top.key) e d) [
+                  | inl a ↦ by-references n.top n.below r.x n.frames n.decoded (form-of n.top n.below n.frames r.x n.decoded) a
+                  | inr f ↦ by-chance (node-chance w n.top.kind n.top.key e f)
+                ]
+              ]
+            ]
+          ]
+        ]
+
+    root-type : (root : Frame) → reading.frames ≡ root ∷ [] → root.node_type ≡ t
+    root-type root is =
+        last-type v.types w.stored trees load.key reading.node_type root (subst (λ fs. FramesFit v.types w.stored trees load.key reading.node_type fs) is is-read.fits) ∙ is-read.of_type
+
+    of-root : (mid : Core) (e : Error) → RefusesRoot v w owners.Caller reading e mid → C e
+    of-root mid e r = elim r.refuses [
+      | inr (is, handed) ↦
+          let same : is.load ≡ load = same_some _ _ (sym is.open_load ∙ (ap (λ (x : LoadNumber). w.loads x.0) is-read.number ∙ open_load)) in
+          absurd (subst IsOfKey (ap (λ (x : OpenLoad). x.root) same ∙ paged.3) is.sort)
+      | inl (is, ended) ↦ elim ended.refused.1.why [
+        | inr memory ↦ by-chance (memory-chance e memory.0)
+        | inl why ↦ elim (either (load_fault w owners.Caller reading.load) _ e why) [
+          | inl a ↦ absurd (no-load-fault e a)
+          | inr b ↦ elim (either (if_there (λ (x : OpenLoad). root_fault w owners.Caller (v.node_type r.x) x.root) None (w.loads reading.load.0)) (references_fault w
+              (owners.Load reading.load) [] (v.references r.x)) e b) [
+            | inl a ↦ by-chance (root-chance r a)
+            | inr f ↦ by-references r.reads_root.root [] r.x r.reads_root.frames r.reads_root.decoded (form-of r.reads_root.root [] r.reads_root.frames r.x r.reads_root.decoded) f
+          ]
+        ]
+      ]
+    ]
+      where
+        root-chance : (r : RefusesRoot v w owners.Caller reading e mid) → if_there (λ (x : OpenLoad). root_fault w owners.Caller (v.node_type r.x) x.root) None (w.loads reading.load.0) ≡ Some e
+            → IsOfChance e
+        root-chance r is =
+            let there : w.loads reading.load.0 ≡ Some load = ap (λ (x : LoadNumber). w.loads x.0) is-read.number ∙ open_load in
+            let at_root : root_fault w owners.Caller (v.node_type r.x) (of_cell node t paged.2) ≡ Some e =
+            ap (root_fault w owners.Caller (v.node_type r.x)) (sym paged.3) ∙ (sym (ap (λ o. if_there (λ (x : OpenLoad). root_fault w owners.Caller (v.node_type r.x) x.root) None o) there) ∙ is) in
+            elim (either (refused_if (not (v.node_type r.x == t)) errors.WrongKind) (where_so (is_owned_in w owners.Caller paged.2.0) (spent w.last.handle)) e at_root) [
+              | inl a ↦ absurd (never (not (v.node_type r.x == t)) errors.WrongKind e (same-type (v.node_type r.x) t (r.reads_root.decoded.typed ∙ root-type r.reads_root.root r.reads_root.frames)) a)
+              | inr b ↦ where-chance (is_owned_in w owners.Caller paged.2.0) w.last.handle e b
+            ]
+
+    of-end : (w' : Core) (e : Error) → EndsClosed v w owners.Caller reading e w' → C e
+    of-end w' e r =
+        let c = r.ended.refused in
+        let same : c.may.load ≡ load = same_some _ _ (sym c.may.owned.stands_open ∙ (ap (λ (x : LoadNumber). w.loads x.0) is-read.number ∙ open_load)) in
+        by-handle c.node (v.node_type r.x) c.h (ap (λ (x : OpenLoad). x.root) (sym same) ∙ c.may.of_node) c.why
+
+    pub cause : (w' : Core) (e : Error) → Fails v w owners.Caller reading e w' → C e
+    cause w' e (inr ended) = of-end w' e ended
+    cause w' e (inl gives) = elim gives.meets [
+      | inl (refuses, a) ↦ by-chance (of-blob e refuses)
+      | inr (inl (first, asked)) ↦ by-chance (root-asked gives.mid e asked)
+      | inr (inr (inl nested)) ↦ by-chance (of-nested gives.mid e nested)
+      | inr (inr (inr (inl (kind, key, needs, asked)))) ↦ by-chance (of-lazy gives.mid e kind key needs asked)
+      | inr (inr (inr (inr (inl node)))) ↦ of-node gives.mid e node
+      | inr (inr (inr (inr (inr root)))) ↦ of-root gives.mid e root
+    ]

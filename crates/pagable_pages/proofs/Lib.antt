@@ -1,0 +1,6 @@
+pub mod Spared
+pub mod Stored
+pub mod Shed
+pub mod Shut
+pub mod Empty
+pub mod Seen

@@ -1,0 +1,51 @@
+-- What a handle lends.
+use Rattle.std.proofs.Common.{◌≡◌, ℕ, ◌<◌, ◌&&◌, Bool, true, false, refl, ap, sym, ◌∙◌, arith, Ok, Err, Some, None, if◌then◌else◌, nat_eq}
+use Rattle.std.specs.Prelude.{Option, Result, is_some, nat_lt}
+use Rattle.std.specs.Option.{option_map}
+use Rattle.std.specs.Arc.{arc_value}
+use Rattle.std.specs.HashMap.{get}
+use Rattle.std.proofs.lemmas.Bool.Decides.{nat_tests}
+use Rattle.pagable_world.specs.declared.handles.HandleRow.{HandleRow}
+use Rattle.pagable_world.specs.Plain.{Error, HandleNumber, NodeNumber}
+use Rattle.pagable_world.specs.Kinds.{is_pinning, held}
+use Rattle.pagable_world.specs.World.{Values, row_at, is_here}
+use Rattle.pagable_world.specs.Calls.{Looks}
+use Rattle.pagable_world.specs.Pager.{PagerState, WellFormed, Lends, ValueCall}
+use Rattle.pagable_laws.proofs.Taking.{row-held, row-pins}
+use Rattle.pagable_steps.proofs.SparedHandles.{pinned-here}
+
+Pinned : {N E : Type 0} → PagerState N E → HandleNumber → Option NodeNumber → Type 0
+Pinned s h found = (row : HandleRow) × (row_at s.core h ≡ Some row) × (found ≡ (if is_pinning row.mode then Some row.node else None))
+
+module _ {N E : Type 0} {v : Values N} (s : PagerState N E) (is : WellFormed v s) (h : HandleNumber) where
+  no-pin : (row : HandleRow) → (b : Bool) → is_pinning row.mode ≡ b → None ≡ (if b then Some row.node else None) → is_pinning row.mode ≡ false
+  no-pin row true e none = absurd (cc)
+  no-pin row false e none = e
+
+  a-pin : (row : HandleRow) (n : NodeNumber) → (b : Bool) → is_pinning row.mode ≡ b → Some n ≡ (if b then Some row.node else None) → (is_pinning row.mode ≡ true) × (Some n ≡ Some row.node)
+  a-pin row n true e some = (e, some)
+  a-pin row n false e some = absurd (cc)
+
+  -- nothing is lent by a handle that pins nothing
+  pub lends-none : Looks s.core h (λ node row. node ≡ (if is_pinning row.mode then Some row.node else None)) (Ok None) → ValueCall s h (Ok None)
+  lends-none l = let row = l.found.0 in record { found = (row, l.found.1, no-pin row (is_pinning row.mode) refl l.found.2); refused = tt }
+
+  node-is : (m n : NodeNumber) → Some m ≡ Some n → m.0 ≡ n.0
+  node-is m n e = ap (λ (o : Option NodeNumber). elim o [ None ↦ 0 | Some k ↦ k.0 ]) e
+
+  -- a handle that pins has its node's value in memory
+  pub there : (n : NodeNumber) → Looks s.core h (λ node row. node ≡ (if is_pinning row.mode then Some row.node else None)) (Ok (Some n)) → is_some (s.values n.0) ≡ true
+  there n l =
+      let row = l.found.0 in
+      let a = a-pin row n (is_pinning row.mode) refl l.found.2 in
+      let some = row-held s.core h row l.found.1 in
+      let live = is.whole.handles.live row.node.0 in
+      let yes : nat_lt 0 (held row.node.0 s.core.rows) ≡ true = grind (arith, nat_tests) in
+      let here = pinned-here s.core row.node.0 (row-pins s.core h row l.found.1 a.0) in
+      ap (λ k. is_some (s.values k)) (node-is n row.node a.1) ∙ is.valued row.node.0 ∙ ap (λ b. b && is_here s.core row.node.0) (live ∙ yes) ∙ here
+
+  pub lends : (n : NodeNumber) (x : N) → s.values n.0 ≡ Some x → Looks s.core h (λ node row. node ≡ (if is_pinning row.mode then Some row.node else None)) (Ok (Some n)) → ValueCall s h (Ok (Some x))
+  lends n x value l =
+      let row = l.found.0 in
+      let a = a-pin row n (is_pinning row.mode) refl l.found.2 in
+      record { found = (row, l.found.1, (a.0, sym (ap s.values (node-is n row.node a.1)) ∙ value)); refused = tt }

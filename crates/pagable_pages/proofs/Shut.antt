@@ -1,0 +1,46 @@
+-- Once the storage is closed nothing comes to the list or the cache.
+use Rattle.std.proofs.Common.{◌≡◌, ℕ, ◌<◌, Bool, true, false, List, [], ◌∷◌, ◌++◌, refl, ap, sym, ◌∙◌, Some, None, inl, inr, arith}
+use Rattle.std.specs.Prelude.{Option, Result, map, filter, not}
+use Rattle.std.proofs.lemmas.Bool.Decides.{nat_tests}
+use Rattle.std.proofs.lemmas.List.Sums.{sum_by-cons}
+use Rattle.pagable_model.specs.declared.numbers.HandleNumber.{HandleNumber}
+use Rattle.pagable_world.specs.declared.handles.HandleRow.{HandleRow}
+use Rattle.pagable_world.specs.declared.handles.Owner.{Owner}
+use Rattle.pagable_world.specs.Plain.{Error, one}
+use Rattle.pagable_world.specs.Kinds.{is_at, held}
+use Rattle.pagable_world.specs.World.{Core, Alike}
+use Rattle.pagable_world.specs.Cascade.{Falls}
+use Rattle.pagable_world.specs.Calls.{ReleaseCall, UnpinCall, SetKeyCall}
+
+-- nothing is listed or known
+abbrev pub IsBare : Core → Type 0
+IsBare w = (w.list ≡ []) × ((kind key : ℕ) → w.cache kind key ≡ None)
+
+none-known : (found : Option ℕ) → ((n : ℕ) → found ≡ Some n → None ≡ Some n) → found ≡ None
+none-known None h = refl
+none-known (Some n) h = let e = h n refl in absurd (cc)
+
+pub bare-alike : {w w' : Core} → Alike w w' → IsBare w → IsBare w'
+bare-alike {w} {w'} a b = (a.list ∙ b.0, λ kind key. none-known (w'.cache kind key) (λ n is. sym (b.1 kind key) ∙ a.cache.only kind key n is))
+
+no-entries : (es : List HandleRow) → ((n : ℕ) → 0 < held n es → ⊥) → es ≡ []
+no-entries [] none = refl
+no-entries (h ∷ hs) none = absurd (none h.node.0 (let a = sum_by-cons (λ x. one (is_at h.node.0 x)) h hs in grind (arith, nat_tests)))
+
+pub bare-fell : {before u w' : Core} {given : ℕ → Bool} {r : Result (Unit {0}) Error} → Falls before u given r w' → u.closed ≡ true → IsBare u → IsBare w'
+bare-fell {u = u} {w'} f closed b =
+    let none : f.entries ≡ [] = no-entries f.entries (λ n some. let e : true ≡ false = sym closed ∙ (f.only n some).0.stands_open in absurd (cc)) in
+    (
+      f.leaves.list ∙ ap (λ (qs : List HandleNumber). filter (λ (q : HandleNumber). not (f.gone q.0)) qs ++ map (λ (h : HandleRow). h.number) f.entries) b.0 ∙ ap (map (λ (h : HandleRow). h.number)) none,
+      λ kind key. none-known (w'.cache kind key) (λ n is. sym (b.1 kind key) ∙ f.leaves.cache.only kind key n is),
+    )
+
+module _ {w w' : Core} (closed : w.closed ≡ true) (b : IsBare w) where
+  pub released-bare : {me : Owner} {h : HandleNumber} {r : Result (Unit {0}) Error} → ReleaseCall w me h r w' → IsBare w'
+  released-bare c = elim c.does [ inl refused ↦ bare-alike refused.stays b | inr (row, owns, f) ↦ bare-fell f closed b ]
+
+  pub unpinned-bare : {me : Owner} {h : HandleNumber} {r : Result (Unit {0}) Error} → UnpinCall w me h r w' → IsBare w'
+  unpinned-bare c = elim c.does [ inl refused ↦ bare-alike refused.stays b | inr (row, owns, inl (mode, told, a)) ↦ bare-alike a b | inr (row, owns, inr (mode, f)) ↦ bare-fell f closed b ]
+
+  pub key-set-bare : {me : Owner} {h : HandleNumber} {key : ℕ} {r : Result (Unit {0}) Error} → SetKeyCall w me h key r w' → IsBare w'
+  key-set-bare c = elim c.does [ inl refused ↦ bare-alike refused.stays b | inr (row, owns, inl (mode, told, a)) ↦ bare-alike a b | inr (row, owns, inr (loose, f)) ↦ bare-fell f closed b ]

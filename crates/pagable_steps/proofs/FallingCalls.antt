@@ -1,0 +1,172 @@
+-- Calls by which handles go, and values with them, leave a pager in step.
+use Rattle.std.proofs.Common.{◌≡◌, ℕ, ◌<◌, ◌==◌, ◌&&◌, ◌||◌, Bool, true, false, List, [], ◌∷◌, Option, Some, None, Ok, Err, inl, inr, refl, ap, sym, ◌∙◌, arith}
+use Rattle.std.specs.Prelude.{Result, not}
+use Rattle.std.proofs.lemmas.Bool.{and_parts}
+use Rattle.std.proofs.lemmas.Bool.Decides.{nat_tests}
+use Rattle.pagable_model.specs.declared.error.Error.TheVariants as errors
+use Rattle.pagable_world.specs.declared.handles.HandleRow.{HandleRow}
+use Rattle.pagable_world.specs.declared.handles.Owner.TheVariants as owners
+use Rattle.pagable_world.specs.declared.handles.Owner.{Owner}
+use Rattle.pagable_world.specs.Plain.{Error, ArcRef, Kind, HandleNumber, LoadNumber, NodeNumber, Among, is_in, one, times, if_there}
+use Rattle.pagable_world.specs.Kinds.{find_row, is_owner, is_owned_by, owner_worker, is_at, pins}
+use Rattle.pagable_world.specs.World.{Core, Values, Alike, row_at, usable}
+use Rattle.pagable_world.specs.Cascade.{FallsAnyhow}
+use Rattle.pagable_world.specs.Refusals.{refused_if, named_fault}
+use Rattle.pagable_world.specs.Calls.{is_named_by, is_listed, UnpinCall, ReleaseCall, SetKeyCall, ScheduleCall, OfferCall, CloseCall}
+use Rattle.pagable_world.specs.LoadCalls.{is_owned_in, numbers_of, Adopts, EndCall, HandOverCall, DropCall, LoadCloses}
+use Rattle.pagable_world.specs.Workers.{is_workers_at, is_load_of, WorkerEnds}
+use Rattle.pagable_world.specs.Pager.{PagerState, IsWhole, WellFormed}
+use Rattle.pagable_laws.specs.TreeSteps.{AreGood}
+use Rattle.pagable_laws.proofs.Sums.{same-number, one-true, counted}
+use Rattle.pagable_laws.proofs.GoodReferences.{same-owner, good}
+use Rattle.pagable_laws.proofs.Outlasting.{NotValues, stands-whole}
+use Rattle.pagable_laws.proofs.Sparing.{named-among}
+use Rattle.pagable_laws.proofs.ReadingStepsHanding.{neither}
+use Rattle.pagable_steps.proofs.Spared.{Spares}
+use Rattle.pagable_steps.proofs.SparedParts.{spares-then, spares-same, spares-alike, spares-moved}
+use Rattle.pagable_steps.proofs.SparedLists.{own-free, listed-free, schedules, offers, spares-known}
+use Rattle.pagable_steps.proofs.SparedLoads.{not-load}
+use Rattle.pagable_steps.proofs.Falling.{Sweeps}
+use Rattle.pagable_steps.proofs.Keeping.{AreFree, Leaves, found-whole, fell, stayed, spares-keeps, unpin-keeps, keyed-keeps}
+
+-- ---- what no value owns
+
+module _ {w : Core} (whole : IsWhole w) where
+  not-loads : (l : LoadNumber) (o : Owner) → o ≡ owners.Load l → NotValues o
+  not-loads l o is n own = not-load l n (sym is ∙ own)
+
+  -- handles whose rows pass a test that no value's passes
+  by-row : (test : HandleRow → Bool) → ((h : HandleRow) (n : NodeNumber) → h.owner ≡ owners.Value n → test h ≡ false) → AreFree w (λ q. if_there test false (find_row q w.rows))
+  by-row test none h among is n own =
+      let f : true ≡ false = sym is ∙ (ap (if_there test false) (found-whole whole.handles h among) ∙ none h n own) in
+      absurd (cc)
+
+  -- what a load owns
+  pub load-free : (l : LoadNumber) → AreFree w (is_owned_in w (owners.Load l))
+  load-free l = by-row (is_owned_by (owners.Load l)) (λ h n own. ap (is_owner (owners.Load l)) own)
+
+  -- what else is asked of it
+  both-free : (f g : ℕ → Bool) → AreFree w f → AreFree w (λ q. f q && g q)
+  both-free f g free h among is = free h among (and_parts (f h.number.0) (g h.number.0) is).0
+
+  -- what good references name
+  pub named-owner : (l : LoadNumber) (rs : List ArcRef) → AreGood w (owners.Load l) rs → (h : HandleRow) → Among w.rows h → is_named_by rs h.number.0 ≡ true → h.owner ≡ owners.Load l
+  named-owner l rs right h among is =
+      let a = named-among 0 rs h.number.0 is in
+      let r = right a.0 a.1 in
+      ap (λ (x : HandleRow). x.owner) ((stands-whole whole.handles h.number.0 r.row (ap (λ q. find_row q w.rows) (sym a.2) ∙ r.live)).only h among refl) ∙ r.owned
+
+  -- what the list owns
+  all-listed-free : AreFree w (is_listed w)
+  all-listed-free h among is =
+      let some : 0 < times (λ (q : HandleNumber). q.0 == h.number.0) w.list = grind (arith, nat_tests) in
+      let c = counted (λ (q : HandleNumber). one (q.0 == h.number.0)) w.list some in
+      let same : c.0.0 ≡ h.number.0 = same-number _ _ (one-true _ c.2) in
+      listed-free whole c.1.0 c.0 c.1.1 h among (let e : (h.number.0 == c.0.0) ≡ true = grind (arith, nat_tests) in e)
+
+  -- what a load hands over
+  handed-free : (l : LoadNumber) (hs : List HandleNumber) (seen : List ℕ) → named_fault w (owners.Load l) seen hs ≡ None → AreFree w (is_in (numbers_of hs))
+  unfolding named_fault is_in
+  handed-free l [] seen none h among is = absurd (cc)
+  handed-free l (x ∷ hs) seen none h among is = by (λ rest more. handed-free l hs (x.0 ∷ seen) rest h among more) (x.0 == h.number.0) refl (neither _ _ none) is
+    where
+      by : (named_fault w (owners.Load l) (x.0 ∷ seen) hs ≡ None → is_in (numbers_of hs) h.number.0 ≡ true → NotValues h.owner) → (b : Bool) → (x.0 == h.number.0) ≡ b
+          → (if_there (λ (row : HandleRow). refused_if (not (is_owner (owners.Load l) row.owner) || is_in seen x.0) errors.NotYours) (Some errors.NoSuchHandle) (row_at w x) ≡ None)
+          × (named_fault w (owners.Load l) (x.0 ∷ seen) hs ≡ None)
+          → (b || is_in (numbers_of hs) h.number.0) ≡ true → NotValues h.owner
+      by more false e (first, rest) is = more rest is
+      by more true e (first, rest) is =
+          let found : row_at w x ≡ Some h = ap (λ n. find_row n w.rows) (same-number _ _ e) ∙ found-whole whole.handles h among in
+          let f : refused_if (not (is_owner (owners.Load l) h.owner) || is_in seen x.0) errors.NotYours ≡ None = rw found at first in
+          not-loads l h.owner (same-owner (owners.Load l) h.owner (owned (is_owner (owners.Load l) h.owner) f))
+        where
+          owned : (b : Bool) → refused_if (not b || is_in seen x.0) errors.NotYours ≡ None → b ≡ true
+          owned true e = refl
+          owned false e = absurd (cc)
+
+-- ---- the calls
+
+still : {w : Core} → Spares w w
+still = spares-same refl (λ n. refl)
+
+module _ {N E : Type 0} {v : Values N} {s s' : PagerState N E} (is : WellFormed v s) (left : Leaves s.values s') where
+
+  stays : Alike s.core s'.core → WellFormed v s'
+  stays a = stayed is (spares-alike a) left
+
+  pub load_closed : (l : LoadNumber) {r : Result (Unit {0}) Error} → LoadCloses s.core l r s'.core → WellFormed v s'
+  load_closed l f = fell is (spares-keeps (spares-same refl (λ n. refl))) f (load-free is.whole l) left
+
+  pub dropped : {me : Owner} {l : LoadNumber} {r : Result (Unit {0}) Error} → DropCall s.core me l r s'.core → WellFormed v s'
+  dropped {l = l} c = elim c.does [ inl refused ↦ stays refused.stays | inr (load, owned, f) ↦ load_closed l f ]
+
+  -- the end of a load that is refused, or was in vain
+  pub end_refused : {me : Owner} {l : LoadNumber} {x : N} {t : ℕ} {references : List ArcRef} (e : Error) (back : Option N) → EndCall s.core me l x t references (Err (e, back)) s'.core
+      → WellFormed v s'
+  end_refused e (Some y) c = stays c.refused.1.stays
+  end_refused {l = l} e None c = load_closed l c.refused.closes
+
+  -- what was read is dropped, since the cache gives a node
+  pub adopted_known : {me : Owner} {l : LoadNumber} {kind : Kind} {key t n : ℕ} {references : List ArcRef} {k : HandleNumber} → Adopts s.core me l kind key t references k s'.core
+      → usable s.core kind.0 key ≡ Some n → WellFormed v s'
+  adopted_known {l = l} {kind} {key} {references = references} a known = elim a.makes [
+    | inl (n, usable, f) ↦
+        let right = good s.core (owners.Load l) [] references a.good in
+        fell is (spares-keeps (spares-known is.whole kind key n (not-load l) usable)) f.falls (λ h among e. not-loads is.whole l h.owner (named-owner is.whole l references right h among e)) left
+    | inr (none, few, alike) ↦ absurd (let e : None ≡ Some _ = sym none ∙ known in cc)
+  ]
+
+  pub closed : {r : Result (Unit {0}) Error} → CloseCall s.core r s'.core → WellFormed v s'
+  closed c = fell is (spares-keeps (spares-same refl (λ n. refl))) c.falls.falls (all-listed-free is.whole) left
+
+  -- a worker releases the node that it has walked
+  pub worker_released : (u n : ℕ) → FallsAnyhow s.core s.core (is_workers_at s.core u n) s'.core → WellFormed v s'
+  worker_released u n f =
+      fell is (spares-keeps still) f.falls (by-row is.whole (λ row. is_owned_by (owner_worker u) row && is_at n row) (λ h m own. ap (λ o. is_owner (owner_worker u) o && is_at n h) own)) left
+
+  -- a worker ends, and so do its loads
+  pub worker_ended : (u : ℕ) → WorkerEnds s.core u s'.core → WellFormed v s'
+  worker_ended u f =
+      let free = by-row is.whole (λ row. is_owner (owner_worker u) row.owner || is_load_of s.core u row.owner) (λ h m own. ap (λ o. is_owner (owner_worker u) o || is_load_of s.core u o) own) in
+      fell is (spares-keeps (spares-same refl (λ n. refl))) f.falls free left
+
+  module _ {me : Owner} (none : NotValues me) where
+    pub released : {h : HandleNumber} {r : Result (Unit {0}) Error} → ReleaseCall s.core me h r s'.core → WellFormed v s'
+    released {h} c = elim c.does [ inl refused ↦ stays refused.stays | inr (row, owns, f) ↦ fell is (spares-keeps still) f (own-free is.whole h row none owns) left ]
+
+    pub unpinned : {h : HandleNumber} {r : Result (Unit {0}) Error} → UnpinCall s.core me h r s'.core → WellFormed v s'
+    unpinned {h} c = elim c.does [
+      | inl refused ↦ stays refused.stays
+      | inr (row, owns, inl (mode, told, a)) ↦ stays a
+      | inr (row, owns, inr (mode, f)) ↦ fell is (unpin-keeps is.whole h row none owns) f (λ x among e. absurd (cc)) left
+    ]
+
+    pub key_set : {h : HandleNumber} {key : ℕ} {r : Result (Unit {0}) Error} → SetKeyCall s.core me h key r s'.core → WellFormed v s'
+    key_set {key = key} c = elim c.does [
+      | inl refused ↦ stays refused.stays
+      | inr (row, owns, inl (mode, told, a)) ↦ stays a
+      | inr (row, owns, inr (loose, f)) ↦ fell is (keyed-keeps s.core row.node key) f (λ x among e. absurd (cc)) left
+    ]
+
+    pub scheduled : {h : HandleNumber} (r : Result (Unit {0}) Error) → ScheduleCall s.core me h r s'.core → WellFormed v s'
+    scheduled {h} (Ok u) c = elim c.moves.2 [
+      | inl (open_still, a) ↦ stayed is (schedules is.whole none open_still (Ok u) c) left
+      | inr (shut, f) ↦ fell is (spares-keeps still) f.falls (own-free is.whole h c.moves.0 none c.moves.1) left
+    ]
+    scheduled (Err e) c = stays c.refused.stays
+
+    pub offered : {kind : Kind} {key : ℕ} {h : HandleNumber} (r : Result (Option HandleNumber) Error) → OfferCall s.core me kind key h r s'.core → WellFormed v s'
+    offered (Ok None) c = stayed is (offers is.whole (Ok None) (λ k e. absurd (cc)) c) left
+    offered {kind} {key} {h} (Ok (Some k)) c = elim c.answers.3 [
+      | inl (shut, same, a) ↦ stays a
+      | inr (open_still, (n, usable, next, f)) ↦ fell is (spares-keeps (spares-known is.whole kind key n none usable)) f.falls (own-free is.whole h c.answers.0 none c.answers.1) left
+    ]
+    offered (Err e) c = stays c.refused.stays
+
+    pub handed_over : {l : LoadNumber} {hs : List HandleNumber} (r : Result (Unit {0}) Error) → HandOverCall s.core me l hs r s'.core → WellFormed v s'
+    handed_over {l} {hs} (Ok u) c =
+        let named = (neither _ _ (neither _ _ c.hands.0).1).1 in
+        let moves = spares-moved s.core (is_in (numbers_of hs)) me none (handed-free is.whole l hs [] named) in
+        fell is (spares-keeps (spares-then moves (spares-same refl (λ n. refl)))) c.hands.1.falls
+        (both-free is.whole (is_owned_in s.core (owners.Load l)) (λ q. not (is_in (numbers_of hs) q)) (load-free is.whole l)) left
+    handed_over (Err e) c = stays c.refused.1

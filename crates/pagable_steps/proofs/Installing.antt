@@ -1,0 +1,153 @@
+-- A load of a cell ends with a pin: where the cell has no value, what was read comes into it; else it is dropped. What the load still owns goes.
+use Rattle.std.proofs.Common.{◌≡◌, ℕ, ◌<◌, ◌==◌, ◌&&◌, Bool, true, false, refl, ap, sym, subst, ◌∙◌, inl, inr, if◌then◌else◌, arith}
+use Rattle.std.specs.Prelude.{Option, Some, None, is_some, not, nat_lt}
+use Rattle.std.proofs.lemmas.Bool.Decides.{nat_tests}
+use Rattle.pagable_world.specs.declared.handles.HandleRow.{HandleRow}
+use Rattle.pagable_world.specs.declared.handles.Owner.TheVariants as owners
+use Rattle.pagable_world.specs.declared.handles.Owner.{Owner}
+use Rattle.pagable_world.specs.declared.rows.Mode.TheVariants as modes
+use Rattle.pagable_world.specs.Plain.{HandleNumber, LoadNumber, NodeNumber, if_there, updated}
+use Rattle.pagable_world.specs.Kinds.{find_row, is_handle, is_owner, is_owned_by, owner_value, is_loose, is_in_memory, held, pins}
+use Rattle.pagable_world.specs.World.{Core, Cell, Values, row_at, type_at, key_at, is_here}
+use Rattle.pagable_world.specs.Refusals.{Owns}
+use Rattle.pagable_world.specs.Calls.{is_named_by, with_mode}
+use Rattle.pagable_world.specs.LoadCalls.{without_load, is_owned_in, with_pin, MayEnd, Installs}
+use Rattle.pagable_world.specs.Pager.{PagerState, MayOwnLoad, IsWhole, WellFormed}
+use Rattle.pagable_laws.proofs.Sums.{self-number}
+use Rattle.pagable_laws.proofs.Goes.{NotLoads, found-number}
+use Rattle.pagable_laws.proofs.Taking.{row-held, row-pins}
+use Rattle.pagable_laws.proofs.Outlasting.{NotValues, Stands, among-found, found-after, stands-whole, stands-changed}
+use Rattle.pagable_steps.proofs.Spared.{owns, Spares}
+use Rattle.pagable_steps.proofs.SparedParts.{and-false, spares-then, spares-same, spares-handle}
+use Rattle.pagable_steps.proofs.SparedHandles.{pinned-here, turned}
+use Rattle.pagable_steps.proofs.Falling.{Sits, Sweeps, fell-from}
+use Rattle.pagable_steps.proofs.Keeping.{OwnsAlike, Keeps, owns-then, spares-owned, sits-on, fell, spares-keeps, mode-owned, mode-others}
+use Rattle.pagable_steps.proofs.FallingCalls.{load-free}
+use Rattle.pagable_steps.proofs.Moving as moving
+
+-- who begins a load is no value, and no load
+asker-free : (w : Core) (o : Owner) → MayOwnLoad w o → NotValues o × NotLoads o
+asker-free w owners.Caller may = (λ n e. absurd (cc), λ l e. absurd (cc))
+asker-free w (owners.Worker v) may = (λ n e. absurd (cc), λ l e. absurd (cc))
+asker-free w (owners.Value n) may = absurd may
+asker-free w owners.List may = absurd may
+asker-free w (owners.Load l) may = absurd may
+
+live-type : (w : Core) (n : ℕ) → is_some (w.cells n) ≡ true → (t : ℕ) × (type_at w n ≡ Some t)
+live-type w n is = at (w.cells n) is
+  where
+    at : (c : Option Cell) → is_some c ≡ true → (t : ℕ) × (if_there (λ (cell : Cell). Some cell.node_type) None c ≡ Some t)
+    at (Some cell) is = (cell.node_type, refl)
+    at None is = absurd (cc)
+
+module _ {N E : Type 0} {v : Values N} {s : PagerState N E} (is : WellFormed v s) {me : Owner} {l : LoadNumber} {node : NodeNumber} {h : HandleNumber} {x : N}
+    (may : MayEnd s.core me l node h (v.node_type x) (v.references x)) (row : HandleRow) (own : Owns s.core me h is_loose row) (at_node : row.node ≡ node) where
+  abbrev w : Core
+  w = s.core
+
+  free : NotValues me × NotLoads me
+  free = asker-free w me (subst (λ o. MayOwnLoad w o) may.owned.own (is.whole.loads.owned l.0 may.load may.owned.stands_open))
+
+  -- the cell is there, of the value's type
+  cell-typed : type_at w node.0 ≡ Some (v.node_type x)
+  cell-typed =
+      let some : 0 < held node.0 w.rows = subst (λ (m : NodeNumber). 0 < held m.0 w.rows) at_node (row-held w h row own.live) in
+      let test : nat_lt 0 (held node.0 w.rows) ≡ true = grind (arith, nat_tests) in
+      let t = live-type w node.0 (is.whole.handles.live node.0 ∙ test) in
+      t.1 ∙ ap (λ (u : ℕ). Some u) ((is.whole.loads.roots l.0 may.load node (v.node_type x) h may.owned.stands_open may.of_node).typed t.0 t.1)
+
+  there-keeps : is_here w node.0 ≡ true → Keeps w (with_pin (without_load w l) h node me)
+  there-keeps there =
+      let first = turned is.whole free.0 h row own (subst (λ (m : NodeNumber). is_here w m.0 ≡ true) (sym at_node) there) in
+      let more = spares-handle (with_mode w h modes.LoosePinned) node modes.Pinned me free.0 (λ e. first.here node.0 ∙ there) in
+      spares-keeps (spares-then first (spares-then more (spares-same refl (λ n. refl))))
+
+  -- ---- the cell has no value
+
+  module _ (away : is_here w node.0 ≡ false) where
+    abbrev given_to : Core
+    given_to = moving.given_to is l node x may.good cell-typed away
+
+    abbrev named : HandleRow → Bool
+    named r = is_named_by (v.references x) r.number.0
+
+    abbrev pinned : Core
+    pinned = with_mode given_to h modes.LoosePinned
+
+    unnamed : (b : Bool) → named row ≡ b → named row ≡ false
+    unnamed false e = e
+    unnamed true e = absurd (free.1 l (sym own.own ∙ moving.was-load is l node x may.good cell-typed away row (among-found h.0 w.rows row own.live) e))
+
+    -- the handle has its row still
+    stands : Stands given_to.last.handle given_to.rows h.0 row
+    stands =
+        subst (λ r. Stands w.last.handle given_to.rows h.0 r) (ap (λ b. if b then record row { owner = owner_value node.0 } else row) (unnamed (named row) refl))
+        (stands-changed named (λ r. record r { owner = owner_value node.0 }) (λ r. refl) (stands-whole is.whole.handles h.0 row own.live))
+
+    row-free : NotValues row.owner
+    row-free = subst NotValues (sym own.own) free.0
+
+    -- it pins its cell
+    pins-cell : is_here pinned node.0 ≡ true
+    pins-cell =
+        let number : is_handle h.0 row ≡ true = ap (λ n. n == h.0) (found-number h.0 w.rows row own.live) ∙ self-number h.0 in
+        let live : row_at pinned h ≡ Some (record row { mode = modes.LoosePinned }) =
+        found-after (is_handle h.0) (λ r. record r { mode = modes.LoosePinned }) (λ r. refl) h.0 given_to.rows row stands.live
+        ∙ ap (λ b. Some (if b then record row { mode = modes.LoosePinned } else row)) number in
+        subst (λ (m : NodeNumber). is_here pinned m.0 ≡ true) at_node (pinned-here pinned row.node.0 (row-pins pinned h (record row { mode = modes.LoosePinned }) live refl))
+
+    more : Spares pinned (with_pin given_to h node me)
+    more = spares-handle pinned node modes.Pinned me free.0 (λ e. pins-cell)
+
+    owned : OwnsAlike given_to (with_pin given_to h node me)
+    owned = owns-then (mode-owned given_to h modes.LoosePinned row stands row-free) (spares-owned more)
+
+    -- other nodes that are in memory were so
+    was-here : (n : ℕ) → is_here (with_pin given_to h node me) n ≡ true → (n == node.0) ≡ false → is_here w n ≡ true
+    was-here n here other =
+        let away_from : (row.node.0 == n) ≡ false = ap (λ (m : NodeNumber). m.0 == n) at_node ∙ turned-round n other in
+        let same = mode-others given_to h modes.LoosePinned row stands n away_from ∙ moving.same-pins is l node x may.good cell-typed away n in
+        sym (ap (λ p. is_in_memory p (key_at w n)) same) ∙ (sym (more.here n) ∙ here)
+      where
+        turned-round : (n : ℕ) → (n == node.0) ≡ false → (node.0 == n) ≡ false
+        turned-round n e = grind (arith, nat_tests)
+
+    all-sit : Sits v (with_pin given_to h node me) (updated node.0 (Some x) s.values)
+    all-sit =
+        sits-on (moving.moved-sits is l node x may.good cell-typed away) owned
+        (λ n live here. moving.there-at is l node x may.good cell-typed away n live (was-here n here))
+
+    -- what goes is no value's
+    none-goes : (n q : ℕ) → 0 < owns n q (with_pin given_to h node me).rows → (is_owned_in w (owners.Load l) q && not (is_named_by (v.references x) q)) ≡ false
+    none-goes n q some =
+        let was = moving.owned-was is l node x may.good cell-typed away n q (subst (λ j. 0 < j) (owned.owned n q) some) in
+        at was.row was.live was.own (named was.row) refl
+      where
+        at : (row : HandleRow) → find_row q w.rows ≡ Some row → (if named row then record row { owner = owner_value node.0 } else row).owner ≡ owner_value n → (b : Bool) → named row ≡ b
+            → (is_owned_in w (owners.Load l) q && not (is_named_by (v.references x) q)) ≡ false
+        at row live own true e =
+            let f : is_named_by (v.references x) q ≡ true = sym (ap (is_named_by (v.references x)) (found-number q w.rows row live)) ∙ e in
+            ap (λ b. is_owned_in w (owners.Load l) q && not b) f ∙ and-false (is_owned_in w (owners.Load l) q)
+        at row live own false e =
+            let f : row.owner ≡ owner_value n = sym (ap (λ b. (if b then record row { owner = owner_value node.0 } else row).owner) e) ∙ own in
+            let g : is_owned_in w (owners.Load l) q ≡ false = ap (if_there (is_owned_by (owners.Load l)) false) live ∙ ap (is_owner (owners.Load l)) f in
+            ap (λ b. b && not (is_named_by (v.references x) q)) g
+
+-- ---- the law
+
+module _ {N E : Type 0} {v : Values N} {s s' : PagerState N E} (is : WellFormed v s) {me : Owner} {l : LoadNumber} {node : NodeNumber} {h k : HandleNumber} {x : N}
+    (may : MayEnd s.core me l node h (v.node_type x) (v.references x)) (i : Installs s.core me l node h k (v.references x) s'.core) where
+  -- the cell has its value already
+  pub installed_there : is_here s.core node.0 ≡ true → Sweeps s.values s'.core s'.values → ((n : ℕ) → s'.counts n ≡ pins n s'.core.rows) → IsWhole s'.core → WellFormed v s'
+  installed_there there swept counts whole = elim i.falls [
+    | inl (away, f) ↦ absurd (let e : false ≡ true = sym away ∙ there in cc)
+    | inr (here, f) ↦ fell is (there-keeps is may i.row i.owned i.at there) f.falls (load-free is.whole l) (record { swept = swept; counted = counts; whole = whole })
+  ]
+
+  -- the value comes into it
+  pub installed_away : is_here s.core node.0 ≡ false → Sweeps (updated node.0 (Some x) s.values) s'.core s'.values → ((n : ℕ) → s'.counts n ≡ pins n s'.core.rows) → IsWhole s'.core
+      → WellFormed v s'
+  installed_away away swept counts whole = elim i.falls [
+    | inl (none, f) ↦ fell-from (all-sit is may i.row i.owned i.at away) s' f.falls (none-goes is may i.row i.owned i.at away) swept counts whole
+    | inr (there, f) ↦ absurd (let e : true ≡ false = sym there ∙ away in cc)
+  ]

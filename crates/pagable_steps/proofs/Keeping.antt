@@ -1,0 +1,259 @@
+-- What a call does directly before handles go: nodes and values stay as they are, but that a node may get a key and lose a pin.
+use Rattle.std.proofs.Common.{◌≡◌, ℕ, suc, zero, ◌<◌, ◌≤◌, ◌==◌, ◌&&◌, ◌||◌, Bool, true, false, List, refl, ap, sym, subst, ◌∙◌, if◌then◌else◌, arith}
+use Rattle.std.specs.Prelude.{Option, Some, None, is_some, not, nat_lt, sum_by}
+use Rattle.std.proofs.lemmas.Bool.{and_parts}
+use Rattle.pagable_model.specs.declared.data_key.OptionalDataKey.TheVariants as optional
+use Rattle.pagable_world.specs.declared.handles.HandleRow.{HandleRow}
+use Rattle.pagable_world.specs.declared.handles.Owner.{Owner}
+use Rattle.pagable_world.specs.declared.rows.Mode.{Mode}
+use Rattle.pagable_world.specs.declared.rows.Mode.TheVariants as modes
+use Rattle.pagable_world.specs.Plain.{OptionalDataKey, HandleNumber, NodeNumber, Among, one, if_there}
+use Rattle.pagable_world.specs.Kinds.{find_row, is_handle, is_owner, is_owned_by, owner_value, is_pin, is_pinning, pins, is_in_memory, has_key}
+use Rattle.pagable_world.specs.World.{Core, Cell, Values, type_at, key_at, is_here}
+use Rattle.pagable_world.specs.Cascade.{Falls}
+use Rattle.pagable_world.specs.Refusals.{Owns}
+use Rattle.pagable_world.specs.Calls.{with_mode, with_key}
+use Rattle.pagable_world.specs.Pager.{PagerState, HandlesAreWhole, IsWhole, WellFormed}
+use Rattle.pagable_laws.proofs.Trees.{same_some}
+use Rattle.pagable_laws.proofs.Sums.{same-number, self-number, one-true, sum-le, counted}
+use Rattle.pagable_laws.proofs.Goes.{found-number}
+use Rattle.pagable_laws.proofs.GoodReferences.{same-owner}
+use Rattle.pagable_laws.proofs.Outlasting.{NotValues, Stands, among-found, none-found, once, found-after, stands-whole}
+use Rattle.pagable_steps.proofs.Spared.{owns, owns_any, Spares, spared}
+use Rattle.pagable_steps.proofs.SparedParts.{sum-mapped, here-by}
+use Rattle.pagable_steps.proofs.Staying.{owned-some}
+use Rattle.pagable_steps.proofs.Falling.{Sits, Sweeps, fell-from}
+
+-- nodes stay with their types, and values own the same handles, by the same rows
+pub record OwnsAlike (w m : Core) : Type 0 where
+  pub typed : (n : ℕ) → type_at m n ≡ type_at w n
+  pub owned : (n q : ℕ) → owns n q m.rows ≡ owns n q w.rows
+  pub rows : (n q : ℕ) (row : HandleRow) → find_row q w.rows ≡ Some row → row.owner ≡ owner_value n → find_row q m.rows ≡ Some row
+
+-- and no node comes to memory
+pub record Keeps (w m : Core) : Type 0 where
+  pub owned : OwnsAlike w m
+  pub here : (n : ℕ) → is_here m n ≡ true → is_here w n ≡ true
+
+-- no value owns such a handle
+abbrev pub AreFree : Core → (ℕ → Bool) → Type 0
+AreFree w given = (h : HandleRow) → Among w.rows h → given h.number.0 ≡ true → NotValues h.owner
+
+-- what a call leaves: the values whose nodes are in memory, right counts and a whole world
+pub record Leaves {N E : Type 0} (values : ℕ → Option N) (s' : PagerState N E) : Type 0 where
+  pub swept : Sweeps values s'.core s'.values
+  pub counted : (n : ℕ) → s'.counts n ≡ pins n s'.core.rows
+  pub whole : IsWhole s'.core
+
+-- ---- rows
+
+pub found-whole : {w : Core} → HandlesAreWhole w → (h : HandleRow) → Among w.rows h → find_row h.number.0 w.rows ≡ Some h
+found-whole {w} whole h among = at (find_row h.number.0 w.rows) refl
+  where
+    at : (found : Option HandleRow) → find_row h.number.0 w.rows ≡ found → find_row h.number.0 w.rows ≡ Some h
+    at None e = absurd (none-found h.number.0 w.rows h e among refl)
+    at (Some row) e = e ∙ ap (λ (x : HandleRow). Some x) (once w.rows whole.ordered row h (among-found h.number.0 w.rows row e) among (found-number h.number.0 w.rows row e))
+
+-- the handle of a value, by its row
+pub record Owned (w : Core) (n q : ℕ) : Type 0 where
+  pub row : HandleRow
+  pub live : find_row q w.rows ≡ Some row
+  pub own : row.owner ≡ owner_value n
+
+pub owned-row : {w : Core} → HandlesAreWhole w → (n q : ℕ) → 0 < owns n q w.rows → Owned w n q
+owned-row {w} whole n q some =
+    let c = counted (λ h. one (is_handle q h && is_owned_by (owner_value n) h)) w.rows some in
+    let both = and_parts (is_handle q c.0) (is_owned_by (owner_value n) c.0) (one-true _ c.2) in
+    record { row = c.0; live = subst (λ p. find_row p w.rows ≡ Some c.0) (same-number _ _ both.0) (found-whole whole c.0 c.1); own = same-owner (owner_value n) c.0.owner both.1 }
+
+pub one-value : (n m : ℕ) (o : Owner) → o ≡ owner_value n → o ≡ owner_value m → m ≡ n
+one-value n m o a b = same-number m n (sym (ap (is_owner (owner_value n)) b) ∙ (ap (is_owner (owner_value n)) a ∙ self-number n))
+
+-- values that own nothing of any number own nothing
+pub none-owned : (n : ℕ) (rows rows' : List HandleRow) → ((q : ℕ) → owns n q rows' ≡ owns n q rows) → owns_any n rows ≡ 0 → owns_any n rows' ≡ 0
+none-owned n rows rows' same none = at (owns_any n rows') refl
+  where
+    at : (k : ℕ) → owns_any n rows' ≡ k → owns_any n rows' ≡ 0
+    at zero e = e
+    at (suc k) e =
+        let c = counted (λ h. one (is_owned_by (owner_value n) h)) rows' (omega (arith, e)) in
+        let a = owned-some n rows' c.0 c.1 (one-true _ c.2) in
+        let b = same c.0.number.0 in
+        let le = sum-le (λ h. one (is_handle c.0.number.0 h && is_owned_by (owner_value n) h)) (λ h. one (is_owned_by (owner_value n) h)) rows
+        (λ h among. less (is_handle c.0.number.0 h) (is_owned_by (owner_value n) h)) in
+        absurd (omega (arith, a, b, le, none))
+      where
+        less : (a b : Bool) → one (a && b) ≤ one b
+        less true b = omega arith
+        less false true = omega arith
+        less false false = omega arith
+
+-- ---- what stands
+
+type-some : (w : Core) (n : ℕ) → is_some (type_at w n) ≡ is_some (w.cells n)
+type-some w n = at (w.cells n)
+  where
+    at : (c : Option Cell) → is_some (if_there (λ (cell : Cell). Some cell.node_type) None c) ≡ is_some c
+    at None = refl
+    at (Some cell) = refl
+
+pub owns-then : {w m w' : Core} → OwnsAlike w m → OwnsAlike m w' → OwnsAlike w w'
+owns-then a b = record { typed = λ n. b.typed n ∙ a.typed n; owned = λ n q. b.owned n q ∙ a.owned n q; rows = λ n q row live own. b.rows n q row (a.rows n q row live own) own }
+
+-- where values own alike they stand again, if nodes that are in memory have one
+pub sits-on : {N : Type 0} {v : Values N} {values : ℕ → Option N} {w m : Core} → Sits v w values → OwnsAlike w m
+    → ((n : ℕ) → is_some (m.cells n) ≡ true → is_here m n ≡ true → is_some (values n) ≡ true) → Sits v m values
+sits-on {w = w} {m} sits k there =
+    record {
+      there = there;
+      typed = λ n x e. k.typed n ∙ sits.typed n x e;
+      inside = λ n x q e. sits.inside n x q e ∙ sym (k.owned n q);
+      bare = λ n e. none-owned n w.rows m.rows (k.owned n) (sits.bare n e);
+      references = λ n x r e among.
+          let old = sits.references n x r e among in
+          record { row = old.row; live = k.rows n r.handle.0 old.row old.live old.owned; at = old.at; owned = old.owned; fits = old.fits; typed = k.typed r.node.0 ∙ old.typed };
+      single = λ n p q a b. sits.single n p q (subst (λ j. 0 < j) (k.owned n q) a) (subst (λ j. 0 < j) (k.owned p q) b);
+    }
+
+module _ {N E : Type 0} {v : Values N} {s : PagerState N E} (is : WellFormed v s) where
+  pub valued-there : (n : ℕ) → is_some (s.core.cells n) ≡ true → is_here s.core n ≡ true → is_some (s.values n) ≡ true
+  valued-there n live here = is.valued n ∙ both _ _ live here
+    where
+      both : (a b : Bool) → a ≡ true → b ≡ true → (a && b) ≡ true
+      both true b e f = f
+      both false b e f = e
+
+  sits : Sits v s.core s.values
+  sits = record { there = valued-there; typed = is.typed; inside = is.inside; bare = is.bare; references = is.references; single = one-row }
+    where
+      one-row : (n p q : ℕ) → 0 < owns n q s.core.rows → 0 < owns p q s.core.rows → p ≡ n
+      one-row n p q a b =
+          let x = owned-row is.whole.handles n q a in
+          let y = owned-row is.whole.handles p q b in
+          let same = same_some _ _ (sym x.live ∙ y.live) in
+          one-value n p x.row.owner x.own (ap (λ (h : HandleRow). h.owner) same ∙ y.own)
+
+  keeps-sits : (m : Core) → Keeps s.core m → Sits v m s.values
+  keeps-sits m k = sits-on sits k.owned (λ n live here. valued-there n (sym (type-some s.core n) ∙ (ap is_some (sym (k.owned.typed n)) ∙ (type-some m n ∙ live))) (k.here n here))
+
+  -- The handles go from a world where values stand as they stood, and none of them is a value's.
+  pub fell : {before m : Core} {given : ℕ → Bool} {r : _} {s' : PagerState N E} → Keeps s.core m → Falls before m given r s'.core → AreFree s.core given → Leaves s.values s' → WellFormed v s'
+  fell {before} {m} {given} {r} {s'} k f free l = fell-from (keeps-sits m k) s' f none l.swept l.counted l.whole
+    where
+      none : (n q : ℕ) → 0 < owns n q m.rows → given q ≡ false
+      none n q some = at (given q) refl (owned-row is.whole.handles n q (subst (λ j. 0 < j) (k.owned.owned n q) some))
+        where
+          at : (b : Bool) → given q ≡ b → Owned s.core n q → given q ≡ false
+          at false e x = e
+          at true e x = absurd (free x.row (among-found q s.core.rows x.row x.live) (ap given (found-number q s.core.rows x.row x.live) ∙ e) (record { 0 = n }) x.own)
+
+  -- nothing changes
+  pub stayed : {s' : PagerState N E} → Spares s.core s'.core → Leaves s.values s' → WellFormed v s'
+  stayed {s'} k l = spared v s s' is k (λ n. l.swept n ∙ at (s.values n) _ (is.valued n ∙ sym (now n))) l.counted l.whole
+    where
+      now : (n : ℕ) → (is_some (s'.core.cells n) && is_here s'.core n) ≡ (is_some (s.core.cells n) && is_here s.core n)
+      now n = ap (λ o. is_some o && is_here s'.core n) (k.cells n) ∙ ap (λ b. is_some (s.core.cells n) && b) (k.here n)
+
+      at : (o : Option N) (b : Bool) → is_some o ≡ b → (if b then o else None) ≡ o
+      at None true e = absurd (cc)
+      at None false e = refl
+      at (Some x) true e = refl
+      at (Some x) false e = absurd (cc)
+
+-- ---- what calls do directly
+
+pub spares-owned : {w m : Core} → Spares w m → OwnsAlike w m
+spares-owned s = record { typed = λ n. ap (λ o. if_there (λ (cell : Cell). Some cell.node_type) None o) (s.cells n); owned = s.owned; rows = s.rows }
+
+pub spares-keeps : {w m : Core} → Spares w m → Keeps w m
+spares-keeps s = record { owned = spares-owned s; here = λ n is. sym (s.here n) ∙ is }
+
+-- the one row of a handle that isn't a value's takes another mode
+module _ (w : Core) (h : HandleNumber) (mode : Mode) (row : HandleRow) (stands : Stands w.last.handle w.rows h.0 row) where
+  abbrev to : HandleRow → HandleRow
+  to x = record x { mode = mode }
+
+  abbrev after : HandleRow → HandleRow
+  after x = if is_handle h.0 x then to x else x
+
+  pub mode-owned : NotValues row.owner → OwnsAlike w (with_mode w h mode)
+  mode-owned none =
+      record {
+        typed = λ n. refl;
+        owned = λ n q. sum-mapped after (its n q) (its n q) w.rows (λ x among. same n q x (is_handle h.0 x));
+        rows = λ n q x live own. found-after (is_handle h.0) to (λ y. refl) q w.rows x live ∙ ap (λ b. Some (if b then to x else x)) (other n q x live own (is_handle h.0 x) refl);
+      }
+    where
+      its : ℕ → ℕ → HandleRow → ℕ
+      its n q x = one (is_handle q x && is_owned_by (owner_value n) x)
+
+      same : (n q : ℕ) (x : HandleRow) (b : Bool) → its n q (if b then to x else x) ≡ its n q x
+      same n q x true = refl
+      same n q x false = refl
+
+      other : (n q : ℕ) (x : HandleRow) → find_row q w.rows ≡ Some x → x.owner ≡ owner_value n → (b : Bool) → is_handle h.0 x ≡ b → is_handle h.0 x ≡ false
+      other n q x live own false e = e
+      other n q x live own true e = absurd (none (record { 0 = n }) (sym (ap (λ (y : HandleRow). y.owner) (stands.only x (among-found q w.rows x live) (same-number _ _ e))) ∙ own))
+
+  pins-after : (n : ℕ) → pins n (with_mode w h mode).rows ≡ sum_by (λ x. one (is_pin n (after x))) w.rows
+  pins-after n = sum-mapped after (λ x. one (is_pin n x)) (λ x. one (is_pin n (after x))) w.rows (λ x among. refl)
+
+  -- other nodes are pinned as often
+  pub mode-others : (n : ℕ) → (row.node.0 == n) ≡ false → pins n (with_mode w h mode).rows ≡ pins n w.rows
+  mode-others n other = sum-mapped after (λ x. one (is_pin n x)) (λ x. one (is_pin n x)) w.rows (λ x among. at x among (is_handle h.0 x) refl)
+    where
+      at : (x : HandleRow) → Among w.rows x → (b : Bool) → is_handle h.0 x ≡ b → one (is_pin n (if b then to x else x)) ≡ one (is_pin n x)
+      at x among false e = refl
+      at x among true e = let f : (x.node.0 == n) ≡ false = ap (λ (y : HandleRow). y.node.0 == n) (stands.only x among (same-number _ _ e)) ∙ other in rw f refl
+
+  -- where the mode doesn't pin, no node is pinned more often
+  pub mode-fewer : is_pinning mode ≡ false → (n : ℕ) → pins n (with_mode w h mode).rows ≤ pins n w.rows
+  mode-fewer unpinned n =
+      let a = pins-after n in
+      let b = sum-le (λ x. one (is_pin n (after x))) (λ x. one (is_pin n x)) w.rows (λ x among. less x (is_handle h.0 x)) in
+      omega (arith, a, b)
+    where
+      none-pins : (a b : Bool) → one (a && false) ≤ one (a && b)
+      none-pins true b = omega arith
+      none-pins false b = omega arith
+
+      less : (x : HandleRow) (b : Bool) → one (is_pin n (if b then to x else x)) ≤ one (is_pin n x)
+      less x true = rw unpinned (none-pins (x.node.0 == n) (is_pinning x.mode))
+      less x false = omega arith
+
+-- an own handle pins no more
+pub unpin-keeps : {w : Core} {me : Owner} {fits : Mode → Bool} → IsWhole w → (h : HandleNumber) (row : HandleRow) → NotValues me → Owns w me h fits row → Keeps w (with_mode w h modes.LooseUnpinned)
+unpin-keeps {w} whole h row none owns =
+    let stands = stands-whole whole.handles h.0 row owns.live in
+    record {
+      owned = mode-owned w h modes.LooseUnpinned row stands (subst NotValues (sym owns.own) none);
+      here = λ n is. here-by (pins n (with_mode w h modes.LooseUnpinned).rows) (pins n w.rows) (key_at w n) (mode-fewer w h modes.LooseUnpinned row stands refl n) is;
+    }
+
+-- a node gets a key
+pub keyed-keeps : (w : Core) (node : NodeNumber) (key : ℕ) → Keeps w (with_key w node key)
+keyed-keeps w node key =
+    record { owned = record { typed = λ n. typed-at n (n == node.0) refl; owned = λ n q. refl; rows = λ n q row live own. live }; here = λ n is. here-at n (n == node.0) refl is }
+  where
+    keyed : Option Cell → Option Cell
+    keyed c = if_there (λ (cell : Cell). Some (record cell { key = optional.Some key })) None c
+
+    typed : (c : Option Cell) → if_there (λ (cell : Cell). Some cell.node_type) None (keyed c) ≡ if_there (λ (cell : Cell). Some cell.node_type) None c
+    typed None = refl
+    typed (Some cell) = refl
+
+    typed-at : (n : ℕ) (b : Bool) → (n == node.0) ≡ b → if_there (λ (cell : Cell). Some cell.node_type) None (if b then keyed (w.cells node.0) else w.cells n) ≡ type_at w n
+    typed-at n true e = typed (w.cells node.0) ∙ ap (type_at w) (sym (same-number n node.0 e))
+    typed-at n false e = refl
+
+    key-of : Option Cell → OptionalDataKey
+    key-of c = if_there (λ (cell : Cell). cell.key) optional.None c
+
+    here-at : (n : ℕ) (b : Bool) → (n == node.0) ≡ b → is_in_memory (pins n w.rows) (key-of (if b then keyed (w.cells node.0) else w.cells n)) ≡ true → is_here w n ≡ true
+    here-at n false e is = is
+    here-at n true e is = at (w.cells node.0) refl (nat_lt 0 (pins n w.rows)) is
+      where
+        at : (c : Option Cell) → w.cells node.0 ≡ c → (b : Bool) → (b || not (has_key (key-of (keyed c)))) ≡ true → (b || not (has_key (key_at w n))) ≡ true
+        at c f true is = refl
+        at (Some cell) f false is = absurd (cc)
+        at None f false is = ap (λ m. not (has_key (key_at w m))) (same-number n node.0 e) ∙ ap (λ c. not (has_key (key-of c))) f

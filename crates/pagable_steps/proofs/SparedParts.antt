@@ -1,0 +1,181 @@
+-- Parts of steps by which no value comes or goes: one more handle, a handle in another mode, handles that move.
+use Rattle.std.proofs.Common.{◌≡◌, ℕ, suc, zero, ◌+◌, ◌≤◌, ◌==◌, ◌&&◌, ◌||◌, Bool, true, false, List, [], ◌∷◌, ◌++◌, sum_by, map, refl, ap, sym, subst, ◌∙◌, if◌then◌else◌, arith}
+use Rattle.std.specs.Prelude.{Some, not, nat_lt}
+use Rattle.std.proofs.lemmas.Bool.{and_parts}
+use Rattle.std.proofs.lemmas.Bool.Decides.{nat_tests}
+use Rattle.std.proofs.lemmas.List.Sums.{sum_by-cons, sum_by_push}
+use Rattle.pagable_model.specs.declared.data_key.OptionalDataKey.TheVariants as optional
+use Rattle.pagable_world.specs.declared.handles.HandleRow.{HandleRow}
+use Rattle.pagable_world.specs.declared.handles.Owner.{Owner}
+use Rattle.pagable_world.specs.declared.rows.Mode.{Mode}
+use Rattle.pagable_world.specs.Plain.{OptionalDataKey, HandleNumber, NodeNumber, SameAt, Among, changed, one, if_there, or_else}
+use Rattle.pagable_world.specs.Kinds.{find_row, is_handle, is_owned_by, owner_value, is_pin, is_pinning, pins, is_in_memory, has_key}
+use Rattle.pagable_world.specs.World.{Core, Cell, Alike, key_at, is_here}
+use Rattle.pagable_world.specs.Calls.{row_of, with_handle, with_mode, moved}
+use Rattle.pagable_laws.proofs.Sums.{same-number, sum-le}
+use Rattle.pagable_laws.proofs.Outlasting.{NotValues, not-owned, find-both, found-after, among-found}
+use Rattle.pagable_steps.proofs.Spared.{owns, owns_any, Spares}
+
+pub spares-then : {w m w' : Core} → Spares w m → Spares m w' → Spares w w'
+spares-then a b =
+    record {
+      cells = λ n. b.cells n ∙ a.cells n;
+      here = λ n. b.here n ∙ a.here n;
+      owned = λ n q. b.owned n q ∙ a.owned n q;
+      bare = λ n. b.bare n ∙ a.bare n;
+      rows = λ n q row live own. b.rows n q row (a.rows n q row live own) own;
+    }
+
+-- whatever else changes
+pub spares-same : {w w' : Core} → w'.rows ≡ w.rows → SameAt w.cells w'.cells → Spares w w'
+spares-same {w} {w'} rows cells =
+    record {
+      cells = cells;
+      here = λ n. ap (λ r. is_in_memory (pins n r) (key_at w' n)) rows ∙ ap (λ c. is_in_memory (pins n w.rows) (if_there (λ (cell : Cell). cell.key) optional.None c)) (cells n);
+      owned = λ n q. ap (owns n q) rows;
+      bare = λ n. ap (owns_any n) rows;
+      rows = λ n q row live own. ap (find_row q) rows ∙ live;
+    }
+
+pub spares-alike : {w w' : Core} → Alike w w' → Spares w w'
+spares-alike a = spares-same a.rows a.cells
+
+-- ---- sums
+
+-- what doesn't count leaves a sum
+pub push-none : {X : Type 0} (test : X → Bool) (xs : List X) (x : X) → test x ≡ false → sum_by (λ y. one (test y)) (xs ++ x ∷ []) ≡ sum_by (λ y. one (test y)) xs
+push-none test xs x is = let a = sum_by_push (λ y. one (test y)) xs x in let b : one (test x) ≡ 0 = ap one is in omega arith
+
+pub sum-mapped : {X : Type 0} (f : X → X) (g h : X → ℕ) (xs : List X) → ((x : X) → Among xs x → g (f x) ≡ h x) → sum_by g (map f xs) ≡ sum_by h xs
+sum-mapped f g h [] each = refl
+sum-mapped f g h (x ∷ xs) each =
+    let a = each x (zero, refl) in
+    let b = sum-mapped f g h xs (λ y among. each y (suc among.0, among.1)) in
+    let c = sum_by-cons g (f x) (map f xs) in
+    let d = sum_by-cons h x xs in
+    omega arith
+
+pub and-false : (b : Bool) → (b && false) ≡ false
+and-false true = refl
+and-false false = refl
+
+-- ---- one more handle
+
+-- one more pin brings no value where there is one
+pub pinned-more : (p : ℕ) (key : OptionalDataKey) (b : Bool) → (b ≡ true → is_in_memory p key ≡ true) → is_in_memory (p + one b) key ≡ is_in_memory p key
+pinned-more p key false may = ap (λ n. is_in_memory n key) (plus-none p)
+  where
+    plus-none : (p : ℕ) → p + 0 ≡ p
+    plus-none p = omega arith
+pinned-more p key true may = let some : nat_lt 0 (p + 1) ≡ true = grind (arith, nat_tests) in rw some (sym (may refl))
+
+-- a handle that is no value's; if it pins, its node's value is in memory
+pub spares-handle : (w : Core) (node : NodeNumber) (mode : Mode) (me : Owner) → NotValues me → (is_pinning mode ≡ true → is_here w node.0 ≡ true) → Spares w (with_handle w node mode me)
+spares-handle w node mode me free may =
+    record {
+      cells = λ n. refl;
+      here = λ n. ap (λ p. is_in_memory p (key_at w n)) (sum_by_push (λ h. one (is_pin n h)) w.rows new) ∙ pinned-more (pins n w.rows) (key_at w n) (is_pin n new) (λ is. here-at n (and_parts _ _ is));
+      owned = λ n q. push-none (λ h. is_handle q h && is_owned_by (owner_value n) h) w.rows new (ap (λ b. is_handle q new && b) (not-owned n me free) ∙ and-false _);
+      bare = λ n. push-none (λ h. is_owned_by (owner_value n) h) w.rows new (not-owned n me free);
+      rows = λ n q row live own. find-both q w.rows (new ∷ []) ∙ ap (λ o. or_else o (find_row q (new ∷ []))) live;
+    }
+  where
+    new : HandleRow
+    new = row_of (w.last.handle + 1) node mode me
+
+    here-at : (n : ℕ) → ((node.0 == n) ≡ true) × (is_pinning mode ≡ true) → is_here w n ≡ true
+    here-at n (same, pinning) = subst (λ m. is_here w m ≡ true) (same-number _ _ same) (may pinning)
+
+pub spares-made : {w w' : Core} (node : NodeNumber) (mode : Mode) (me : Owner) → NotValues me → (is_pinning mode ≡ true → is_here w node.0 ≡ true) → Alike (with_handle w node mode me) w' → Spares w w'
+spares-made {w} node mode me free may a = spares-then (spares-handle w node mode me free may) (spares-alike a)
+
+-- ---- rows that change
+
+module _ (w : Core) (test : HandleRow → Bool) (f : HandleRow → HandleRow) where
+  -- those that change are no value's, before and afterwards
+  pub record ChangesFree : Type 0 where
+    pub numbers : (h : HandleRow) → (f h).number ≡ h.number
+    pub before : (h : HandleRow) → Among w.rows h → test h ≡ true → NotValues h.owner
+    pub after : (h : HandleRow) → Among w.rows h → test h ≡ true → NotValues (f h).owner
+
+  pub spares-changed : ChangesFree → ((n : ℕ) → is_in_memory (pins n (changed test f w.rows)) (key_at w n) ≡ is_here w n) → Spares w (record w { rows = changed test f w.rows })
+  spares-changed free here =
+      record {
+        cells = λ n. refl;
+        here = here;
+        owned = λ n q. sum-mapped _ _ _ w.rows
+            (λ h among. ap (λ b. one b) (by-owner n h among (λ x. is_handle q x && is_owned_by (owner_value n) x) (λ x is. ap (λ b. is_handle q x && b) is ∙ and-false _) (test h) refl));
+        bare = λ n. sum-mapped _ _ _ w.rows (λ h among. ap (λ b. one b) (by-owner n h among (λ x. is_owned_by (owner_value n) x) (λ x is. is) (test h) refl));
+        rows = λ n q row live own. found-after test f free.numbers q w.rows row live ∙ unchanged n q row live own (test row) refl;
+      }
+    where
+      by-owner : (n : ℕ) (h : HandleRow) → Among w.rows h → (c : HandleRow → Bool) → ((x : HandleRow) → is_owned_by (owner_value n) x ≡ false → c x ≡ false)
+          → (b : Bool) → test h ≡ b → c (if b then f h else h) ≡ c h
+      by-owner n h among c none true is = none (f h) (not-owned n (f h).owner (free.after h among is)) ∙ sym (none h (not-owned n h.owner (free.before h among is)))
+      by-owner n h among c none false is = refl
+
+      unchanged : (n q : ℕ) (row : HandleRow) → find_row q w.rows ≡ Some row → row.owner ≡ owner_value n → (b : Bool) → test row ≡ b → Some (if b then f row else row) ≡ Some row
+      unchanged n q row live own true is = absurd (free.before row (among-found q w.rows row live) is (record { 0 = n }) own)
+      unchanged n q row live own false is = refl
+
+-- handles of a set that aren't values' move to another who is none
+pub spares-moved : (w : Core) (set : ℕ → Bool) (owner : Owner) → NotValues owner
+    → ((h : HandleRow) → Among w.rows h → set h.number.0 ≡ true → NotValues h.owner) → Spares w (record w { rows = moved set owner w.rows })
+spares-moved w set owner free before =
+    spares-changed w (λ h. set h.number.0) (λ h. record h { owner = owner }) (record { numbers = λ h. refl; before = before; after = λ h among is. free })
+    (λ n. ap (λ p. is_in_memory p (key_at w n)) (sum-mapped _ _ _ w.rows (λ h among. same-pin n h (set h.number.0))))
+  where
+    same-pin : (n : ℕ) (h : HandleRow) (b : Bool) → one (is_pin n (if b then record h { owner = owner } else h)) ≡ one (is_pin n h)
+    same-pin n h true = refl
+    same-pin n h false = refl
+
+-- more pins keep a value in memory
+pub here-by : (p q : ℕ) (key : OptionalDataKey) → p ≤ q → is_in_memory p key ≡ true → is_in_memory q key ≡ true
+here-by zero q key le is = at (nat_lt 0 q)
+  where
+    at : (b : Bool) → (b || not (has_key key)) ≡ true
+    at true = refl
+    at false = is
+here-by (suc p) q key le is = let some : nat_lt 0 q ≡ true = grind (arith, nat_tests) in rw some refl
+
+-- the one row of a handle takes a mode that pins, where its node's value is in memory
+pub spares-mode : (w : Core) (h : HandleNumber) (mode : Mode) (row : HandleRow) → NotValues row.owner → ((x : HandleRow) → Among w.rows x → x.number.0 ≡ h.0 → x ≡ row)
+    → is_pinning mode ≡ true → is_here w row.node.0 ≡ true → Spares w (with_mode w h mode)
+spares-mode w h mode row free only pinning may =
+    spares-changed w (is_handle h.0) to (record { numbers = λ x. refl; before = λ x among is. is-free x among is; after = λ x among is. is-free x among is }) (λ n. at n (row.node.0 == n) refl)
+  where
+    to : HandleRow → HandleRow
+    to x = record x { mode = mode }
+
+    is-free : (x : HandleRow) → Among w.rows x → is_handle h.0 x ≡ true → NotValues x.owner
+    is-free x among is = subst (λ (y : HandleRow). NotValues y.owner) (sym (only x among (same-number _ _ is))) free
+
+    pin-to : ℕ → HandleRow → ℕ
+    pin-to n x = one (is_pin n (if is_handle h.0 x then to x else x))
+
+    more : (n : ℕ) (x : HandleRow) (b : Bool) → one (is_pin n x) ≤ one (is_pin n (if b then to x else x))
+    more n x true = rw pinning (le-with (x.node.0 == n) (is_pinning x.mode))
+      where
+        le-with : (a b : Bool) → one (a && b) ≤ one (a && true)
+        le-with true true = omega arith
+        le-with true false = omega arith
+        le-with false b = omega arith
+    more n x false = le-self (one (is_pin n x))
+      where
+        le-self : (k : ℕ) → k ≤ k
+        le-self k = omega arith
+
+    other : (n : ℕ) (x : HandleRow) → Among w.rows x → (row.node.0 == n) ≡ false → (b : Bool) → is_handle h.0 x ≡ b → one (is_pin n (if b then to x else x)) ≡ one (is_pin n x)
+    other n x among away true is = let e : (x.node.0 == n) ≡ false = ap (λ (y : HandleRow). y.node.0 == n) (only x among (same-number _ _ is)) ∙ away in rw e refl
+    other n x among away false is = refl
+
+    at : (n : ℕ) (b : Bool) → (row.node.0 == n) ≡ b → is_in_memory (pins n (changed (is_handle h.0) to w.rows)) (key_at w n) ≡ is_here w n
+    at n false is = ap (λ p. is_in_memory p (key_at w n)) (sum-mapped _ _ _ w.rows (λ x among. other n x among is (is_handle h.0 x) refl))
+    at n true is =
+        let here : is_here w n ≡ true = subst (λ m. is_here w m ≡ true) (same-number _ _ is) may in
+        let le = sum-le (λ x. one (is_pin n x)) (pin-to n) w.rows (λ x among. more n x (is_handle h.0 x)) in
+        let same = sum-mapped (λ x. if is_handle h.0 x then to x else x) (λ x. one (is_pin n x)) (pin-to n) w.rows (λ x among. refl) in
+        here-by (pins n w.rows) (pins n (changed (is_handle h.0) to w.rows)) (key_at w n) (le-to _ _ _ le same) here ∙ sym here
+      where
+        le-to : (a b c : ℕ) → a ≤ b → c ≡ b → a ≤ c
+        le-to a b c le same = omega arith

@@ -1,0 +1,166 @@
+-- A cascade takes no handle of a value that stays, and a value stays exactly where its node is in memory afterwards.
+use Rattle.std.proofs.Common.{◌≡◌, ℕ, ◌+◌, ◌<◌, ◌≤◌, ◌==◌, ◌&&◌, Bool, true, false, List, [], ◌∷◌, refl, ap, sym, subst, ◌∙◌, if◌then◌else◌, arith}
+use Rattle.std.specs.Prelude.{Some, None, is_some, not, nat_lt, nat_eq, cond, sum_by}
+use Rattle.std.proofs.lemmas.Bool.{and_parts}
+use Rattle.std.proofs.lemmas.Bool.Decides.{nat_tests}
+use Rattle.std.proofs.lemmas.List.Sums.{sum_by-cons, sum_by-append}
+use Rattle.pagable_model.specs.declared.data_key.OptionalDataKey.TheVariants as optional
+use Rattle.pagable_world.specs.declared.handles.HandleRow.{HandleRow}
+use Rattle.pagable_world.specs.declared.handles.Owner.TheVariants as owners
+use Rattle.pagable_world.specs.declared.rows.Mode.TheVariants as modes
+use Rattle.pagable_world.specs.Plain.{Among, one, times, if_there}
+use Rattle.pagable_world.specs.Kinds.{is_handle, is_at, is_pin, is_owned_by, owner_value, held, has_key, is_in_memory}
+use Rattle.pagable_world.specs.World.{Core, Cell, is_here}
+use Rattle.pagable_world.specs.Cascade.{is_outside, held_outside, pins_outside, owned_outside, loses_value, IsClosed, IsWithin, IsLeast, AreNewEntries, is_keyed, left_rows, Falls}
+use Rattle.pagable_laws.proofs.Sums.{same-number, self-number, one-true, sum-le, sum-zero, at-most-sum, counted}
+use Rattle.pagable_laws.proofs.Existing.{inside, wider}
+use Rattle.pagable_steps.proofs.Spared.{owns}
+use Rattle.pagable_steps.proofs.SparedParts.{and-false}
+
+above : (n : ℕ) → nat_lt 0 n ≡ true → 0 < n
+above n e = grind (arith, nat_tests)
+
+-- a handle that the node's value owns counts
+pub owned-some : (n : ℕ) (rows : List HandleRow) (h : HandleRow) → Among rows h → is_owned_by (owner_value n) h ≡ true → 0 < owns n h.number.0 rows
+owned-some n rows h among is =
+    let a = at-most-sum (λ x. one (is_handle h.number.0 x && is_owned_by (owner_value n) x)) rows h among in
+    let b : one (is_handle h.number.0 h && is_owned_by (owner_value n) h) ≡ 1 = rw (self-number h.number.0, is) refl in
+    omega (arith, a, b)
+
+-- ---- what a value owns that stays
+
+module _ (rows : List HandleRow) (keyed : ℕ → Bool) (entries : List HandleRow) (given gone : ℕ → Bool) (least : IsLeast rows keyed entries given gone)
+    (free : (n q : ℕ) → 0 < owns n q rows → given q ≡ false) (single : (n m q : ℕ) → 0 < owns n q rows → 0 < owns m q rows → m ≡ n)
+    (n : ℕ) (stays : loses_value rows keyed entries gone n ≡ false) where
+  -- what falls but for the handles of the node's value
+  abbrev less : ℕ → Bool
+  less p = gone p && not (nat_lt 0 (owns n p rows))
+
+  less-within : IsWithin rows less gone
+  less-within = sum-zero (λ h. one (less h.number.0 && not (gone h.number.0))) rows (λ h among. part (gone h.number.0) (not (nat_lt 0 (owns n h.number.0 rows))))
+    where
+      part : (a b : Bool) → one ((a && b) && not a) ≡ 0
+      part true true = refl
+      part true false = refl
+      part false b = refl
+
+  less-holds : IsWithin rows given less
+  less-holds = sum-zero (λ h. one (given h.number.0 && not (less h.number.0))) rows (λ h among. part h among (given h.number.0) refl (nat_lt 0 (owns n h.number.0 rows)) refl)
+    where
+      part : (h : HandleRow) → Among rows h → (b : Bool) → given h.number.0 ≡ b → (d : Bool) → nat_lt 0 (owns n h.number.0 rows) ≡ d → one (given h.number.0 && not (less h.number.0)) ≡ 0
+      part h among true e true f = let g = free n h.number.0 (above _ f) in absurd (cc)
+      part h among true e false f = let g = inside rows keyed entries given gone h least.holds among e in rw (e, f, g) refl
+      part h among false e d f = rw e refl
+
+  less-closed : IsClosed rows keyed entries less
+  less-closed m goes =
+      let lost = wider rows keyed entries less gone m less-within goes in
+      let none = least.closed m lost in
+      sum-zero (λ h. one (is_owned_by (owner_value m) h && not (less h.number.0))) rows
+      (λ h among. part h among lost none (is_owned_by (owner_value m) h) refl (nat_lt 0 (owns n h.number.0 rows)) refl)
+    where
+      part : (h : HandleRow) → Among rows h → loses_value rows keyed entries gone m ≡ true → owned_outside rows gone m ≡ 0 → (b : Bool) → is_owned_by (owner_value m) h ≡ b
+          → (d : Bool) → nat_lt 0 (owns n h.number.0 rows) ≡ d → one (is_owned_by (owner_value m) h && not (less h.number.0)) ≡ 0
+      part h among lost none false e d f = rw e refl
+      part h among lost none true e true f =
+          let same = single n m h.number.0 (above _ f) (owned-some m rows h among e) in
+          let g : loses_value rows keyed entries gone n ≡ true = ap (loses_value rows keyed entries gone) (sym same) ∙ lost in
+          absurd (cc)
+      part h among lost none true e false f =
+          let a = at-most-sum (λ x. one (is_owned_by (owner_value m) x && is_outside gone x)) rows h among in
+          let g = falls (gone h.number.0) (is_owned_by (owner_value m) h) e a none in
+          rw (e, f, g) refl
+        where
+          falls : {k : ℕ} (b c : Bool) → c ≡ true → one (c && not b) ≤ k → k ≡ 0 → b ≡ true
+          falls true c is le e = refl
+          falls false true is le e = absurd (omega arith)
+          falls false false is le e = absurd (cc)
+
+  pub keeps : (q : ℕ) → 0 < owns n q rows → gone q ≡ false
+  keeps q some = at (gone q) refl (counted (λ h. one (is_handle q h && is_owned_by (owner_value n) h)) rows some)
+    where
+      at : (b : Bool) → gone q ≡ b → (h : HandleRow) × Among rows h × (0 < one (is_handle q h && is_owned_by (owner_value n) h)) → gone q ≡ false
+      at false e own = e
+      at true e (h, among, own) =
+          let number : h.number.0 ≡ q = same-number _ _ (and_parts (is_handle q h) (is_owned_by (owner_value n) h) (one-true _ own)).0 in
+          let a : less h.number.0 ≡ true = inside rows keyed entries gone less h (least.least less less-holds less-closed) among (ap gone number ∙ e) in
+          let b : nat_lt 0 (owns n h.number.0 rows) ≡ true = let c = subst (λ p. 0 < owns n p rows) (sym number) some in grind (arith, nat_tests) in
+          let c : less h.number.0 ≡ false = rw b (and-false (gone h.number.0)) in
+          absurd (cc)
+
+-- ---- what is counted afterwards
+
+-- the same of each element, so in sum
+pub sum-same : {X : Type 0} (f g : X → ℕ) (xs : List X) → ((x : X) → Among xs x → f x ≡ g x) → sum_by f xs ≡ sum_by g xs
+sum-same f g xs each =
+    let le = sum-le f g xs (λ x among. let e = each x among in omega (arith, e)) in
+    let ge = sum-le g f xs (λ x among. let e = each x among in omega (arith, e)) in
+    omega (arith, le, ge)
+
+times-left : (t : HandleRow → Bool) (gone : ℕ → Bool) (rows : List HandleRow) → times t (left_rows gone rows) ≡ times (λ h. t h && is_outside gone h) rows
+times-left t gone [] = refl
+times-left t gone (x ∷ xs) = at (gone x.number.0) (times-left t gone xs) ∙ sym (sum_by-cons (λ h. one (t h && is_outside gone h)) x xs)
+  where
+    and-true : (b : Bool) → one (b && true) ≡ one b
+    and-true true = refl
+    and-true false = refl
+
+    rest : ℕ
+    rest = times (λ h. t h && is_outside gone h) xs
+
+    none : (a b : ℕ) → a ≡ 0 → b ≡ a + b
+    none a b e = omega (arith, e)
+
+    at : (b : Bool) → times t (left_rows gone xs) ≡ rest → times t (cond (not b) (x ∷ left_rows gone xs) (left_rows gone xs)) ≡ one (t x && not b) + rest
+    at true same = same ∙ none _ _ (ap one (and-false (t x)))
+    at false same = sum_by-cons (λ h. one (t h)) x (left_rows gone xs) ∙ (ap (λ n. one (t x) + n) same ∙ ap (λ n. n + rest) (sym (and-true (t x))))
+
+-- new entries pin nothing, and only the list owns them
+entries-none : (t : HandleRow → Bool) → ((h : HandleRow) → h.mode ≡ modes.LooseUnpinned → h.owner ≡ owners.List → t h ≡ false) → (last : ℕ) (entries : List HandleRow)
+    → AreNewEntries last entries → times t entries ≡ 0
+entries-none t none last [] new = refl
+entries-none t none last (x ∷ xs) (number, mode, owner, new) =
+    let a = sum_by-cons (λ h. one (t h)) x xs in
+    let b : one (t x) ≡ 0 = ap one (none x mode owner) in
+    let rest = entries-none t none (last + 1) xs new in
+    omega (arith, a, b, rest)
+
+module _ {before w w' : Core} {given : ℕ → Bool} {r : _} (f : Falls before w given r w') where
+  -- what is counted of the rows left and of the entries
+  counts : (t : HandleRow → Bool) → times t w'.rows ≡ times (λ h. t h && is_outside f.gone h) w.rows + times t f.entries
+  counts t = ap (times t) f.leaves.rows ∙ (sum_by-append (λ h. one (t h)) (left_rows f.gone w.rows) f.entries ∙ ap (λ n. n + times t f.entries) (times-left t f.gone w.rows))
+
+  -- the same, where no entry counts
+  pub counts-left : (t : HandleRow → Bool) → ((h : HandleRow) → h.mode ≡ modes.LooseUnpinned → h.owner ≡ owners.List → t h ≡ false) → times t w'.rows ≡ times (λ h. t h && is_outside f.gone h) w.rows
+  counts-left t none = let a = counts t in let b = entries-none t none w.last.handle f.entries f.new in omega (arith, a, b)
+
+  entry-unpinned : (n : ℕ) (h : HandleRow) → h.mode ≡ modes.LooseUnpinned → h.owner ≡ owners.List → is_pin n h ≡ false
+  entry-unpinned n h mode owner = rw mode (and-false (h.node.0 == n))
+
+  -- a node has lost its value exactly where it isn't in memory any more
+  pub loses : (n : ℕ) (cell : Cell) → w.cells n ≡ Some cell → loses_value w.rows (is_keyed w) f.entries f.gone n ≡ not (is_some (w'.cells n) && is_here w' n)
+  loses n cell live =
+      let ho = held_outside w.rows f.gone n in
+      let po = pins_outside w.rows f.gone n in
+      let he = held n f.entries in
+      let c = counts (is_at n) in
+      let p = counts-left (is_pin n) (entry-unpinned n) in
+      let fewer : po ≤ ho = sum-le (λ h. one (is_pin n h && is_outside f.gone h)) (λ h. one (is_at n h && is_outside f.gone h)) w.rows (λ h among. pin-at (is_at n h) _ (is_outside f.gone h)) in
+      let cells : w'.cells n ≡ (if nat_lt 0 (ho + he) then Some cell else None) =
+      f.leaves.cells n ∙ (ap (λ k. if nat_lt 0 k then w.cells n else None) (sym (ap (held n) f.leaves.rows) ∙ c) ∙ ap (λ o. if nat_lt 0 (ho + he) then o else None) live) in
+      let keyed : is_keyed w n ≡ has_key cell.key = ap (λ o. has_key (if_there (λ (x : Cell). x.key) optional.None o)) live in
+      rw (keyed, cells, p) (by-number ho po he fewer (nat_lt 0 (ho + he)) refl (has_key cell.key) refl)
+    where
+      pin-at : (a b c : Bool) → one ((a && b) && c) ≤ one (a && c)
+      pin-at false b c = omega arith
+      pin-at true false true = omega arith
+      pin-at true false false = omega arith
+      pin-at true true c = omega arith
+
+      by-number : (ho po he : ℕ) → po ≤ ho → (b : Bool) → nat_lt 0 (ho + he) ≡ b → (k : Bool) → has_key cell.key ≡ k
+          → (if k then nat_eq po 0 else nat_eq he 0 && nat_eq ho 0)
+          ≡ not (is_some (if b then Some cell else None) && is_in_memory po (if_there (λ (x : Cell). x.key) optional.None (if b then Some cell else None)))
+      by-number ho po he fewer true e true k = rw k (grind (arith, nat_tests))
+      by-number ho po he fewer true e false k = rw k (grind (arith, nat_tests))
+      by-number ho po he fewer false e true k = grind (arith, nat_tests)
+      by-number ho po he fewer false e false k = grind (arith, nat_tests)

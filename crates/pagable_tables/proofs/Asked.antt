@@ -1,0 +1,30 @@
+-- What a load asks of the tables.
+use Rattle.std.proofs.Common.{◌≡◌, ℕ, true, ap, sym, subst, arith, Ok, Err, Option, Some, None, inl, inr}
+use Rattle.std.specs.Prelude.{Result}
+use Rattle.pagable_model.specs.declared.error.Error.{Error}
+use Rattle.pagable_model.specs.declared.numbers.HandleNumber.{HandleNumber}
+use Rattle.pagable_model.specs.declared.numbers.LoadNumber.{LoadNumber}
+use Rattle.pagable_model.specs.declared.numbers.Kind.{Kind}
+use Rattle.pagable_world.specs.declared.handles.Owner.{Owner}
+use Rattle.pagable_world.specs.declared.handles.Owner.TheVariants as owners
+use Rattle.pagable_world.specs.World.{Core, OpenLoad}
+use Rattle.pagable_world.specs.Refusals.{earlier, load_fault, OwnsLoad, Refused, AreHandlesFull}
+use Rattle.pagable_world.specs.Calls.{is_usable, recall_fault, RecallCall}
+use Rattle.pagable_tables.specs.Asking.{AsksKnown}
+use Rattle.pagable_tables.proofs.Opened.{earlier-first, load-low, no-load-fault, number-late}
+use Rattle.pagable_tables.proofs.Worlds.{still}
+
+pub recalls-asked : (w : Core) (me : Owner) (l : LoadNumber) (load : OpenLoad) (kind : Kind) (key : ℕ) (r : Result (Option HandleNumber) Error) (w' : Core) → OwnsLoad w me l load → RecallCall w (owners.Load l) kind key r w' → AsksKnown w me l kind key r w'
+recalls-asked w me l load kind key (Ok found) w' own call = record { gives = (load, own, call.answers); refused = tt }
+recalls-asked w me l load kind key (Err e) w' own call =
+    record {
+      gives = tt;
+      refused = subst (λ f. Refused f f ((is_usable w kind key ≡ true) × AreHandlesFull w) w e w') (sym (ap (λ f. earlier f (recall_fault w kind key)) (no-load-fault w me l load own))) call.refused;
+    }
+
+pub not-asked : (w : Core) (me : Owner) (l : LoadNumber) (kind : Kind) (key : ℕ) (e : Error) → load_fault w me l ≡ Some e → AsksKnown w me l kind key (Err e) w
+not-asked w me l kind key e is =
+    record {
+      gives = tt;
+      refused = record { why = inl (earlier-first (load_fault w me l) (recall_fault w kind key) e is (λ f late. let a = load-low w me l e is in let b = number-late (is_usable w kind key) w.last.handle f late in omega arith)); stays = still w };
+    }

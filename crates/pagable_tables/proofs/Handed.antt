@@ -1,0 +1,136 @@
+-- Handles that are named come to another owner, one after the other.
+use Rattle.std.proofs.Common.{◌≡◌, ℕ, ◌+◌, ◌<◌, ◌≤◌, ◌==◌, ◌||◌, Bool, true, false, if◌then◌else◌, List, [], ◌∷◌, length, get_or, drop, map, refl, ap, sym, ◌∙◌, arith, suc, zero, Some, None}
+use Rattle.std.proofs.lemmas.Bool.Decides.{nat_tests}
+use Rattle.std.proofs.lemmas.List.{at_drop_more, at_drop_all}
+use Rattle.pagable_model.specs.declared.numbers.HandleNumber.{HandleNumber}
+use Rattle.pagable_world.specs.declared.handles.HandleRow.{HandleRow}
+use Rattle.pagable_world.specs.declared.handles.Owner.{Owner}
+use Rattle.pagable_world.specs.Plain.{is_in, changed}
+use Rattle.pagable_world.specs.Kinds.{is_handle, find_row}
+use Rattle.pagable_world.specs.Cascade.{only_handle}
+use Rattle.pagable_world.specs.Calls.{moved}
+use Rattle.pagable_world.specs.LoadCalls.{numbers_of}
+use Rattle.pagable_tables.specs.Falling.{is_valued}
+use Rattle.pagable_tables.specs.Named.{seen, named_at, IsNamed}
+use Rattle.pagable_tables.proofs.Seen.{in-none, in-more}
+use Rattle.pagable_tables.proofs.keeps.Rows.{found-map}
+
+-- the set is told by another test
+pub moved-same : (s s' : ℕ → Bool) (o : Owner) (rows : List HandleRow) → ((q : ℕ) → s q ≡ s' q) → moved s o rows ≡ moved s' o rows
+moved-same s s' o rows same = ap (λ (s : ℕ → Bool). moved s o rows) (λ i q. same q i)
+
+moved-none : (s : ℕ → Bool) (o : Owner) (rows : List HandleRow) → ((q : ℕ) → s q ≡ false) → rows ≡ moved s o rows
+moved-none s o [] none = refl
+moved-none s o (x ∷ xs) none = ap (λ r. x ∷ r) (moved-none s o xs none) ∙ sym (ap (λ b. (if b then record x { owner = o } else x) ∷ moved s o xs) (none x.number.0))
+
+pub none-moved : (hs : List HandleNumber) (o : Owner) (rows : List HandleRow) → rows ≡ moved (is_in (seen hs 0)) o rows
+none-moved hs o rows = moved-none (is_in (seen hs 0)) o rows (in-none hs)
+
+abbrev to : (ℕ → Bool) → Owner → HandleRow → HandleRow
+to s o row = if s row.number.0 then record row { owner = o } else row
+
+to-number : (s : ℕ → Bool) (o : Owner) (x : HandleRow) → (to s o x).number.0 ≡ x.number.0
+to-number s o x = split (s x.number.0)
+  where
+    split : (b : Bool) → (if b then record x { owner = o } else x).number.0 ≡ x.number.0
+    split true = refl
+    split false = refl
+
+twice : (s : ℕ → Bool) (h : HandleNumber) (o : Owner) (x : HandleRow) → to (only_handle h) o (to s o x) ≡ to (λ q. h.0 == q || s q) o x
+twice s h o x = split (s x.number.0) (h.0 == x.number.0) refl refl
+  where
+    only : (b : Bool) (y : HandleRow) → y.number.0 ≡ x.number.0 → (h.0 == x.number.0) ≡ b → only_handle h y.number.0 ≡ b
+    only true y same e = let n : y.number.0 ≡ h.0 = grind (arith, nat_tests) in grind (arith, nat_tests)
+    only false y same e = grind (arith, nat_tests)
+
+    split : (a b : Bool) → s x.number.0 ≡ a → (h.0 == x.number.0) ≡ b → to (only_handle h) o (to s o x) ≡ to (λ q. h.0 == q || s q) o x
+    split true true e f =
+        ap (λ a. to (only_handle h) o (if a then record x { owner = o } else x)) e ∙ ap (λ b. if b then record x { owner = o } else record x { owner = o }) (only true (record x { owner = o }) refl f)
+        ∙ sym (ap (λ b. if b || s x.number.0 then record x { owner = o } else x) f)
+    split true false e f =
+        ap (λ a. to (only_handle h) o (if a then record x { owner = o } else x)) e ∙ ap (λ b. if b then record x { owner = o } else record x { owner = o }) (only false (record x { owner = o }) refl f)
+        ∙ sym (ap (λ b. if b || s x.number.0 then record x { owner = o } else x) f ∙ ap (λ a. if a then record x { owner = o } else x) e)
+    split false true e f =
+        ap (λ a. to (only_handle h) o (if a then record x { owner = o } else x)) e ∙ ap (λ b. if b then record x { owner = o } else x) (only true x refl f)
+        ∙ sym (ap (λ b. if b || s x.number.0 then record x { owner = o } else x) f)
+    split false false e f =
+        ap (λ a. to (only_handle h) o (if a then record x { owner = o } else x)) e ∙ ap (λ b. if b then record x { owner = o } else x) (only false x refl f)
+        ∙ sym (ap (λ b. if b || s x.number.0 then record x { owner = o } else x) f ∙ ap (λ a. if a then record x { owner = o } else x) e)
+
+moved-twice : (s : ℕ → Bool) (h : HandleNumber) (o : Owner) (rows : List HandleRow) → moved (only_handle h) o (moved s o rows) ≡ moved (λ q. h.0 == q || s q) o rows
+moved-twice s h o [] = refl
+moved-twice s h o (x ∷ xs) = ap (λ r. to (only_handle h) o (to s o x) ∷ r) (moved-twice s h o xs) ∙ ap (λ y. y ∷ moved (λ q. h.0 == q || s q) o xs) (twice s h o x)
+
+-- one more is moved
+pub one-moved : (hs : List HandleNumber) (p : ℕ) (o : Owner) (rows rows' rows'' : List HandleRow) (h : HandleNumber) → h.0 ≡ named_at hs p → rows' ≡ moved (is_in (seen hs p)) o rows → rows'' ≡ moved (only_handle h) o rows' → rows'' ≡ moved (is_in (seen hs (p + 1))) o rows
+one-moved hs p o rows rows' rows'' h same is next =
+    next ∙ ap (moved (only_handle h) o) is ∙ moved-twice (is_in (seen hs p)) h o rows
+    ∙ moved-same (λ q. h.0 == q || is_in (seen hs p) q) (is_in (seen hs (p + 1))) o rows (λ q. ap (λ m. m == q || is_in (seen hs p) q) same ∙ sym (in-more hs p q))
+
+-- what is found of moved rows
+found-there : (f : HandleRow → HandleRow) → ((h : HandleRow) → (f h).number.0 ≡ h.number.0) → (q : ℕ) (rows : List HandleRow) (row : HandleRow) → find_row q rows ≡ Some row → find_row q (map f rows) ≡ Some (f row)
+unfolding find_row
+found-there f same q [] row is = absurd (cc)
+found-there f same q (x ∷ xs) row is = split (is_handle q x) refl (found-there f same q xs row)
+  where
+    split : (b : Bool) → is_handle q x ≡ b → (find_row q xs ≡ Some row → find_row q (map f xs) ≡ Some (f row)) → (if is_handle q (f x) then Some (f x) else find_row q (map f xs)) ≡ Some (f row)
+    split true e rest =
+        let e' : is_handle q (f x) ≡ true = ap (λ n. n == q) (same x) ∙ e in
+        let h : Some x ≡ Some row = sym (ap (λ b. if b then Some x else find_row q xs) e) ∙ is in
+        ap (λ b. if b then Some (f x) else find_row q (map f xs)) e' ∙ (let s : x ≡ row = cc in ap (λ y. Some (f y)) s)
+    split false e rest =
+        let e' : is_handle q (f x) ≡ false = ap (λ n. n == q) (same x) ∙ e in
+        ap (λ b. if b then Some (f x) else find_row q (map f xs)) e' ∙ rest (sym (ap (λ b. if b then Some x else find_row q xs) e) ∙ is)
+
+still-plain : (s : ℕ → Bool) (o : Owner) (x : HandleRow) → is_valued o ≡ false → is_valued x.owner ≡ false → is_valued (to s o x).owner ≡ false
+still-plain s o x plain none = split (s x.number.0)
+  where
+    split : (b : Bool) → is_valued (if b then record x { owner = o } else x).owner ≡ false
+    split true = plain
+    split false = none
+
+-- a handle that is named stays so while others move
+pub named-still : (hs : List HandleNumber) (p q : ℕ) (o : Owner) (rows rows' : List HandleRow) → rows' ≡ moved (is_in (seen hs p)) o rows → is_valued o ≡ false → IsNamed rows q → IsNamed rows' q
+named-still hs p q o rows rows' is plain n =
+    record {
+      row = to (is_in (seen hs p)) o n.row;
+      found = ap (find_row q) is ∙ found-there (to (is_in (seen hs p)) o) (to-number (is_in (seen hs p)) o) q rows n.row n.found;
+      plain = still-plain (is_in (seen hs p)) o n.row plain n.plain;
+    }
+
+-- all that were seen
+or-none : (b : Bool) → (b || false) ≡ b
+or-none true = refl
+or-none false = refl
+
+in-first : (q : ℕ) (h : HandleNumber) (xs : List HandleNumber) → is_in (numbers_of (h ∷ xs)) q ≡ (h.0 == q || is_in (numbers_of xs) q)
+unfolding is_in
+in-first q h xs = refl
+
+in-nothing : (q : ℕ) → is_in [] q ≡ false
+unfolding is_in
+in-nothing q = refl
+
+seen-so-far : (hs : List HandleNumber) (q n : ℕ) → n ≤ length hs → (is_in (seen hs n) q || is_in (numbers_of (drop n hs)) q) ≡ is_in (numbers_of hs) q
+seen-so-far hs q zero le = ap (λ b. b || is_in (numbers_of hs) q) (in-none hs q)
+seen-so-far hs q (suc n) le =
+    let e : suc n ≡ n + 1 = omega arith in
+    let a = seen-so-far hs q n (omega arith) in
+    let b = at_drop_more (λ xs. is_in (numbers_of xs) q) hs n (record { 0 = 0 }) (omega arith) in
+    let d = in-more hs n q in
+    ap (λ m. is_in (seen hs m) q || is_in (numbers_of (drop m hs)) q) e ∙ ap (λ s. s || is_in (numbers_of (drop (n + 1) hs)) q) d ∙ swap (named_at hs n == q) (is_in (seen hs n) q) (is_in (numbers_of (drop (n + 1) hs)) q)
+    ∙ sym (ap (λ s. is_in (seen hs n) q || s) (b ∙ in-first q (get_or hs n (record { 0 = 0 })) (drop (n + 1) hs))) ∙ a
+  where
+    swap : (a b c : Bool) → ((a || b) || c) ≡ (b || (a || c))
+    swap true true c = refl
+    swap true false c = refl
+    swap false b c = refl
+
+pub seen-all : (hs : List HandleNumber) (q : ℕ) → is_in (seen hs (length hs)) q ≡ is_in (numbers_of hs) q
+seen-all hs q =
+    sym (or-none (is_in (seen hs (length hs)) q))
+    ∙ sym (ap (λ b. is_in (seen hs (length hs)) q || b) (at_drop_all (λ xs. is_in (numbers_of xs) q) hs (length hs) (omega arith) ∙ in-nothing q))
+    ∙ seen-so-far hs q (length hs) (omega arith)
+
+pub all-moved : (hs : List HandleNumber) (p : ℕ) (o : Owner) (rows rows' : List HandleRow) → p ≡ length hs → rows' ≡ moved (is_in (seen hs p)) o rows → rows' ≡ moved (is_in (numbers_of hs)) o rows
+all-moved hs p o rows rows' end is = is ∙ ap (λ p. moved (is_in (seen hs p)) o rows) end ∙ moved-same (is_in (seen hs (length hs))) (is_in (numbers_of hs)) o rows (seen-all hs)

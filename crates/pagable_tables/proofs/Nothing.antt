@@ -1,0 +1,97 @@
+-- Tables of nothing are whole.
+use Rattle.std.proofs.Common.{◌≡◌, ℕ, ◌<◌, ◌≤◌, Bool, true, false, [], length, refl, ap, sym, subst, ◌∙◌, arith, inl, Some, None, nat_eq, sum_by}
+use Rattle.std.specs.Prelude.{Option, is_some, nat_lt}
+use Rattle.std.specs.Option.{option_map, option_map_or}
+use Rattle.indexmap.specs.IndexMap.{get}
+use Rattle.pagable_model.specs.declared.numbers.NodeNumber.{NodeNumber}
+use Rattle.pagable_world.specs.declared.handles.HandleRow.{HandleRow}
+use Rattle.pagable_world.specs.Plain.{Among, is_in}
+use Rattle.pagable_world.specs.Kinds.{pins, held, sharing}
+use Rattle.pagable_world.specs.World.{Core}
+use Rattle.pagable_world.specs.Pager as pager
+use Rattle.pagable_tables.specs.declared.rows.NodeRow.{NodeRow}
+use Rattle.pagable_tables.specs.declared.rows.Counts.{Counts}
+use Rattle.pagable_tables.specs.declared.tables.Tables.{Tables}
+use Rattle.pagable_tables.specs.Live.{live, AreSound}
+use Rattle.pagable_tables.specs.ByNumber.{counts_at, refs_at, load_at, known_at}
+use Rattle.pagable_tables.specs.Falling.{pins_in, holds_in, falls_in, cell_in, named, owns, Right, IsFalling, owns_nothing}
+use Rattle.pagable_tables.specs.Core.{IsWhole, plain_of, load_in}
+
+in-none : (v : ℕ) → is_in [] v ≡ false
+unfolding is_in
+in-none v = refl
+
+module _ (t : Tables) (sound : AreSound t.holdings.handles) (rows : t.holdings.handles.places.items ≡ []) (found : (n : ℕ) → get nat_eq t.holdings.nodes n ≡ None) (list : t.holdings.list.items ≡ [])
+    (cache : (kind key : ℕ) → known_at t.cache kind key ≡ None) (loads : (l : ℕ) → load_at t.loads l ≡ None) (workers : t.workers.items ≡ [])
+    (last : (t.holdings.top ≡ 0) × (t.holdings.last_handle ≡ 0) × (t.last_node ≡ 0) × (t.last_load ≡ 0)) where
+  none : (n : ℕ) → counts_at t.holdings.nodes n ≡ None
+  none n = ap (option_map (λ (r : NodeRow). r.counts)) (found n)
+
+  bare : (n : ℕ) → refs_at t.holdings.nodes n ≡ []
+  bare n = ap (λ o. option_map_or (λ (r : NodeRow). r.references.items) o []) (found n)
+
+  empty : live t.holdings.handles.places.items ≡ []
+  empty = ap live rows
+
+  steady : IsFalling t.holdings [] owns_nothing
+  steady =
+      record {
+        sound = sound;
+        next = rw rows (λ k d lt. absurd (omega arith));
+        fits = record {
+          pinned = λ n. ap pins_in (none n) ∙ sym (ap (pins n) empty);
+          holding = λ n. ap holds_in (none n) ∙ sym (ap (held n) empty);
+          owned = λ n q. rw (bare n, empty) refl;
+          chain = last.0;
+          marked = λ n. rw (none n) refl;
+          right = λ n. rw (none n) (bare n);
+          from_one = none 0;
+        };
+      }
+
+  abbrev w : Core
+  w = plain_of t
+
+  nobody : (h : HandleRow) → Among w.rows h → ⊥
+  nobody h among = let a = subst (λ rs. Among rs h) empty among in absurd (cc)
+
+  no-cell : (n : ℕ) → w.cells n ≡ None
+  no-cell n = ap cell_in (none n)
+
+  pub nothing-whole : IsWhole t
+  nothing-whole =
+      record {
+        steady = steady;
+        core = record {
+          handles = record {
+            ordered = rw empty (λ i j d lt le. absurd (omega arith));
+            numbered = λ h among. absurd (nobody h among);
+            nodes_numbered = λ n some. absurd (gone n some);
+            within = (rw last.1 (omega arith), rw last.2 (omega arith), rw last.3 (omega arith));
+            live = λ n. rw (none n, empty) refl;
+            uniform = λ n. inl (rw empty refl);
+            unkeyed = λ n some. absurd (let z : sharing n w.rows ≡ 0 = rw empty refl in omega arith);
+            places = (rw empty (omega arith), (let e = ap (λ qs. length qs) list in omega arith));
+          };
+          owners_there = record {
+            listed = λ q. rw (empty, list) refl;
+            waiting = λ h among. absurd (nobody h among);
+            loads = λ h l among. absurd (nobody h among);
+            workers = λ h v among. absurd (nobody h among);
+          };
+          loads = record {
+            numbered = λ l some. absurd (closed l some);
+            owned = λ l load is. absurd (let f : None ≡ Some load = sym (ap (option_map load_in) (loads l)) ∙ is in cc);
+            roots = λ l load node k h is. absurd (let f : None ≡ Some load = sym (ap (option_map load_in) (loads l)) ∙ is in cc);
+          };
+          cache = λ kind key n is. absurd (let f : None ≡ Some n = sym (ap (option_map (λ (m : NodeNumber). m.0)) (cache kind key)) ∙ is in cc);
+          workers_numbered = λ v is. absurd (let f : false ≡ true = sym (in-none v) ∙ sym (ap (λ ws. is_in ws v) workers) ∙ is in cc);
+          shut = λ is. absurd (cc);
+        };
+      }
+    where
+      gone : (n : ℕ) → is_some (w.cells n) ≡ true → ⊥
+      gone n some = let f : false ≡ true = sym (ap is_some (no-cell n)) ∙ some in absurd (cc)
+
+      closed : (l : ℕ) → is_some (w.loads l) ≡ true → ⊥
+      closed l some = let f : false ≡ true = sym (ap (λ o. is_some (option_map load_in o)) (loads l)) ∙ some in absurd (cc)

@@ -1,0 +1,43 @@
+-- Values that go as nodes fall.
+use Rattle.std.proofs.Common.{◌≡◌, ℕ, Bool, true, false, [], refl, ap, sym, ◌∙◌, arith, inl, inr, Some, None, Option, if◌then◌else◌}
+use Rattle.std.specs.Prelude.{◌⊎◌, is_some}
+use Rattle.std.proofs.lemmas.Bool.Decides.{nat_tests}
+use Rattle.pagable_tables.specs.declared.rows.Counts.{Counts}
+use Rattle.pagable_tables.specs.declared.holdings.Holdings.{Holdings}
+use Rattle.pagable_tables.specs.ByNumber.{counts_at}
+use Rattle.pagable_tables.specs.Falling.{IsFalling, ValueStays, Sheds, falls_in, has_value, owns_nothing}
+
+-- the value that a node had is there or gone, and it is there exactly where the node has it, unless the node falls
+abbrev pub Lasting : {X : Type 0} → Option Counts → Option X → Option X → Type 0
+Lasting o old now = ((now ≡ old) ⊎ (now ≡ None)) × (falls_in o ≡ false → is_some now ≡ has_value o)
+
+pub lasts-on : {X : Type 0} (done : Bool) (o o' : Option Counts) (old now now' : Option X) → now' ≡ (if done then None else now) → (done ≡ false → ValueStays o o')
+    → (done ≡ true → has_value o' ≡ false) → Lasting o old now → Lasting o' old now'
+lasts-on true o o' old now now' is stays gone l = (inr is, λ falls. ap is_some is ∙ sym (gone refl))
+lasts-on false o o' old now now' is stays gone l = (
+  elim (l.0) [ inl eq ↦ inl (is ∙ eq) | inr eq ↦ inr (is ∙ eq) ],
+  λ falls. let s = stays refl falls in ap is_some is ∙ l.1 s.0 ∙ sym s.1,
+)
+
+-- nothing falls
+pub none-falls-in : (t : Holdings) → IsFalling t [] owns_nothing → (n : ℕ) → falls_in (counts_at t.nodes n) ≡ false
+none-falls-in t w n = let m = w.fits.marked n in grind (arith, nat_tests)
+
+module _ {X : Type 0} where
+  -- nothing has happened
+  pub sheds-still : (t : Holdings) (values : ℕ → Option X) → IsFalling t [] owns_nothing → Sheds (counts_at t.nodes) values (counts_at t.nodes) values
+  sheds-still t values w = record { left = λ kept n. (inl refl, kept n (none-falls-in t w n)) }
+
+  -- one after another
+  pub sheds-then : {at at1 at2 : ℕ → Option Counts} {old mid new : ℕ → Option X} → Sheds at old at1 mid → Sheds at1 mid at2 new → Sheds at old at2 new
+  sheds-then {old = old} {mid} {new} a b =
+      record {
+        left = λ kept n.
+            let l = a.left kept in
+            let m = b.left (λ k falls. (l k).1) n in
+            (elim m.0 [ inl eq ↦ elim (l n).0 [ inl e ↦ inl (eq ∙ e) | inr e ↦ inr (eq ∙ e) ] | inr eq ↦ inr eq ], m.1);
+      }
+
+  -- what takes no value comes first
+  pub stays-first : {at at1 at2 : ℕ → Option Counts} {old new : ℕ → Option X} → ((n : ℕ) → ValueStays (at n) (at1 n)) → Sheds at1 old at2 new → Sheds at old at2 new
+  stays-first stays b = record { left = λ kept. b.left (λ k falls. let s = stays k falls in kept k s.0 ∙ sym s.1) }

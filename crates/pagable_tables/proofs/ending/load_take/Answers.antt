@@ -1,0 +1,96 @@
+use Rattle.std.proofs.Common.{◌≡◌, ℕ, ◌+◌, ◌≤◌, ◌<◌, ◌&&◌, Bool, true, false, not, length, arith, refl, ap, sym, ◌∙◌, subst, Some, None}
+use Rattle.std.specs.Option.{option_map}
+use Rattle.pagable_model.specs.declared.error.Error.TheVariants as errors
+use Rattle.pagable_world.specs.declared.handles.Owner.TheVariants as owners
+use Rattle.pagable_world.specs.Plain.{is_in, if_there}
+use Rattle.pagable_world.specs.Kinds.{is_owner}
+use Rattle.pagable_world.specs.World.{OpenLoad}
+use Rattle.pagable_world.specs.Cascade.{Falls}
+use Rattle.pagable_world.specs.Refusals.{refused_if}
+use Rattle.pagable_world.specs.LoadCalls.{is_owned_in, numbers_of}
+use Rattle.indexmap.specs.IndexMap.{get}
+use Rattle.std.specs.Prelude.{nat_eq}
+use Rattle.pagable_tables.specs.Falling.{Sheds}
+use Rattle.pagable_tables.specs.ByNumber.{load_at, counts_at}
+use Rattle.pagable_tables.specs.Core.{core_of, plain_of, load_in}
+use Rattle.pagable_tables.specs.Onward.{with_tables}
+use Rattle.pagable_tables.specs.declared.holdings.Holdings.{Holdings}
+use Rattle.pagable_tables.proofs.Dropped.{load-closed, owned-given, loads-anew}
+use Rattle.pagable_tables.proofs.Taken.{moved-less, begun-moved, loaded-moved, no-load, may-hand, named-there, still-listed, and-left, MayHand}
+use Rattle.pagable_tables.proofs.keeps.Comes.{not-a-value}
+use Rattle.pagable_tables.proofs.keeps.LoadCalls.{may-hold}
+use Rattle.pagable_tables.proofs.Begun.{not-closed}
+use Rattle.pagable_tables.proofs.keeps.EndCalls.{hand-over-whole}
+use Rattle.pagable_tables.proofs.keeps.Placed.{whole-so}
+use Rattle.pagable_tables.proofs.Newer.{take-newer, later-so, closed-still}
+use Rattle.pagable_tables.proofs.ending.load_take.Goals as goal
+
+pub unreachable-requires : goal.unreachable-requires
+unreachable-requires g c =
+    let t = c.args.t.now in
+    let can : MayHand (plain_of t) c.args.me c.args.load c.args.named.now = may-hand c.requires.whole.core c.args.me c.args.load c.args.named.now (sym (c.hand_over_fault.ensures (λ key. None) false 0) ∙ c.in_default.is) in
+    let gone = ap (λ o. if_there (λ (load : OpenLoad). refused_if (not (is_owner c.args.me load.owner)) errors.NotYours) (Some errors.NoSuchHandle) (option_map load_in o)) (sym c.load_of.ensures ∙ c.in_default-load_of.is) in
+    absurd (let a = sym gone ∙ can.own in cc)
+
+pub hand_each-requires-clause-plain : goal.hand_each-requires-clause-plain
+hand_each-requires-clause-plain g c =
+    let w = plain_of c.args.t.now in
+    let can : MayHand w c.args.me c.args.load c.args.named.now = may-hand c.requires.whole.core c.args.me c.args.load c.args.named.now (sym (c.hand_over_fault.ensures (λ key. None) false 0) ∙ c.in_default.is) in
+    not-a-value w c.args.me (may-hold w c.args.me can.may)
+
+pub hand_each-requires-clause-there : goal.hand_each-requires-clause-there
+hand_each-requires-clause-there g c =
+    let w = plain_of c.args.t.now in
+    let can : MayHand w c.args.me c.args.load c.args.named.now = may-hand c.requires.whole.core c.args.me c.args.load c.args.named.now (sym (c.hand_over_fault.ensures (λ key. None) false 0) ∙ c.in_default.is) in
+    named-there w c.args.load c.args.named.now can.named
+
+pub returns-clause-taken : goal.returns-clause-taken
+returns-clause-taken g c stored closed failures e =
+    let t = c.args.t.now in
+    let me = c.args.me in
+    let l = c.args.load in
+    let hs = c.args.named.now in
+    let s = is_in (numbers_of hs) in
+    let p = plain_of t in
+    let w = core_of t stored closed failures in
+    let w' = core_of (record t { holdings = c.give_up_load.new.t; loads = c.close.new.loads }) stored closed failures in
+    let u = moved-less w l s me in
+    let h = c.hand_each.new.t in
+    let can : MayHand p me l hs = may-hand c.requires.whole.core me l hs (sym (c.hand_over_fault.ensures (λ key. None) false 0) ∙ c.in_default.is) in
+    let left : (q : ℕ) → is_owned_in u (owners.Load l) q ≡ (is_owned_in w (owners.Load l) q && not (s q)) = λ q. loaded-moved s me l q w.rows (no-load p me l can.may) in
+    let so-far = begun-moved t h l s me stored closed c.args.lists failures c.requires.whole e c.hand_each.ensures.same c.hand_each.ensures.rows
+        (record { handles = (let a = c.hand_each.ensures.capacity in omega arith); entries = (let a = ap (λ (k : Holdings). (with_tables w k).places.entries) c.hand_each.ensures.same in omega arith) })
+        (still-listed c.requires.whole.core me l hs can) in
+    let row : load_at t.loads l.0 ≡ Some c.in-Some-load_of.row = sym c.load_of.ensures ∙ c.in-Some-load_of.is in
+    let last = ap (λ (k : Holdings). k.last_handle) c.hand_each.ensures.same in
+    let falls = c.give_up_load.ensures.falls w u so-far (let a = ap length c.hand_each.ensures.rows in omega arith)
+        (λ q own. let mine = and-left (is_owned_in w (owners.Load l) q) (not (s q)) (sym (left q) ∙ own) in let g = owned-given p (owners.Load l) q c.requires.whole.core.handles mine in
+        (c.requires.later.since l.0 c.in-Some-load_of.row q row mine, omega arith)) in
+    record {
+      hands = (
+        sym (c.hand_over_fault.ensures stored closed failures) ∙ c.in_default.is,
+        record {
+          told = c.give_up_load.result;
+          falls = loads-anew w u (with_tables u c.give_up_load.new.t) (λ q. is_owned_in w (owners.Load l) q && not (s q)) c.give_up_load.result w'.loads
+              (load-closed (load_at t.loads) (load_at c.close.new.loads) l.0 c.close.ensures.gone c.close.ensures.others)
+              (subst (λ given. Falls w u given c.give_up_load.result (with_tables u c.give_up_load.new.t)) (λ i q. left q i) falls);
+        },
+      );
+      refused = tt;
+    }
+
+pub returns-clause-whole : goal.returns-clause-whole
+returns-clause-whole g c = whole-so c.give_up_load.ensures.steady (hand-over-whole c.args.me c.args.load c.args.named.now _ c.requires.whole.core (returns-clause-taken g c (λ key. None) (not c.args.lists) 0 (not-closed c.args.lists)))
+
+pub returns-clause-later : goal.returns-clause-later
+returns-clause-later g c =
+    let t = c.args.t.now in
+    let p = plain_of t in
+    let can : MayHand p c.args.me c.args.load c.args.named.now = may-hand c.requires.whole.core c.args.me c.args.load c.args.named.now (sym (c.hand_over_fault.ensures (λ key. None) false 0) ∙ c.in_default.is) in
+    let n = take-newer c.args.me c.args.load c.args.named.now _ (λ m. no-load p c.args.me m can.may) (returns-clause-taken g c (λ key. None) (not c.args.lists) 0 (not-closed c.args.lists)) in
+    later-so c.requires.later (record { last = n.last; owned = n.owned }) (closed-still (load_at t.loads) (load_at c.close.new.loads) c.args.load.0 c.close.ensures.gone c.close.ensures.others)
+
+pub returns-clause-sheds : goal.returns-clause-sheds
+returns-clause-sheds g c =
+    let nodes = ap (λ (k : Holdings). k.nodes) c.hand_each.ensures.same in
+    subst (λ ns. Sheds (counts_at ns) (get nat_eq c.args.values.now) (counts_at c.give_up_load.new.t.nodes) (get nat_eq c.give_up_load.new.values)) nodes c.give_up_load.ensures.sheds

@@ -1,0 +1,17 @@
+use Rattle.std.proofs.Common.{◌≡◌, ◌==◌, ◌||◌, false, ap, sym, ◌∙◌, arith}
+use Rattle.std.proofs.lemmas.Bool.Decides.{nat_tests}
+use Rattle.pagable_world.specs.Plain.{is_in}
+use Rattle.pagable_tables.specs.Named.{seen, named_at}
+use Rattle.pagable_tables.proofs.Seen.{in-none, in-more, in-there}
+use Rattle.pagable_tables.proofs.handing.is_before.Goals as goal
+
+pub loop-at-init : goal.loop-at-init
+loop-at-init c = in-none c.args.named.now c.args.number
+
+pub returns-then-named-at : goal.returns-then-named-at
+returns-then-named-at c = sym (in-there c.args.named.now c.args.place c.loop-at.at c.args.number c.loop-at-test.true c.if-named-at.true)
+
+pub loop-at-preserved : goal.loop-at-preserved
+loop-at-preserved c =
+    let other : (named_at c.args.named.now c.loop-at.at == c.args.number) ≡ false = grind (arith, nat_tests) in
+    in-more c.args.named.now c.loop-at.at c.args.number ∙ ap (λ b. b || is_in (seen c.args.named.now c.loop-at.at) c.args.number) other ∙ c.loop-at.invariant

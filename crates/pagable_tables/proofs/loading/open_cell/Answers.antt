@@ -1,0 +1,75 @@
+use Rattle.std.proofs.Common.{◌+◌, ◌∙◌, refl, arith, None, false}
+use Rattle.pagable_tables.specs.ByNumber.{counts_at, load_at}
+use Rattle.pagable_world.specs.declared.handles.Owner.TheVariants as owners
+use Rattle.pagable_world.specs.declared.rows.Mode.TheVariants as modes
+use Rattle.pagable_tables.specs.Core.{core_of, plain_of}
+use Rattle.pagable_tables.proofs.Alive.{row-le-live}
+use Rattle.pagable_tables.proofs.Beginning.{load-comes, none-yet}
+use Rattle.pagable_tables.proofs.Coming.{some-held}
+use Rattle.pagable_tables.proofs.Fitting.{handle_of, held-here}
+use Rattle.pagable_tables.proofs.Opened.{load-goes, only-memory}
+use Rattle.pagable_tables.proofs.Newer.{newer-alike, newer-handle, newer-then, later-so, later-opened, closed-still}
+use Rattle.pagable_tables.proofs.loading.open_cell.Goals as goal
+
+pub come-requires-clause-live : goal.come-requires-clause-live
+come-requires-clause-live c =
+    let row = c.args.at.row in
+    let t = c.args.t.now.holdings in
+    let a = c.requires.whole.steady.fits.holding row.node.0 in
+    let l = row-le-live (handle_of row.node.0) t.handles.places.items c.args.at.place row c.requires.place in
+    let h = held-here row in
+    some-held (counts_at t.nodes row.node.0) (omega arith)
+
+pub returns-in-Ok-come-clause-opened : goal.returns-in-Ok-come-clause-opened
+returns-in-Ok-come-clause-opened c stored closed failures =
+    let t = c.args.t.now in
+    let a = (c.in-Ok-come.ensures.made (core_of (record t { holdings = c.come.new.t; loads = c.open.new.loads; last_load = t.last_load + 1 }) stored closed failures)).made.1 in
+    record {
+      rows = a.rows;
+      cells = a.cells;
+      list = a.list;
+      cache = record { gives = a.cache.gives; only = a.cache.only };
+      stored = λ q. refl;
+      closed = refl;
+      failures = refl;
+      loads = load-comes (load_at t.loads) (load_at c.open.new.loads) (t.last_load + 1) _ c.in-Ok.ensures.here c.in-Ok.ensures.others;
+      workers = λ v. refl;
+      last = a.last;
+      places = a.places;
+    }
+
+pub returns-in-Err-clause-refused : goal.returns-in-Err-clause-refused
+returns-in-Err-clause-refused c = let t = c.args.t.now in only-memory t.holdings.last_handle c.in-Err.e c.requires.handle (c.in-Err.ensures.made (core_of t (λ q. None) false 0)).refused.why
+
+pub returns-in-Err-clause-stays : goal.returns-in-Err-clause-stays
+returns-in-Err-clause-stays c stored closed failures =
+    let t = c.args.t.now in
+    let l = t.last_load + 1 in
+    let a = (c.in-Err.ensures.made (core_of (record t { holdings = c.come.new.t; loads = c.close.new.loads }) stored closed failures)).refused.stays in
+    record {
+      rows = a.rows;
+      cells = a.cells;
+      list = a.list;
+      cache = record { gives = a.cache.gives; only = a.cache.only };
+      stored = λ q. refl;
+      closed = refl;
+      failures = refl;
+      loads = load-goes (load_at t.loads) (load_at c.open.new.loads) (load_at c.close.new.loads) l (none-yet (load_at t.loads l) t.last_load (λ some. (c.requires.whole.core.loads.numbered l some).1)) c.in-Ok.ensures.others c.close.ensures.gone c.close.ensures.others;
+      workers = λ v. refl;
+      last = a.last;
+      places = a.places;
+    }
+
+pub returns-in-Ok-come-clause-later : goal.returns-in-Ok-come-clause-later
+returns-in-Ok-come-clause-later c =
+    let t = c.args.t.now in
+    let l = t.last_load + 1 in
+    let w = plain_of t in
+    let a = newer-alike (returns-in-Ok-come-clause-opened c (λ key. None) false 0) in
+    let n = newer-then (newer-handle w c.args.at.row.node modes.LooseUnpinned (owners.Load (record { 0 = l }))) (record { last = a.last; owned = a.owned }) in
+    later-opened c.requires.whole.core c.requires.later n l _ (none-yet (load_at t.loads l) t.last_load (λ some. (c.requires.whole.core.loads.numbered l some).1)) c.in-Ok.ensures.here refl c.in-Ok.ensures.others
+
+pub returns-in-Err-clause-later : goal.returns-in-Err-clause-later
+returns-in-Err-clause-later c =
+    later-so c.requires.later (newer-alike (returns-in-Err-clause-stays c (λ key. None) false 0))
+    (closed-still (load_at c.args.t.now.loads) (load_at c.close.new.loads) (c.args.t.now.last_load + 1) c.close.ensures.gone (λ q other. c.close.ensures.others q other ∙ c.in-Ok.ensures.others q other))

@@ -1,0 +1,76 @@
+use Rattle.std.proofs.Common.{◌+◌, ◌≡◌, ◌∷◌, [], ◌++◌, arith, refl, ap, sym, ◌∙◌, Some, rules}
+use Rattle.pagable_world.specs.Plain.{one}
+use Rattle.pagable_world.specs.Kinds.{is_pinning}
+use Rattle.pagable_world.specs.declared.handles.HandleRow.{HandleRow}
+use Rattle.pagable_tables.specs.Live.{live}
+use Rattle.pagable_tables.specs.ByNumber.{counts_at, refs_at}
+use Rattle.pagable_tables.specs.Falling.{pins_in, holds_in}
+use Rattle.pagable_tables.proofs.Alive.{length-live-le}
+use Rattle.pagable_tables.proofs.Fitting.{pins-le-held}
+use Rattle.pagable_tables.proofs.Coming.{come-fits, come-cells, rows-told, held-few}
+use Rattle.pagable_tables.proofs.Worlds.{alike}
+use Rattle.pagable_tables.proofs.making.come.Goals as goal
+
+pub counts_more-more-requires-clause-pins : goal.counts_more-more-requires-clause-pins
+counts_more-more-requires-clause-pins c =
+    let n = c.args.node.0 in
+    let rows = live c.args.t.now.handles.places.items in
+    let is : counts_at c.args.t.now.nodes n ≡ Some c.in-Some.counts = sym c.counts_of.ensures ∙ c.in-Some.is in
+    let a = ap pins_in is in
+    let b = c.requires.steady.fits.pinned n in
+    let l = pins-le-held n rows in
+    let h = held-few n rows in
+    let d = length-live-le c.args.t.now.handles.places.items in
+    let k = c.places_taken.ensures.count in
+    let s = c.places_taken.ensures.small in
+    omega arith
+
+pub counts_more-more-requires-clause-holds : goal.counts_more-more-requires-clause-holds
+counts_more-more-requires-clause-holds c =
+    let n = c.args.node.0 in
+    let rows = live c.args.t.now.handles.places.items in
+    let is : counts_at c.args.t.now.nodes n ≡ Some c.in-Some.counts = sym c.counts_of.ensures ∙ c.in-Some.is in
+    let a = ap holds_in is in
+    let b = c.requires.steady.fits.holding n in
+    let h = held-few n rows in
+    let d = length-live-le c.args.t.now.handles.places.items in
+    let k = c.places_taken.ensures.count in
+    let s = c.places_taken.ensures.small in
+    omega arith
+
+pub returns-clause-made : goal.returns-clause-made
+returns-clause-made c w =
+    let t = c.args.t.now in
+    let y = c.in-Some.counts in
+    let x : HandleRow = record { number = record { 0 = t.last_handle + 1 }; node = c.args.node; mode = c.args.mode; owner = c.args.owner } in
+    let is : counts_at t.nodes x.node.0 ≡ Some y = sym c.counts_of.ensures ∙ c.in-Some.is in
+    let made : c.counts_more-more.result ≡ record y { pins = y.pins + one (is_pinning x.mode); holds = y.holds + 1 } =
+    c.counts_more-more.ensures ∙ ap (λ p. record y { pins = y.pins + one p; holds = y.holds + 1 }) c.pins.ensures in
+    let e = c.set_counts.ensures in
+    record {
+      made = (
+        record { above = refl; is_left = search rules },
+        alike _ _ c.in-Ok.ensures.rows
+            (come-cells (counts_at t.nodes) (counts_at c.set_counts.new.nodes) (refs_at t.nodes) (refs_at c.set_counts.new.nodes) (live t.handles.places.items) t.top x y c.requires.steady.fits is (e.here ∙ ap Some made) e.others e.refs c.requires.owner)
+            (record { handles = c.push.ensures.capacity; entries = omega arith }) refl,
+      );
+      refused = tt;
+    }
+
+pub returns-clause-steady : goal.returns-clause-steady
+returns-clause-steady c =
+    let t = c.args.t.now in
+    let y = c.in-Some.counts in
+    let x : HandleRow = record { number = record { 0 = t.last_handle + 1 }; node = c.args.node; mode = c.args.mode; owner = c.args.owner } in
+    let is : counts_at t.nodes x.node.0 ≡ Some y = sym c.counts_of.ensures ∙ c.in-Some.is in
+    let made : c.counts_more-more.result ≡ record y { pins = y.pins + one (is_pinning x.mode); holds = y.holds + 1 } =
+    c.counts_more-more.ensures ∙ ap (λ p. record y { pins = y.pins + one p; holds = y.holds + 1 }) c.pins.ensures in
+    let e = c.set_counts.ensures in
+    let at = counts_at t.nodes in
+    let at' = counts_at c.set_counts.new.nodes in
+    let refs = refs_at t.nodes in
+    let refs' = refs_at c.set_counts.new.nodes in
+    let rows = live t.handles.places.items in
+    let here = e.here ∙ ap Some made in
+    let g = come-fits at at' refs refs' rows t.top x y c.requires.steady.fits is here e.others e.refs c.requires.owner in
+    record { sound = c.push.ensures.sound; next = c.in-Ok.ensures.next; fits = rows-told at' refs' (rows ++ x ∷ []) (live c.push.new.handles.places.items) t.top c.in-Ok.ensures.rows g }

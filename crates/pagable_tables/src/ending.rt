@@ -1,0 +1,157 @@
+//! Loads that end: what they still own is given up.
+
+ghost use Rattle.std.specs.Prelude.{◌≡◌, ℕ, ◌<◌, ◌≤◌, ◌==◌, ◌&&◌, ◌||◌, [], length, Bool, true, None, Option, not, nat_eq};
+ghost use Rattle.pagable_world.specs.declared.handles.Owner.TheVariants as owners;
+ghost use Rattle.pagable_world.specs.Plain.{Blob};
+ghost use Rattle.pagable_world.specs.World.{Core};
+ghost use Rattle.pagable_world.specs.Cascade.{Falls, nobody};
+ghost use Rattle.pagable_world.specs.LoadCalls.{is_owned_in, hand_over_fault, DropCall, HandOverCall};
+ghost use Rattle.pagable_tables.specs.Live.{live};
+ghost use Rattle.indexmap.specs.IndexMap.{get};
+ghost use Rattle.pagable_tables.specs.ByNumber.{counts_at};
+ghost use Rattle.pagable_tables.specs.Falling.{IsFalling, owns_nothing, Sheds};
+ghost use Rattle.pagable_tables.specs.Onward.{with_tables, SoFar};
+ghost use Rattle.pagable_tables.specs.Core.{core_of, IsWhole};
+ghost use Rattle.pagable_tables.specs.Later.{AreLater};
+
+use crate::cascade::{cascade, fall};
+use crate::causes::{cell_fault, earlier, load_fault};
+use crate::handing::{hand_each, named_fault};
+use crate::holdings::Holdings;
+use crate::loading::load_row;
+use crate::tables::Tables;
+use crate::turning::is_owner;
+use crate::{handles, holdings, loads};
+use indexmap::IndexMap;
+use pagable_model::{Error, HandleNumber, LoadNumber};
+use pagable_world::handles::Owner;
+use std::sync::Arc;
+
+/// The handle of this number is given up, if the load owns it, with all that goes with it.
+pub fn give_next<N: Drop>(
+    t: &mut Holdings,
+    values: &mut IndexMap<u64, Arc<N>>,
+    load: LoadNumber,
+    handle: HandleNumber,
+    lists: bool,
+)
+    requires { IsFalling t.old [] owns_nothing }
+    ensures steady { IsFalling t.new [] owns_nothing }
+    ensures fewer { length (live t.new.handles.places.items) ≤ length (live t.old.handles.places.items) }
+    ensures so_far { (before w : Core) (given : ℕ → Bool) → SoFar before w given lists t.old → length (live t.old.handles.places.items) ≤ length w.rows → SoFar before w (λ q. given q || (q == handle.0 && is_owned_in w (owners.Load load) q)) lists t.new }
+    ensures sheds { Sheds (counts_at t.old.nodes) (get nat_eq values.old) (counts_at t.new.nodes) (get nat_eq values.new) }
+{
+    let Some(at) = handles::look(&t.handles, handle) else {
+        return;
+    };
+    if !is_owner(Owner::Load(load), at.row.owner) {
+        return;
+    }
+    holdings::give_up(t, at, lists);
+    cascade(t, values, lists);
+}
+
+/// All handles that the load owns are given up in their order, with all that goes with them. Their numbers are above this one.
+fn give_each<N: Drop>(
+    t: &mut Holdings,
+    values: &mut IndexMap<u64, Arc<N>>,
+    load: LoadNumber,
+    since: u64,
+    lists: bool,
+)
+    requires { IsFalling t.old [] owns_nothing }
+    ensures steady { IsFalling t.new [] owns_nothing }
+    ensures so_far { (before w : Core) → SoFar before w nobody lists t.old → length (live t.old.handles.places.items) ≤ length w.rows → ((q : ℕ) → is_owned_in w (owners.Load load) q ≡ true → (since < q) × (q ≤ t.old.last_handle)) → SoFar before w (is_owned_in w (owners.Load load)) lists t.new }
+    ensures sheds { Sheds (counts_at t.old.nodes) (get nat_eq values.old) (counts_at t.new.nodes) (get nat_eq values.new) }
+{
+    for past in since..t.last_handle {
+        give_next(t, values, load, HandleNumber(past + 1), lists);
+    }
+}
+
+/// All that the load owns is given up, with all that goes with it. NumbersSpent or OutOfMemory where a cell that had to be listed isn't.
+pub fn give_up_load<N: Drop>(
+    t: &mut Holdings,
+    values: &mut IndexMap<u64, Arc<N>>,
+    load: LoadNumber,
+    since: u64,
+    lists: bool,
+) -> Result<(), Error>
+    requires { IsFalling t.old [] owns_nothing }
+    ensures steady { IsFalling t.new [] owns_nothing }
+    ensures falls { (before w : Core) → SoFar before w nobody lists (record t.old { unlisted = None }) → length (live t.old.handles.places.items) ≤ length w.rows → ((q : ℕ) → is_owned_in w (owners.Load load) q ≡ true → (since < q) × (q ≤ t.old.last_handle)) → Falls before w (is_owned_in w (owners.Load load)) result (with_tables w t.new) }
+    ensures sheds { Sheds (counts_at t.old.nodes) (get nat_eq values.old) (counts_at t.new.nodes) (get nat_eq values.new) }
+{
+    t.unlisted = None;
+    give_each(t, values, load, since, lists);
+    fall(t, values, lists)
+}
+
+/// An open load is given up, with all that it owns. NoSuchHandle where none is open, NotYours where another began it. NumbersSpent or OutOfMemory where a cell that
+/// had to be listed isn't.
+pub fn load_drop<N: Drop>(
+    t: &mut Tables,
+    values: &mut IndexMap<u64, Arc<N>>,
+    me: Owner,
+    load: LoadNumber,
+    lists: bool,
+) -> Result<(), Error>
+    requires whole { IsWhole t.old }
+    requires later { AreLater t.old }
+    ensures dropped { (stored : ℕ → Option Blob) (closed : Bool) (failures : ℕ) → lists ≡ not closed → DropCall (core_of t.old stored closed failures) me load result (core_of t.new stored closed failures) }
+    ensures whole { IsWhole t.new }
+    ensures later { AreLater t.new }
+    ensures sheds { Sheds (counts_at t.old.holdings.nodes) (get nat_eq values.old) (counts_at t.new.holdings.nodes) (get nat_eq values.new) }
+{
+    let row = match load_row(t, me, load) {
+        Ok(row) => row,
+        Err(e) => return Err(e),
+    };
+    loads::close(&mut t.loads, load.0);
+    give_up_load(&mut t.holdings, values, load, row.since, lists)
+}
+
+/// Why a load of a key can't hand over the handles that are named, if it can't.
+fn hand_over_fault(
+    t: &Tables,
+    me: Owner,
+    load: LoadNumber,
+    named: &[HandleNumber],
+) -> Option<Error>
+    requires { IsWhole t.now }
+    ensures { (stored : ℕ → Option Blob) (closed : Bool) (failures : ℕ) → result ≡ hand_over_fault (core_of t.now stored closed failures) me load named.now }
+{
+    let first = load_fault(loads::load_of(&t.loads, load.0), me);
+    let cell = cell_fault(loads::load_of(&t.loads, load.0));
+    let owned = named_fault(&t.holdings.handles, Owner::Load(load), named);
+    earlier(first, earlier(cell, owned))
+}
+
+/// A load of a key hands over the handles that are named, gives up the rest and is closed. NoSuchHandle where no load is open or a named handle isn't live;
+/// NotYours where another began the load or owns a named handle, or one is named twice; WrongMode where it is a load of a cell.
+pub fn load_take<N: Drop>(
+    t: &mut Tables,
+    values: &mut IndexMap<u64, Arc<N>>,
+    me: Owner,
+    load: LoadNumber,
+    named: &[HandleNumber],
+    lists: bool,
+) -> Result<(), Error>
+    requires whole { IsWhole t.old }
+    requires later { AreLater t.old }
+    ensures taken { (stored : ℕ → Option Blob) (closed : Bool) (failures : ℕ) → lists ≡ not closed → HandOverCall (core_of t.old stored closed failures) me load named.now result (core_of t.new stored closed failures) }
+    ensures whole { IsWhole t.new }
+    ensures later { AreLater t.new }
+    ensures sheds { Sheds (counts_at t.old.holdings.nodes) (get nat_eq values.old) (counts_at t.new.holdings.nodes) (get nat_eq values.new) }
+{
+    if let Some(e) = hand_over_fault(t, me, load, named) {
+        return Err(e);
+    }
+    let Some(row) = loads::load_of(&t.loads, load.0) else {
+        unreachable!();
+    };
+    loads::close(&mut t.loads, load.0);
+    hand_each(&mut t.holdings, named, me);
+    let _ = give_up_load(&mut t.holdings, values, load, row.since, lists);
+    Ok(())
+}

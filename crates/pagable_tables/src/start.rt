@@ -1,0 +1,40 @@
+//! Tables of nothing.
+
+ghost use Rattle.std.specs.Prelude.{◌≡◌, ℕ, [], None};
+ghost use Rattle.pagable_tables.specs.ByNumber.{counts_at, load_at, known_at};
+ghost use Rattle.pagable_tables.specs.Core.{IsWhole};
+
+use crate::handles;
+use crate::holdings::Holdings;
+use crate::tables::Tables;
+use indexmap::IndexMap;
+use std::alloc::Global;
+
+/// Tables without a node. They take no memory.
+pub fn new(alloc: Global) -> Tables
+    ensures rows { result.holdings.handles.places.items ≡ [] }
+    ensures nodes { (n : ℕ) → counts_at result.holdings.nodes n ≡ None }
+    ensures list { result.holdings.list.items ≡ [] }
+    ensures cache { (kind key : ℕ) → known_at result.cache kind key ≡ None }
+    ensures loads { (l : ℕ) → load_at result.loads l ≡ None }
+    ensures workers { result.workers.items ≡ [] }
+    ensures last { (result.last_node ≡ 0) × (result.holdings.last_handle ≡ 0) × (result.last_load ≡ 0) × (result.last_worker ≡ 0) }
+    ensures whole { IsWhole result }
+{
+    Tables {
+        holdings: Holdings {
+            handles: handles::empty(alloc),
+            nodes: IndexMap::new(alloc),
+            list: Vec::new(alloc),
+            top: 0,
+            unlisted: None,
+            last_handle: 0,
+        },
+        cache: IndexMap::new(alloc),
+        loads: IndexMap::new(alloc),
+        workers: Vec::new(alloc),
+        last_node: 0,
+        last_load: 0,
+        last_worker: 0,
+    }
+}
