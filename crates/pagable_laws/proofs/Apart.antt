@@ -99,8 +99,11 @@ module _ (types : Types) (t : ℕ) (blob : Blob) (refs got : List ArcRef) (f : I
       let whole : read (record { levels = 0; look = own_look; parts = types.parts }) f.shape (rest blob.bytes refs) ≡ Ok (f.own, rest [] []) = rw (append-nil, append-nil) at again in
       let shaped : read_with types t blob got ≡ read (handles_at 0 types.parts) f.shape (rest blob.bytes (answers_from got 0 blob.keys)) = rw f.is refl in
       let first : read (handles_at 0 types.parts) f.shape (rest blob.bytes (answers_from got 0 blob.keys)) ≡ Ok (own, given.0) = sym shaped ∙ given.1 in
-      both-own (par.out (rest blob.bytes (answers_from got 0 blob.keys)) (rest blob.bytes refs) (record { bytes = refl; refs = all-answer 0 refs blob.keys
-          (λ i. let start : i ≡ 0 + i = omega arith in ap (slice_get refs) start) f.as_many })) first whole
+      both-own (par.out (rest blob.bytes (answers_from got 0 blob.keys)) (rest blob.bytes refs) (record {
+        bytes = refl;
+        refs = all-answer 0 refs blob.keys
+            (λ i. let start : i ≡ 0 + i = omega arith in ap (slice_get refs) start) f.as_many;
+      })) first whole
 
   -- ---- references, one by one
 

@@ -71,7 +71,7 @@ stops-at front (g ∷ back) (d ∷ done) q more (key ∷ keys) same few =
     let both = first-kind g d back done same in
     let tail = stops-at (front ++ g ∷ []) back done q more keys both.1 (omega arith) in
     let moved = subst (λ gs. Stops look_kind own_kind (errors.Storage q.kind.0) (answers_from gs (length (front ++ g ∷ [])) keys) (map kind_of_arc (done ++ q ∷ more))) (append_assoc front
-        (g ∷ []) back) tail in
+    (g ∷ []) back) tail in
     stops-later _ _ _ _ (answered g (slice_get (front ++ g ∷ back) (length front)) d.kind.0 (at-place front g back) both.0)
     (subst (λ n. Stops look_kind own_kind (errors.Storage q.kind.0) (answers_from (front ++ g ∷ back) n keys) (map kind_of_arc (done ++ q ∷ more))) (longer front g) moved)
 
@@ -127,7 +127,7 @@ module _ (types : Types) (t : ℕ) (blob : Blob) (refs : List ArcRef) (f : IsFor
   asks-next got done q more split same =
       let few : length blob.keys ≡ length (done ++ q ∷ more) = f.as_many ∙ ap length split in
       let stops = subst (λ (rs : List ArcRef). Stops look_kind own_kind (errors.Storage q.kind.0) (answers_from got 0 blob.keys) (map kind_of_arc rs)) (sym split)
-          (stops-at [] got done q more blob.keys same few) in
+      (stops-at [] got done q more blob.keys same few) in
       let stopped = form-stops [] (answers_from got 0 blob.keys) kinds-form stops f.can in
       let refused : read (at 0 look_kind types.parts) f.shape (input got) ≡ Err (errors.Storage q.kind.0) = rw append-nil at stopped in
       let first = err-of _ (read (handles_at 0 types.parts) f.shape (input got)) (errors.Storage q.kind.0) (sym (renamed kind_of_arc answer_at 0 types.parts f.shape (input got)) ∙ refused) in

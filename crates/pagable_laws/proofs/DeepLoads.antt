@@ -119,15 +119,21 @@ module _ (types : Types) (stored : ℕ → Option Blob) where
     down-to : (frame : Frame) (below : List Frame) → FramesFit types stored trees root_key root_type (frame ∷ below) → FramesAsked types (frame ∷ below) → IsDown frame (length below)
     unfolding FramesFit FramesAsked
     down-to frame [] (fits, key, of_type) got =
-        record { down = subst (λ q. LeadsDown types stored root_type root_key 0 frame.node_type q) (sym key) (subst (λ q. LeadsDown types stored root_type root_key 0 q root_key)
-            (sym of_type) (is-there root_type root_key)); is = fits.is }
+        record {
+          down = subst (λ q. LeadsDown types stored root_type root_key 0 frame.node_type q) (sym key) (subst (λ q. LeadsDown types stored root_type root_key 0 q root_key)
+              (sym of_type) (is-there root_type root_key));
+          is = fits.is;
+        }
     down-to frame (under ∷ rest) (fits, of_type, next, more) (got, eager, next2, more_asked) =
         let u = down-to under rest more more_asked in
         let step = asks-by-kinds types under.node_type under.blob under.got frame.kind frame.key next in
         let d = goes-further under.blob (kinds_of under.got) frame.kind frame.key u.down u.is step eager in
         let long : length rest + 1 ≡ length (under ∷ rest) = omega arith in
-        record { down = subst (λ n. LeadsDown types stored root_type root_key n frame.node_type frame.key) long (subst (λ q. LeadsDown types stored root_type root_key
-            (length rest + 1) q frame.key) (sym of_type) d); is = fits.is }
+        record {
+          down = subst (λ n. LeadsDown types stored root_type root_key n frame.node_type frame.key) long (subst (λ q. LeadsDown types stored root_type root_key
+              (length rest + 1) q frame.key) (sym of_type) d);
+          is = fits.is;
+        }
 
     broken-is : (below : List Frame) (next : Next) (e : Error) → need_at below next ≡ is_broken e → next ≡ is_faulty e
     broken-is below (is_faulty f) e is = let same : f ≡ e = cc in ap is_faulty same
@@ -144,8 +150,16 @@ module _ (types : Types) (stored : ℕ → Option Blob) where
     of-blob [] fits got is = absurd (cc)
     of-blob (top ∷ below) fits got is =
         let d = down-to top below fits got in
-        record { n = length below; last_type = top.node_type; last = top.key; blob = top.blob; down = d.down; is = d.is; deep = inr
-            (kinds_of top.got, faulty-by-kinds types top.node_type top.blob top.got errors.TooDeep (broken-is below (next_in types top) errors.TooDeep is)) }
+        record {
+          n = length below;
+          last_type = top.node_type;
+          last = top.key;
+          blob = top.blob;
+          down = d.down;
+          is = d.is;
+          deep = inr
+              (kinds_of top.got, faulty-by-kinds types top.node_type top.blob top.got errors.TooDeep (broken-is below (next_in types top) errors.TooDeep is));
+        }
 
     of-path : (frames : List Frame) → FramesFit types stored trees root_key root_type frames → FramesAsked types frames → (kind : Kind) (key : ℕ) (blob : Blob)
         → need_of types frames ≡ needs_nested kind key → stored key ≡ Some blob
@@ -203,7 +217,7 @@ module _ {N B W : Type 0} (m : Seen N B W) (lawful : IsLawful m.values) (w : Cor
     | inr (inr (inr (inr (inl node)))) ↦
         absurd (not-refused node.adopted.refused.1 (no-earlier _ _ (no-load w me reading.load) (no-earlier _ _ (no-test _ errors.WrongMode (λ e. cc))
         (no-earlier _ _ (no-test _ errors.WrongKind (λ e. cc)) (no-earlier _ _ (λ f. by-all w (owners.Load reading.load) [] (m.values.references node.x) errors.TooDeep f)
-            (no-node w node.reads_node.top.kind node.reads_node.top.key))))))
+        (no-node w node.reads_node.top.kind node.reads_node.top.key))))))
     | inr (inr (inr (inr (inr root)))) ↦ absurd (root-not gives.mid root)
   ]
 
@@ -237,9 +251,9 @@ module _ {N B W E : Type 0} (m : Seen N B W) (lawful : IsLawful m.values) (s s' 
       let same : x.walking ≡ walking = same_some _ _ (sym x.at ∙ there) in
       let front = ap (λ (y : Walking). y.todo) same ∙ todo in
       let does =
-          subst (λ (k : Took W). workers.Does m n.0 (record { core = s.pager.core; shelf = s.work.shelves x.walking.table; todo = x.walking.todo }) x.walking.todo k x.after) taken x.does.does in
+      subst (λ (k : Took W). workers.Does m n.0 (record { core = s.pager.core; shelf = s.work.shelves x.walking.table; todo = x.walking.todo }) x.walking.todo k x.after) taken x.does.does in
       let step = subst (λ (t : List Todo). workers.Does m n.0 (record { core = s.pager.core; shelf = s.work.shelves x.walking.table; todo = x.walking.todo }) t (took.Pin i
-          (Err errors.TooDeep)) x.after) front does in
+      (Err errors.TooDeep)) x.after) front does in
       by-reading (owner_worker n.0) reading load (of_worker n.0 place walking r through below there todo) open_load x.after.core step.1.refused.0.does.0
   load-deep (events.LoadStep l) (answers.LoadMoved (Err e)) is = tt
   load-deep (events.LoadStep l) reply is = absurd is

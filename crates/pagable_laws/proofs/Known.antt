@@ -77,8 +77,15 @@ module _ {N E : Type 0} (v : Values N) (s : MachineState N E) (trees : ℕ → T
       let there : v.types.nodes frame.node_type ≡ Some w.shape = ap v.types.nodes typed ∙ w.is in
       let same : blob_of written.bytes b.2.keys ≡ frame.blob = same_some _ _ (sym b.2.is_stored ∙ is) in
       let form : IsFormOf v.types frame.node_type (blob_of written.bytes b.2.keys) written.references =
-      record { shape = w.shape; own = w.own; is = there; can = readable frame.node_type w.shape there; form = w.form; as_many = as-many-keys shelf written.references b.2.keys b.2.known;
-          once = w.once } in
+      record {
+        shape = w.shape;
+        own = w.own;
+        is = there;
+        can = readable frame.node_type w.shape there;
+        form = w.form;
+        as_many = as-many-keys shelf written.references b.2.keys b.2.known;
+        once = w.once;
+      } in
       record {
         refs = written.references;
         form = subst (λ (x : Blob). IsFormOf v.types frame.node_type x written.references) same form;

@@ -72,7 +72,7 @@ once-got (top ∷ below) kind row small once q =
         let z : one (row.number.0 == q) ≡ 1 = ap one e in
         let is = same-number row.number.0 q e in
         let none = sum-zero (λ (f : Frame). times (λ (r : ArcRef). r.handle.0 == q) f.got) (top ∷ below) (λ f fs. sum-zero (λ (r : ArcRef). one (r.handle.0 == q)) f.got
-            (λ r rs. off is f fs r rs (r.handle.0 == q) refl)) in
+        (λ r rs. off is f fs r rs (r.handle.0 == q) refl)) in
         omega (arith, z, grown, old, push, none)
 
 -- what was got once isn't got again
@@ -140,7 +140,7 @@ module _ (w w' : Core) where
         let turned = stands-changed (λ h. is_named_by references h.number.0) (λ h. record h { owner = owners.Value (next_node w) }) (λ h. refl) s in
         let off : is_named_by references row.number.0 ≡ false = ap (is_named_by references) number ∙ free in
         let still : Stands w.last.handle born.rows q row =
-            subst (λ r. Stands w.last.handle born.rows q r) (ap (λ (b : Bool). if b then record row { owner = owners.Value (next_node w) } else row) off) turned in
+        subst (λ r. Stands w.last.handle born.rows q r) (ap (λ (b : Bool). if b then record row { owner = owners.Value (next_node w) } else row) off) turned in
         stands-alike a (to-known (with-one born (next_node w) (mode_of kind.0) (owners.Load l) still))
 
     pub adopted-new : HandlesAreWhole w → Alike known w' → Stands w'.last.handle w'.rows (w.last.handle + 1) (row_of (w.last.handle + 1) (next_node w) (mode_of kind.0) (owners.Load l))

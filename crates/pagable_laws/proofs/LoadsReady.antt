@@ -162,9 +162,13 @@ module _ {N : Type 0} (v : Values N) (lawful : IsLawful v) (readable : ReadsItsT
   pub goes-ready : (frames : List Frame) → GoesOn v w owners.Caller reading frames w' → LoadReady w' l load frames
   goes-ready frames (inl root) =
       let kept = λ (h : HandleNumber) (x : HandleRow) (there : row_at w h ≡ Some x) (own : x.owner ≡ owners.Caller) (y : HandleRow) (free : NotValues y.owner)
-          (s : Stands w.last.handle w.rows h.0 y). asked-keeps w w' root.asked.gives.2.asked s in
-      subst (λ fs. LoadReady w' l load fs) (sym root.goes) (record { begun = begun-on kept; live = live-new w' l (root_frame root.load.key reading.node_type root.blob) [] refl
-          (λ f r among got. absurd (let e = among.1 in cc)); once = once-new (root_frame root.load.key reading.node_type root.blob) [] refl (once-none [] refl) })
+      (s : Stands w.last.handle w.rows h.0 y). asked-keeps w w' root.asked.gives.2.asked s in
+      subst (λ fs. LoadReady w' l load fs) (sym root.goes) (record {
+        begun = begun-on kept;
+        live = live-new w' l (root_frame root.load.key reading.node_type root.blob) [] refl
+            (λ f r among got. absurd (let e = among.1 in cc));
+        once = once-new (root_frame root.load.key reading.node_type root.blob) [] refl (once-none [] refl);
+      })
   goes-ready frames (inr (inl g)) = subst (λ fs. LoadReady w' l load fs) (sym g.goes) (known-ready g.kind g.key g.k g.row g.asked.gives.2 g.made)
   goes-ready frames (inr (inr (inl g))) =
       let asked = g.asked.gives.2.1.asked in

@@ -311,7 +311,7 @@ module _ {N B W E : Type 0} (m : Seen N B W) (lawful : IsLawful m.values) (reada
       let own : is_owner owners.Caller b.0.owner ≡ true = ap (is_owner owners.Caller) b.2 in
       let f : handle_fault core owners.Caller h any_mode ≡ None =
       ap (λ found. if_there (λ (row : HandleRow). if not (is_owner owners.Caller row.owner) then Some errors.NotYours else refused_if (not (any_mode row.mode)) errors.WrongMode)
-          (Some errors.NoSuchHandle) found) b.1 ∙ rw own refl in
+      (Some errors.NoSuchHandle) found) b.1 ∙ rw own refl in
       cc
 
   sound : (low : HeightsIn (world_of s)) (l : LoadNumber) (reply : LoadReply N) → LoadSteps m.values (world_of s) l reply (world_of s') → Ready s l → (load : OpenLoad) (e : Error)
@@ -382,7 +382,7 @@ module _ {N B W E : Type 0} (m : Seen N B W) where
           let turn = begin-turn l.0 x.event x.reply begins in
           going (begin-ready m s x.after on.whole whole' l x.event x.reply begins is)
           (λ i j a b lt at there own. together 0 (suc i) (suc j) x a b (omega arith) (omega (arith, lt)) refl at there (λ nobody. let e : of_load l.0 ≡ of_nobody = sym turn ∙ nobody in cc)
-              (own ∙ sym turn) ∙ turn)
+          (own ∙ sym turn) ∙ turn)
       next-ahead l first (inr isnt) = ahead (λ k c at step. later-begun x xs l.0 k isnt (first (suc k) c at step))
 
       next-stage : (l : LoadNumber) → Stage s l (x ∷ xs) → Stage x.after l xs

@@ -220,8 +220,11 @@ module _ {N B W E : Type 0} (m : Seen N B W) (s : MachineState N E) (trees : ℕ
     ask-chance : (want : Want) (mid : Core) (e : Error)
         → Refused (ask_fault w owners.Caller reading.load want) (ask_fault w owners.Caller reading.load want) ((is_known w want ≡ true) × AreHandlesFull w) w e mid → IsOfChance e
     ask-chance want mid e r = elim r.why [
-      | inl is ↦ elim (either (load_fault w owners.Caller reading.load) (where_so (is_known w want) (spent w.last.handle)) e is) [ inl a ↦ absurd (no-load-fault e a) | inr b ↦ where-chance
-          (is_known w want) w.last.handle e b ]
+      | inl is ↦ elim (either (load_fault w owners.Caller reading.load) (where_so (is_known w want) (spent w.last.handle)) e is) [
+        | inl a ↦ absurd (no-load-fault e a)
+        | inr b ↦ where-chance
+            (is_known w want) w.last.handle e b
+      ]
       | inr memory ↦ memory-chance e memory.0
     ]
 
@@ -308,9 +311,9 @@ module _ {N B W E : Type 0} (m : Seen N B W) (s : MachineState N E) (trees : ℕ
           | inl a ↦ absurd (no-load-fault e a)
           | inr b ↦ elim (either (if_there (λ (x : OpenLoad). root_fault w owners.Caller (v.node_type r.x) x.root) None (w.loads reading.load.0)) (references_fault w
               (owners.Load reading.load) [] (v.references r.x)) e b) [
-            | inl a ↦ by-chance (root-chance r a)
-            | inr f ↦ by-references r.reads_root.root [] r.x r.reads_root.frames r.reads_root.decoded (form-of r.reads_root.root [] r.reads_root.frames r.x r.reads_root.decoded) f
-          ]
+                | inl a ↦ by-chance (root-chance r a)
+                | inr f ↦ by-references r.reads_root.root [] r.x r.reads_root.frames r.reads_root.decoded (form-of r.reads_root.root [] r.reads_root.frames r.x r.reads_root.decoded) f
+              ]
         ]
       ]
     ]

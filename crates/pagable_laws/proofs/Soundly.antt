@@ -41,7 +41,7 @@ by-row w r b row e is = at (not (row.node.0 == r.node.0)) b (not (fits_mode r.ki
   where
     at : (a b c : Bool)
         → (if a then Some errors.NoSuchHandle else or_else (refused_if b errors.NotYours) (if c then Some errors.WrongMode else refused_if (not (is_type (type_of r.kind.0)
-            (type_at w r.node.0))) errors.WrongKind)) ≡ Some e
+        (type_at w r.node.0))) errors.WrongKind)) ≡ Some e
         → IsOfHandles e
     at true b c is = of-handles errors.NoSuchHandle e tt is
     at false true c is = of-handles errors.NotYours e tt is

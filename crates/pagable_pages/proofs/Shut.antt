@@ -29,8 +29,7 @@ no-entries (h ∷ hs) none = absurd (none h.node.0 (let a = sum_by-cons (λ x. o
 
 pub bare-fell : {before u w' : Core} {given : ℕ → Bool} {r : Result (Unit {0}) Error} → Falls before u given r w' → u.closed ≡ true → IsBare u → IsBare w'
 bare-fell {u = u} {w'} f closed b =
-    let none : f.entries ≡ [] = no-entries f.entries (λ n some. let e : true ≡ false = sym closed ∙ (f.only n some).0.stands_open in absurd (cc)) in
-    (
+    let none : f.entries ≡ [] = no-entries f.entries (λ n some. let e : true ≡ false = sym closed ∙ (f.only n some).0.stands_open in absurd (cc)) in (
       f.leaves.list ∙ ap (λ (qs : List HandleNumber). filter (λ (q : HandleNumber). not (f.gone q.0)) qs ++ map (λ (h : HandleRow). h.number) f.entries) b.0 ∙ ap (map (λ (h : HandleRow). h.number)) none,
       λ kind key. none-known (w'.cache kind key) (λ n is. sym (b.1 kind key) ∙ f.leaves.cache.only kind key n is),
     )

@@ -22,7 +22,7 @@ module _ (t : Tables) (stored stored' : ℕ → Option Blob) (closed closed' : B
   pub asked : stored' ≡ stored → closed' ≡ closed → failures ≤ failures' → Asked (core_of t stored closed failures) (core_of t stored' closed' failures')
   asked same stays more =
       subst (λ c. Asked (core_of t stored closed failures) (core_of t stored' c failures')) (sym stays)
-          (subst (λ s. Asked (core_of t stored closed failures) (core_of t s closed failures')) (sym same) (record { fails = more; leaves = still (core_of t stored closed failures') }))
+      (subst (λ s. Asked (core_of t stored closed failures) (core_of t s closed failures')) (sym same) (record { fails = more; leaves = still (core_of t stored closed failures') }))
 
   pub store-call : (digest : Blob → ℕ) (blob : Blob) (r : Result ℕ Error) → IfOk r (λ key. key ≡ digest blob) → OnOk r (Adds (digest blob) blob stored stored') → OnOk r (closed ≡ false) → IfErr r (RefusesStore blob (stored (digest blob)) closed failures failures')
       → OnErr r (stored' ≡ stored) → closed' ≡ closed → failures ≤ failures' → StoreCall digest (core_of t stored closed failures) blob r (core_of t stored' closed' failures')

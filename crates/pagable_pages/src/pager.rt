@@ -41,7 +41,6 @@ where
     E::Node: NodeSet<E>,
 {
     ghost use Rattle.pagable_pages.specs.View.{PagerView, IsPager, telling, spelling};
-
     ghost use Rattle.std.specs.Coded.{codes};
     ghost use Rattle.indexmap.specs.Layout.{hash_map_code};
 

@@ -90,7 +90,6 @@ still : {w : Core} → Spares w w
 still = spares-same refl (λ n. refl)
 
 module _ {N E : Type 0} {v : Values N} {s s' : PagerState N E} (is : WellFormed v s) (left : Leaves s.values s') where
-
   stays : Alike s.core s'.core → WellFormed v s'
   stays a = stayed is (spares-alike a) left
 

@@ -24,7 +24,13 @@ where
         ensures only { OnlyLess self.old self.new }
     {
         let lists = !self.storage.has_closed();
-        unpins::unpin(&mut self.tables, &mut self.values, Owner::Caller, handle, lists)
+        unpins::unpin(
+            &mut self.tables,
+            &mut self.values,
+            Owner::Caller,
+            handle,
+            lists,
+        )
     }
 
     /// A handle is given up; a pinning one lets its pin go as `unpin` does. A node without handles is gone, and its value with all handles that it owns, and so on.
@@ -34,7 +40,13 @@ where
         ensures only { OnlyLess self.old self.new }
     {
         let lists = !self.storage.has_closed();
-        releases::release(&mut self.tables, &mut self.values, Owner::Caller, handle, lists)
+        releases::release(
+            &mut self.tables,
+            &mut self.values,
+            Owner::Caller,
+            handle,
+            lists,
+        )
     }
 
     /// The cell of a loose handle gets a key, which replaces an older one, and its value goes where nothing pins it. Through a handle of another mode nothing
@@ -44,6 +56,13 @@ where
         ensures only { OnlyLess self.old self.new }
     {
         let lists = !self.storage.has_closed();
-        keys::set_data_key(&mut self.tables, &mut self.values, Owner::Caller, handle, key, lists)
+        keys::set_data_key(
+            &mut self.tables,
+            &mut self.values,
+            Owner::Caller,
+            handle,
+            key,
+            lists,
+        )
     }
 }
