@@ -1,6 +1,6 @@
 -- Tables of nothing are whole.
-use Rattle.std.proofs.Common.{◌≡◌, ℕ, ◌<◌, ◌≤◌, Bool, true, false, [], length, refl, ap, sym, subst, ◌∙◌, arith, inl, Some, None, nat_eq, sum_by}
-use Rattle.std.specs.Prelude.{Option, is_some, nat_lt}
+use Rattle.std.proofs.Common.{◌≡◌, ℕ, true, false, [], length, refl, ap, sym, subst, ◌∙◌, arith, inl, Some, None, nat_eq}
+use Rattle.std.specs.Prelude.{is_some}
 use Rattle.std.specs.Option.{option_map, option_map_or}
 use Rattle.indexmap.specs.IndexMap.{get}
 use Rattle.pagable_model.specs.declared.numbers.NodeNumber.{NodeNumber}
@@ -8,13 +8,11 @@ use Rattle.pagable_world.specs.declared.handles.HandleRow.{HandleRow}
 use Rattle.pagable_world.specs.Plain.{Among, is_in}
 use Rattle.pagable_world.specs.Kinds.{pins, held, sharing}
 use Rattle.pagable_world.specs.World.{Core}
-use Rattle.pagable_world.specs.Pager as pager
 use Rattle.pagable_tables.specs.declared.rows.NodeRow.{NodeRow}
-use Rattle.pagable_tables.specs.declared.rows.Counts.{Counts}
 use Rattle.pagable_tables.specs.declared.tables.Tables.{Tables}
 use Rattle.pagable_tables.specs.Live.{live, AreSound}
 use Rattle.pagable_tables.specs.ByNumber.{counts_at, refs_at, load_at, known_at}
-use Rattle.pagable_tables.specs.Falling.{pins_in, holds_in, falls_in, cell_in, named, owns, Right, IsFalling, owns_nothing}
+use Rattle.pagable_tables.specs.Falling.{pins_in, holds_in, cell_in, IsFalling, owns_nothing}
 use Rattle.pagable_tables.specs.Core.{IsWhole, plain_of, load_in}
 
 in-none : (v : ℕ) → is_in [] v ≡ false

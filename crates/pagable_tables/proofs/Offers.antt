@@ -1,5 +1,5 @@
 -- A handle is offered to the cache: why it is refused, and what is known then.
-use Rattle.std.proofs.Common.{◌≡◌, ℕ, ◌<◌, ◌≤◌, ◌==◌, ◌&&◌, Bool, true, false, refl, ap, sym, ◌∙◌, subst, arith, Ok, Err, Option, Some, None, inl, inr, if◌then◌else◌}
+use Rattle.std.proofs.Common.{◌≡◌, ℕ, ◌<◌, ◌==◌, ◌&&◌, Bool, true, false, refl, ap, ◌∙◌, subst, arith, Option, Some, None, inl, inr, if◌then◌else◌}
 use Rattle.std.specs.Prelude.{◌≢◌, ◌⊎◌, not, nat_lt}
 use Rattle.std.specs.Option.{option_map}
 use Rattle.std.proofs.lemmas.Bool.{cases_eq}
@@ -16,7 +16,7 @@ use Rattle.pagable_world.specs.Kinds.{fits_mode}
 use Rattle.pagable_world.specs.World.{Core, row_at, type_at}
 use Rattle.pagable_world.specs.Refusals.{earlier, rank, refused_if, spent, where_so, handle_fault, is_type}
 use Rattle.pagable_world.specs.Calls.{is_usable, offer_fault}
-use Rattle.pagable_tables.proofs.Pins.{handle-first, spent-late, no-fault, earlier-first}
+use Rattle.pagable_tables.proofs.Pins.{handle-first, spent-late}
 
 -- of two late causes any is late
 pub late : (a b : Option Error) (m : ℕ) → ((f : Error) → a ≡ Some f → m < rank f) → ((f : Error) → b ≡ Some f → m < rank f) → (f : Error) → earlier a b ≡ Some f → m < rank f

@@ -1,5 +1,5 @@
 -- A handle comes to another owner. What the list has is there.
-use Rattle.std.proofs.Common.{◌≡◌, ℕ, ◌+◌, ◌<◌, ◌≤◌, ◌==◌, ◌&&◌, Bool, true, false, List, [], length, get_or, sum_by, slice_get, refl, ap, sym, arith, Some, None}
+use Rattle.std.proofs.Common.{◌≡◌, ℕ, ◌+◌, ◌<◌, ◌≤◌, ◌==◌, ◌&&◌, true, false, List, [], length, get_or, sum_by, slice_get, refl, ap, sym, arith, Some, None}
 use Rattle.std.specs.List.{AllPairs}
 use Rattle.std.specs.Prelude.{Option}
 use Rattle.std.proofs.lemmas.Bool.Decides.{nat_tests}

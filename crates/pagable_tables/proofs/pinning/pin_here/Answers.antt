@@ -1,4 +1,4 @@
-use Rattle.std.proofs.Common.{◌≡◌, ◌∙◌, ℕ, ap, sym, subst, refl, false, Some, None, arith}
+use Rattle.std.proofs.Common.{◌≡◌, ◌∙◌, ℕ, ap, subst, refl, false, Some, None}
 use Rattle.pagable_world.specs.Kinds.{is_owner, is_shared, is_owned_by}
 use Rattle.pagable_world.specs.World.{Alike}
 use Rattle.pagable_world.specs.Calls.{with_mode}

@@ -1,4 +1,4 @@
-use Rattle.std.proofs.Common.{◌≡◌, if◌then◌else◌, ap, sym, subst, ◌∙◌, Ok, Some, None, nat_eq}
+use Rattle.std.proofs.Common.{◌≡◌, if◌then◌else◌, ap, sym, subst, ◌∙◌, Ok, Some, None}
 use Rattle.std.specs.Prelude.{is_some, false, true}
 use Rattle.std.specs.Option.{option_map, option_copied}
 use Rattle.std.specs.Arc.{arc_value}
