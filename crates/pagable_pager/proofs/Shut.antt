@@ -1,5 +1,5 @@
 -- Once the storage is closed nothing comes to the list or the cache.
-use Rattle.std.proofs.Common.{◌≡◌, ℕ, ◌<◌, Bool, true, false, List, [], ◌∷◌, ◌++◌, refl, ap, sym, ◌∙◌, Some, None, inl, inr, arith}
+use Rattle.std.proofs.Common.{Ok, Err, ◌≡◌, ℕ, ◌<◌, Bool, true, false, List, [], ◌∷◌, ◌++◌, refl, ap, sym, ◌∙◌, Some, None, inl, inr, arith}
 use Rattle.std.specs.Prelude.{Option, Result, map, filter, not}
 use Rattle.std.proofs.lemmas.Bool.Decides.{nat_tests}
 use Rattle.std.proofs.lemmas.List.Sums.{sum_by-cons}
@@ -10,7 +10,7 @@ use Rattle.pagable_world.specs.Plain.{Error, one}
 use Rattle.pagable_world.specs.Kinds.{is_at, held}
 use Rattle.pagable_world.specs.World.{Core, Alike}
 use Rattle.pagable_world.specs.Cascade.{Falls}
-use Rattle.pagable_world.specs.Calls.{ReleaseCall, UnpinCall, SetKeyCall}
+use Rattle.pagable_world.specs.Calls.{ReleaseCall, UnpinCall, SetKeyCall, ScheduleCall}
 
 -- nothing is listed or known
 abbrev pub IsBare : Core → Type 0
@@ -44,3 +44,7 @@ module _ {w w' : Core} (closed : w.closed ≡ true) (b : IsBare w) where
 
   pub key-set-bare : {me : Owner} {h : HandleNumber} {key : ℕ} {r : Result (Unit {0}) Error} → SetKeyCall w me h key r w' → IsBare w'
   key-set-bare c = elim c.does [ inl refused ↦ bare-alike refused.stays b | inr (row, owns, inl (mode, told, a)) ↦ bare-alike a b | inr (row, owns, inr (loose, f)) ↦ bare-fell f closed b ]
+
+  pub scheduled-bare : {me : Owner} {h : HandleNumber} (r : Result (Unit {0}) Error) → ScheduleCall w me h r w' → IsBare w'
+  scheduled-bare (Ok u) c = elim c.moves.2 [ inl (stands_open, a) ↦ absurd (let e : true ≡ false = sym closed ∙ stands_open in cc) | inr (shut, f) ↦ bare-fell f.falls closed b ]
+  scheduled-bare (Err e) c = bare-alike c.refused.stays b
