@@ -1,6 +1,6 @@
 //! What the cache gives and learns.
 
-ghost use Rattle.std.specs.Prelude.{◌≡◌, ℕ, [], Bool, Option, Some, IfSome, IfOk, IfErr, false};
+ghost use Rattle.std.specs.Prelude.{◌≡◌, ℕ, Bool, Option, Some, IfSome, IfOk, IfErr, false};
 ghost use Rattle.std.specs.Option.{option_map};
 ghost use Rattle.pagable_model.specs.declared.numbers.NodeNumber.{NodeNumber};
 ghost use Rattle.pagable_world.specs.Plain.{Blob, type_of};
@@ -8,7 +8,6 @@ ghost use Rattle.pagable_world.specs.Kinds.{fits_mode};
 ghost use Rattle.pagable_world.specs.World.{usable, type_at};
 ghost use Rattle.pagable_world.specs.Refusals.{Owns};
 ghost use Rattle.pagable_world.specs.Calls.{RecallCall, offer_fault};
-ghost use Rattle.pagable_tables.specs.Falling.{IsFalling, owns_nothing};
 ghost use Rattle.pagable_tables.specs.Offering.{Offered};
 ghost use Rattle.pagable_tables.specs.Core.{core_of, plain_of, IsWhole, MayHold};
 
@@ -59,7 +58,7 @@ pub fn cache_get(
 }
 
 /// The row of an own handle that may stand under this kind.
-fn offered(t: &Tables, me: Owner, kind: Kind, handle: HandleNumber) -> Result<HandleRow, Error>
+pub fn offered(t: &Tables, me: Owner, kind: Kind, handle: HandleNumber) -> Result<HandleRow, Error>
     requires { IsWhole t.now }
     ensures owns { IfOk result (λ row. Owns (plain_of t.now) me handle (fits_mode kind.0) row) }
     ensures typed { IfOk result (λ row. type_at (plain_of t.now) row.node.0 ≡ Some (type_of kind.0)) }
@@ -91,7 +90,7 @@ pub fn cache_put(
     requires holder { MayHold (plain_of t.old) me }
     ensures offered { (stored : ℕ → Option Blob) (failures : ℕ) → Offered (core_of t.old stored false failures) me kind key handle result (core_of t.new stored false failures) }
     ensures known { IfOk result (λ found. IfSome found (λ k. t.new ≡ record t.old { holdings = t.new.holdings })) }
-    ensures steady { IsFalling t.new.holdings [] owns_nothing }
+    ensures whole { IsWhole t.new }
 {
     let row = match offered(t, me, kind, handle) {
         Ok(row) => row,

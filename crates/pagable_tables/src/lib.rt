@@ -25,6 +25,7 @@ pub mod pinning;
 pub mod places;
 pub mod releases;
 pub mod rows;
+pub mod swapping;
 pub mod tables;
 pub mod turning;
 pub mod unpins;

@@ -1,4 +1,4 @@
-use Rattle.std.proofs.Common.{◌≡◌, Bool, ◌∙◌, ◌++◌, ◌∷◌, [], ap, refl, sym, subst, false, true, inl, inr, arith, rules, Ok, None}
+use Rattle.std.proofs.Common.{◌≡◌, ◌∙◌, ◌++◌, ◌∷◌, [], ap, refl, subst, false, inl, inr, arith, rules, Ok, None}
 use Rattle.std.specs.Prelude.{not}
 use Rattle.pagable_world.specs.Kinds.{is_unpinned, is_owner}
 use Rattle.pagable_world.specs.declared.handles.Owner.TheVariants as owners
@@ -14,7 +14,7 @@ use Rattle.pagable_tables.proofs.keeps.ListCalls.{schedule-whole}
 use Rattle.pagable_tables.proofs.keeps.Opened.{falls-opened}
 use Rattle.pagable_tables.proofs.keeps.Placed.{whole-so}
 use Rattle.pagable_tables.proofs.keeps.Told.{roomy-whole, alike-whole}
-use Rattle.pagable_tables.proofs.Begun.{begun-whole, not-closed}
+use Rattle.pagable_tables.proofs.Begun.{begun-whole, not-closed, shut-then, open-then}
 use Rattle.pagable_tables.proofs.Listed.{alike-listed}
 use Rattle.pagable_tables.proofs.Owned.{no-values}
 use Rattle.pagable_tables.proofs.Worlds.{still, owner-same}
@@ -29,14 +29,6 @@ give_back-requires-clause-plain g c = ap is_valued (owner-same c.args.me c.in-Ok
 
 pub give_back-requires-clause-free : goal.give_back-requires-clause-free
 give_back-requires-clause-free g c = ap (is_owner owners.List) (owner-same c.args.me c.in-Ok.at.row.owner c.in-Ok.ensures.owner) ∙ not-list (plain_of c.args.t.now) c.args.me c.requires.holder
-
-shut-then : (lists closed : Bool) → lists ≡ false → lists ≡ not closed → closed ≡ true
-shut-then lists true a b = refl
-shut-then lists false a b = absurd (let e : true ≡ false = sym b ∙ a in cc)
-
-open-then : (lists closed : Bool) → lists ≡ true → lists ≡ not closed → closed ≡ false
-open-then lists false a b = refl
-open-then lists true a b = absurd (let e : true ≡ false = sym a ∙ b in cc)
 
 pub returns-then-not-lists-clause-scheduled : goal.returns-then-not-lists-clause-scheduled
 returns-then-not-lists-clause-scheduled g c stored closed failures e =
