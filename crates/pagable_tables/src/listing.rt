@@ -38,7 +38,8 @@ pub fn schedule_for_paging<N: Drop>(
 ) -> Result<(), Error>
     requires whole { IsWhole t.old }
     requires holder { MayHold (plain_of t.old) me }
-    ensures scheduled { (stored : ℕ → Option Blob) (closed : Bool) (failures : ℕ) → lists ≡ not closed → ScheduleCall (core_of t.old stored closed failures) me handle result (core_of t.new stored closed failures) }
+    ensures scheduled { (stored : ℕ → Option Blob) (closed : Bool) (failures : ℕ) → lists ≡ not closed
+        → ScheduleCall (core_of t.old stored closed failures) me handle result (core_of t.new stored closed failures) }
     ensures whole { IsWhole t.new }
     ensures sheds { Sheds (counts_at t.old.holdings.nodes) (get nat_eq values.old) (counts_at t.new.holdings.nodes) (get nat_eq values.new) }
 {

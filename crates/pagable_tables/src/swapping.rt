@@ -34,7 +34,8 @@ fn give_number<N: Drop>(
     requires steady { IsFalling t.old [] owns_nothing }
     requires there { (row : HandleRow) × (find_row handle.0 (live t.old.handles.places.items) ≡ Some row) × (is_valued row.owner ≡ false) × (is_owner owners.List row.owner ≡ false) }
     ensures steady { IsFalling t.new [] owns_nothing }
-    ensures falls { (before w : Core) → SoFar before w nobody true (record t.old { unlisted = None }) → length (live t.old.handles.places.items) ≤ length w.rows → FallsAnyhow before w (only_handle handle) (with_tables w t.new) }
+    ensures falls { (before w : Core) → SoFar before w nobody true (record t.old { unlisted = None })
+        → length (live t.old.handles.places.items) ≤ length w.rows → FallsAnyhow before w (only_handle handle) (with_tables w t.new) }
     ensures sheds { Sheds (counts_at t.old.nodes) (get nat_eq values.old) (counts_at t.new.nodes) (get nat_eq values.new) }
 {
     let Some(at) = handles::look(&t.handles, handle) else {
@@ -56,9 +57,11 @@ pub fn offer<N: Drop>(
 ) -> Result<Option<HandleNumber>, Error>
     requires whole { IsWhole t.old }
     requires holder { MayHold (plain_of t.old) me }
-    ensures offered { (stored : ℕ → Option Blob) (closed : Bool) (failures : ℕ) → lists ≡ not closed → OfferCall (core_of t.old stored closed failures) me kind key handle result (core_of t.new stored closed failures) }
+    ensures offered { (stored : ℕ → Option Blob) (closed : Bool) (failures : ℕ) → lists ≡ not closed
+        → OfferCall (core_of t.old stored closed failures) me kind key handle result (core_of t.new stored closed failures) }
     ensures whole { IsWhole t.new }
-    ensures sheds { ((n : ℕ) → usable (plain_of t.old) kind.0 key ≡ Some n → is_pinning (mode_of kind.0) ≡ true → has_value (counts_at t.old.holdings.nodes n) ≡ true) → Sheds (counts_at t.old.holdings.nodes) (get nat_eq values.old) (counts_at t.new.holdings.nodes) (get nat_eq values.new) }
+    ensures sheds { ((n : ℕ) → usable (plain_of t.old) kind.0 key ≡ Some n → is_pinning (mode_of kind.0) ≡ true → has_value (counts_at t.old.holdings.nodes n) ≡ true)
+        → Sheds (counts_at t.old.holdings.nodes) (get nat_eq values.old) (counts_at t.new.holdings.nodes) (get nat_eq values.new) }
 {
     if !lists {
         return match offered(t, me, kind, handle) {
