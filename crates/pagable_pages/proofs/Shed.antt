@@ -5,13 +5,14 @@ use Rattle.std.proofs.lemmas.Bool.Decides.{nat_tests}
 use Rattle.std.specs.Option.{option_map}
 use Rattle.std.specs.Arc.{arc_value}
 use Rattle.std.specs.HashMap.{get}
-use Rattle.pagable_world.specs.Kinds.{has_key, is_in_memory, pins}
+use Rattle.pagable_world.specs.Kinds.{has_key, is_pinning, mode_of, pins}
 use Rattle.pagable_world.specs.Plain.{Blob}
-use Rattle.pagable_world.specs.World.{Core, is_here}
-use Rattle.pagable_world.specs.Cascade.{Falls, MustList}
+use Rattle.pagable_world.specs.World.{Core, is_here, usable}
 use Rattle.pagable_world.specs.Pager as pager
 use Rattle.pagable_world.specs.Pager.{WellFormed}
+use Rattle.pagable_laws.proofs.Usable.{entered-of}
 use Rattle.pagable_steps.proofs.Keeping.{Leaves}
+use Rattle.pagable_steps.proofs.SparedLists.{known-here}
 use Rattle.pagable_tables.specs.declared.rows.Counts.{Counts}
 use Rattle.pagable_tables.specs.declared.tables.Tables.{Tables}
 use Rattle.pagable_tables.specs.ByNumber.{counts_at}
@@ -58,6 +59,14 @@ left-map f false old (Some x) which some = absurd (cc)
 module _ {N S E : Type 0} (tells : Telling S) (g : Spelling N E) (p : PagerView N S E) (is : IsPager tells g p) where
   here-in : (n : ℕ) → (is_some ((core_in tells p).cells n) && is_here (core_in tells p) n) ≡ has_value (counts_at p.tables.holdings.nodes n)
   here-in n = here-told (counts_at p.tables.holdings.nodes n) (core_in tells p) n refl (sym (is.tables.steady.fits.pinned n))
+
+  -- the value is in memory of a node that the cache gives for handles that pin
+  pub known-valued : (kind key n : ℕ) → usable (core_in tells p) kind key ≡ Some n → is_pinning (mode_of kind) ≡ true → has_value (counts_at p.tables.holdings.nodes n) ≡ true
+  known-valued kind key n known pinning = sym (here-in n) ∙ both _ _ (entered-of kind key n (core_in tells p) known).there (known-here is.state.whole kind key n known pinning)
+    where
+      both : (a b : Bool) → a ≡ true → b ≡ true → (a && b) ≡ true
+      both true b e f = f
+      both false b e f = absurd (cc)
 
   pub kept-in : AreKept (counts_at p.tables.holdings.nodes) (get nat_eq p.values)
   kept-in n falls = sym (some-map arc_value (get nat_eq p.values n)) ∙ is.state.valued n ∙ here-in n

@@ -1,16 +1,17 @@
 -- Once the storage is closed nothing comes to the list or the cache.
-use Rattle.std.proofs.Common.{◌≡◌, ℕ, ◌<◌, Bool, true, false, List, [], ◌∷◌, ◌++◌, refl, ap, sym, ◌∙◌, Some, None, inl, inr, arith}
+use Rattle.std.proofs.Common.{Ok, Err, ◌≡◌, ℕ, ◌<◌, Bool, true, false, List, [], ◌∷◌, ◌++◌, refl, ap, sym, ◌∙◌, Some, None, inl, inr, arith}
 use Rattle.std.specs.Prelude.{Option, Result, map, filter, not}
 use Rattle.std.proofs.lemmas.Bool.Decides.{nat_tests}
 use Rattle.std.proofs.lemmas.List.Sums.{sum_by-cons}
 use Rattle.pagable_model.specs.declared.numbers.HandleNumber.{HandleNumber}
+use Rattle.pagable_model.specs.declared.numbers.Kind.{Kind}
 use Rattle.pagable_world.specs.declared.handles.HandleRow.{HandleRow}
 use Rattle.pagable_world.specs.declared.handles.Owner.{Owner}
 use Rattle.pagable_world.specs.Plain.{Error, one}
 use Rattle.pagable_world.specs.Kinds.{is_at, held}
 use Rattle.pagable_world.specs.World.{Core, Alike}
 use Rattle.pagable_world.specs.Cascade.{Falls}
-use Rattle.pagable_world.specs.Calls.{ReleaseCall, UnpinCall, SetKeyCall}
+use Rattle.pagable_world.specs.Calls.{ReleaseCall, UnpinCall, SetKeyCall, ScheduleCall, OfferCall}
 
 -- nothing is listed or known
 abbrev pub IsBare : Core → Type 0
@@ -43,3 +44,12 @@ module _ {w w' : Core} (closed : w.closed ≡ true) (b : IsBare w) where
 
   pub key-set-bare : {me : Owner} {h : HandleNumber} {key : ℕ} {r : Result (Unit {0}) Error} → SetKeyCall w me h key r w' → IsBare w'
   key-set-bare c = elim c.does [ inl refused ↦ bare-alike refused.stays b | inr (row, owns, inl (mode, told, a)) ↦ bare-alike a b | inr (row, owns, inr (loose, f)) ↦ bare-fell f closed b ]
+
+  pub scheduled-bare : {me : Owner} {h : HandleNumber} (r : Result (Unit {0}) Error) → ScheduleCall w me h r w' → IsBare w'
+  scheduled-bare (Ok u) c = elim c.moves.2 [ inl (stands_open, a) ↦ absurd (let e : true ≡ false = sym closed ∙ stands_open in cc) | inr (shut, f) ↦ bare-fell f.falls closed b ]
+  scheduled-bare (Err e) c = bare-alike c.refused.stays b
+
+  pub offered-bare : {me : Owner} {kind : Kind} {key : ℕ} {h : HandleNumber} (r : Result (Option HandleNumber) Error) → OfferCall w me kind key h r w' → IsBare w'
+  offered-bare (Ok None) c = absurd (let e : true ≡ false = sym closed ∙ c.answers.3.0 in cc)
+  offered-bare (Ok (Some k)) c = elim c.answers.3 [ inl (shut, same, a) ↦ bare-alike a b | inr (stands_open, makes) ↦ absurd (let e : true ≡ false = sym closed ∙ stands_open in cc) ]
+  offered-bare (Err e) c = bare-alike c.refused.stays b

@@ -8,6 +8,7 @@ ghost use Rattle.pagable_pages.specs.View.{state_in, telling, spelling, values_o
 
 pub mod handles;
 pub mod known;
+pub mod lists;
 pub mod loads;
 pub mod places;
 pub mod releases;

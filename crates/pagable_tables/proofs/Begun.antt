@@ -106,3 +106,11 @@ begun-whole t stored closed lists failures w e =
 pub not-closed : (lists : Bool) → lists ≡ not (not lists)
 not-closed true = refl
 not-closed false = refl
+
+pub shut-then : (lists closed : Bool) → lists ≡ false → lists ≡ not closed → closed ≡ true
+shut-then lists true a b = refl
+shut-then lists false a b = absurd (let e : true ≡ false = sym b ∙ a in cc)
+
+pub open-then : (lists closed : Bool) → lists ≡ true → lists ≡ not closed → closed ≡ false
+open-then lists false a b = refl
+open-then lists true a b = absurd (let e : true ≡ false = sym a ∙ b in cc)

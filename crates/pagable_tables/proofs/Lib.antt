@@ -27,6 +27,7 @@ pub mod keeps
 mod Fewer
 mod Pins
 mod Offers
+mod Swapped
 mod Regiven
 mod Named
 mod Lowered

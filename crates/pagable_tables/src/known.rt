@@ -60,7 +60,7 @@ pub fn cache_get(
 }
 
 /// The row of an own handle that may stand under this kind.
-fn offered(t: &Tables, me: Owner, kind: Kind, handle: HandleNumber) -> Result<HandleRow, Error>
+pub fn offered(t: &Tables, me: Owner, kind: Kind, handle: HandleNumber) -> Result<HandleRow, Error>
     requires { IsWhole t.now }
     ensures owns { IfOk result (λ row. Owns (plain_of t.now) me handle (fits_mode kind.0) row) }
     ensures typed { IfOk result (λ row. type_at (plain_of t.now) row.node.0 ≡ Some (type_of kind.0)) }

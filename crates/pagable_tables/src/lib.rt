@@ -28,6 +28,7 @@ pub mod references;
 pub mod releases;
 pub mod rows;
 pub mod start;
+pub mod swapping;
 pub mod tables;
 pub mod turning;
 pub mod unpins;

@@ -1,18 +1,24 @@
 //! The list of cells that wait for page-out: entries come and are taken.
 
-ghost use Rattle.std.specs.Prelude.{◌≡◌, ℕ, Bool, Option, false, length};
+ghost use Rattle.std.specs.Prelude.{◌≡◌, ℕ, Bool, Option, length, nat_eq, not};
 ghost use Rattle.pagable_world.specs.Plain.{Blob};
 ghost use Rattle.pagable_world.specs.Calls.{ScheduleCall, TakeCall};
+ghost use Rattle.indexmap.specs.IndexMap.{get};
+ghost use Rattle.pagable_tables.specs.ByNumber.{counts_at};
+ghost use Rattle.pagable_tables.specs.Falling.{Sheds};
 ghost use Rattle.pagable_tables.specs.Core.{core_of, plain_of, IsWhole, MayHold};
 
 use crate::handles;
 use crate::holdings::make_place;
 use crate::kinds::is_unpinned;
 use crate::moving::hand_over;
+use crate::releases::give_back;
 use crate::tables::Tables;
 use crate::turning::own;
+use indexmap::IndexMap;
 use pagable_model::{Error, HandleNumber};
 use pagable_world::handles::Owner;
+use std::sync::Arc;
 
 /// How many cells wait for page-out.
 pub fn pending_len(t: &Tables) -> usize
@@ -21,13 +27,21 @@ pub fn pending_len(t: &Tables) -> usize
     t.holdings.list.len()
 }
 
-/// A loose unpinned handle moves to the list's end, while the storage is open. It is refused where it isn't an own handle of that mode, or the list has no
-/// place.
-pub fn schedule_for_paging(t: &mut Tables, me: Owner, handle: HandleNumber) -> Result<(), Error>
+/// A loose unpinned handle moves to the list's end, while cells are listed; otherwise it is given up, with all that goes with it. It is refused where it isn't an
+/// own handle of that mode, or the list has no place.
+pub fn schedule_for_paging<N: Drop>(
+    t: &mut Tables,
+    values: &mut IndexMap<u64, Arc<N>>,
+    me: Owner,
+    handle: HandleNumber,
+    lists: bool,
+) -> Result<(), Error>
     requires whole { IsWhole t.old }
     requires holder { MayHold (plain_of t.old) me }
-    ensures scheduled { (stored : ℕ → Option Blob) (failures : ℕ) → ScheduleCall (core_of t.old stored false failures) me handle result (core_of t.new stored false failures) }
+    ensures scheduled { (stored : ℕ → Option Blob) (closed : Bool) (failures : ℕ) → lists ≡ not closed
+        → ScheduleCall (core_of t.old stored closed failures) me handle result (core_of t.new stored closed failures) }
     ensures whole { IsWhole t.new }
+    ensures sheds { Sheds (counts_at t.old.holdings.nodes) (get nat_eq values.old) (counts_at t.new.holdings.nodes) (get nat_eq values.new) }
 {
     let at = match own(t, me, handle) {
         Ok(at) => at,
@@ -35,6 +49,10 @@ pub fn schedule_for_paging(t: &mut Tables, me: Owner, handle: HandleNumber) -> R
     };
     if !is_unpinned(at.row.mode) {
         return Err(Error::WrongMode);
+    }
+    if !lists {
+        let _ = give_back(&mut t.holdings, values, at, lists);
+        return Ok(());
     }
     let Ok(()) = make_place(&mut t.holdings.list) else {
         return Err(Error::OutOfMemory);

@@ -1,24 +1,58 @@
-use Rattle.std.proofs.Common.{None, Ok, false, ◌≡◌, ◌∙◌, ◌++◌, ◌∷◌, [], ap, refl, inl, arith, rules}
-use Rattle.pagable_world.specs.Kinds.{is_unpinned}
+use Rattle.std.proofs.Common.{◌≡◌, ◌∙◌, ◌++◌, ◌∷◌, [], ap, refl, subst, false, inl, inr, arith, rules, Ok, None}
+use Rattle.std.specs.Prelude.{not}
+use Rattle.pagable_world.specs.Kinds.{is_unpinned, is_owner}
 use Rattle.pagable_world.specs.declared.handles.Owner.TheVariants as owners
 use Rattle.pagable_world.specs.Calls.{moved}
-use Rattle.pagable_world.specs.Cascade.{only_handle}
+use Rattle.pagable_world.specs.Cascade.{only_handle, Falls}
 use Rattle.pagable_tables.specs.Live.{live}
-use Rattle.pagable_tables.specs.Falling.{is_valued}
-use Rattle.pagable_tables.specs.Core.{plain_of}
-use Rattle.pagable_tables.proofs.keeps.Comes.{not-a-value}
+use Rattle.pagable_tables.specs.Falling.{is_valued, owns_nothing}
+use Rattle.pagable_tables.specs.Core.{plain_of, core_of}
+use Rattle.pagable_tables.proofs.keeps.Comes.{not-a-value, not-list}
+use Rattle.pagable_tables.proofs.keeps.Fallen.{may-fall}
+use Rattle.pagable_tables.proofs.keeps.GoingOn.{stays-on}
 use Rattle.pagable_tables.proofs.keeps.ListCalls.{schedule-whole}
-use Rattle.pagable_tables.proofs.keeps.Told.{alike-whole}
+use Rattle.pagable_tables.proofs.keeps.Opened.{falls-opened}
 use Rattle.pagable_tables.proofs.keeps.Placed.{whole-so}
+use Rattle.pagable_tables.proofs.keeps.Told.{roomy-whole, alike-whole}
+use Rattle.pagable_tables.proofs.Begun.{begun-whole, not-closed, shut-then, open-then}
 use Rattle.pagable_tables.proofs.Listed.{alike-listed}
 use Rattle.pagable_tables.proofs.Worlds.{still, owner-same}
+use Rattle.pagable_tables.proofs.Shedding.{sheds-still}
 use Rattle.pagable_tables.proofs.listing.schedule_for_paging.Goals as goal
 
 pub returns-in-Err-clause-scheduled : goal.returns-in-Err-clause-scheduled
-returns-in-Err-clause-scheduled c stored failures = record { moves = tt; refused = record { why = inl (c.in-Err.ensures.fault stored false failures is_unpinned); stays = still _ } }
+returns-in-Err-clause-scheduled g c stored closed failures e = record { moves = tt; refused = record { why = inl (c.in-Err.ensures.fault stored closed failures is_unpinned); stays = still _ } }
+
+pub give_back-requires-clause-plain : goal.give_back-requires-clause-plain
+give_back-requires-clause-plain g c = ap is_valued (owner-same c.args.me c.in-Ok.at.row.owner c.in-Ok.ensures.owner) ∙ not-a-value (plain_of c.args.t.now) c.args.me c.requires.holder
+
+pub give_back-requires-clause-free : goal.give_back-requires-clause-free
+give_back-requires-clause-free g c = ap (is_owner owners.List) (owner-same c.args.me c.in-Ok.at.row.owner c.in-Ok.ensures.owner) ∙ not-list (plain_of c.args.t.now) c.args.me c.requires.holder
+
+pub returns-then-not-lists-clause-scheduled : goal.returns-then-not-lists-clause-scheduled
+returns-then-not-lists-clause-scheduled g c stored closed failures e =
+    let row = c.in-Ok.at.row in
+    let w = core_of c.args.t.now stored closed failures in
+    let w' = core_of (record c.args.t.now { holdings = c.give_back.new.t }) stored closed failures in
+    let falls : Falls w w (only_handle c.args.handle) c.give_back.result w' = subst (λ q. Falls w w (only_handle q) c.give_back.result w') c.in-Ok.ensures.number (c.give_back.ensures.falls w w (begun-whole c.args.t.now stored closed c.args.lists failures c.requires.whole e) (omega arith)) in
+    record {
+      moves = (
+        row,
+        record { live = c.in-Ok.ensures.found; own = owner-same c.args.me row.owner c.in-Ok.ensures.owner; as_asked = search rules },
+        inr (shut-then c.args.lists closed c.if-not-lists.true e, record { told = c.give_back.result; falls = falls }),
+      );
+      refused = tt;
+    }
+
+pub returns-then-not-lists-clause-whole : goal.returns-then-not-lists-clause-whole
+returns-then-not-lists-clause-whole g c =
+    let w = core_of c.args.t.now (λ key. None) (not c.args.lists) 0 in
+    let is = c.requires.whole.core in
+    let falls = c.give_back.ensures.falls w w (begun-whole c.args.t.now (λ key. None) (not c.args.lists) c.args.lists 0 c.requires.whole (not-closed c.args.lists)) (omega arith) in
+    whole-so c.give_back.ensures.steady (falls-opened (may-fall (only_handle c.in-Ok.at.row.number) is (roomy-whole is) (stays-on (plain_of c.args.t.now))) falls)
 
 pub returns-clause-scheduled : goal.returns-clause-scheduled
-returns-clause-scheduled c stored failures =
+returns-clause-scheduled g c stored closed failures e =
     let row = c.in-Ok.at.row in
     let list : c.push.new.self.items ≡ c.args.t.now.holdings.list.items ++ c.args.handle ∷ [] = search rules in
     let rows = c.hand_over.ensures.rows ∙ ap (λ q. moved (only_handle q) owners.List (live c.args.t.now.holdings.handles.places.items)) c.in-Ok.ensures.number in
@@ -26,21 +60,23 @@ returns-clause-scheduled c stored failures =
       moves = (
         row,
         record { live = c.in-Ok.ensures.found; own = owner-same c.args.me row.owner c.in-Ok.ensures.owner; as_asked = search rules },
-        inl (refl, alike-listed _ _ rows list (record { handles = omega arith; entries = search rules }) refl),
+        inl (open-then c.args.lists closed c.if-not-lists.false e, alike-listed _ _ (c.hand_over.ensures.rows ∙ ap (λ q. moved (only_handle q) owners.List (live c.args.t.now.holdings.handles.places.items)) c.in-Ok.ensures.number) list (record { handles = omega arith; entries = search rules }) refl),
       );
       refused = tt;
     }
 
 pub returns-clause-whole : goal.returns-clause-whole
-returns-clause-whole c =
-    let u = c.args.t.now in
+returns-clause-whole g c =
+    let row = c.in-Ok.at.row in
     let w = c.requires.whole.steady in
-    let unvalued = ap is_valued (owner-same c.args.me c.in-Ok.at.row.owner c.in-Ok.ensures.owner) ∙ not-a-value (plain_of u) c.args.me c.requires.holder in
-    let steady = c.hand_over.ensures.stands (record u.holdings { list = c.push.new.self }) unvalued refl (record { sound = w.sound; next = w.next; fits = w.fits }) in
-    whole-so steady (schedule-whole c.args.me c.args.handle (Ok tt) c.requires.whole.core c.requires.holder (returns-clause-scheduled c (λ key. None) 0))
+    let free = no-values row owners.List (ap is_valued (owner-same c.args.me row.owner c.in-Ok.ensures.owner) ∙ not-a-value (plain_of c.args.t.now) c.args.me c.requires.holder) refl in
+    let steady = c.hand_over.ensures.falling (record c.args.t.now.holdings { list = c.push.new.self }) owns_nothing owns_nothing free (record { sound = w.sound; next = w.next; fits = w.fits }) in
+    whole-so steady (schedule-whole c.args.me c.args.handle (Ok tt) c.requires.whole.core c.requires.holder (returns-clause-scheduled g c (λ key. None) false 0 c.if-not-lists.false))
 
 pub returns-in_default-clause-whole : goal.returns-in_default-clause-whole
-returns-in_default-clause-whole c =
+returns-in_default-clause-whole g c =
     let w = c.requires.whole.steady in
-    let alike = alike-listed (plain_of c.args.t.now) _ refl c.make_place.ensures.items (record { handles = omega arith; entries = c.make_place.ensures.capacity }) refl in
-    whole-so (record { sound = w.sound; next = w.next; fits = w.fits }) (alike-whole c.requires.whole.core alike)
+    whole-so (record { sound = w.sound; next = w.next; fits = w.fits }) (alike-whole c.requires.whole.core (alike-listed (plain_of c.args.t.now) _ refl c.make_place.ensures.items (record { handles = omega arith; entries = c.make_place.ensures.capacity }) refl))
+
+pub returns-clause-sheds : goal.returns-clause-sheds
+returns-clause-sheds g c = sheds-still c.args.t.now.holdings _ c.requires.whole.steady

@@ -1,0 +1,29 @@
+use Rattle.std.proofs.Common.{◌≡◌, ap, sym, ◌∙◌, subst, Some}
+use Rattle.pagable_model.specs.declared.numbers.HandleNumber.{HandleNumber}
+use Rattle.pagable_world.specs.Kinds.{is_owner}
+use Rattle.pagable_world.specs.Cascade.{FallsAnyhow, only_handle}
+use Rattle.pagable_world.specs.declared.handles.Owner.TheVariants as owners
+use Rattle.pagable_world.specs.declared.handles.HandleRow.{HandleRow}
+use Rattle.pagable_tables.specs.Falling.{is_valued}
+use Rattle.pagable_tables.specs.Onward.{with_tables}
+use Rattle.pagable_tables.proofs.swapping.give_number.Goals as goal
+
+same-row : (a b : HandleRow) → Some a ≡ Some b → a ≡ b
+same-row a b e = cc
+
+pub unreachable-requires : goal.unreachable-requires
+unreachable-requires g c = let e = sym c.in_default.ensures.none ∙ c.requires.there.1 in absurd (cc)
+
+pub give_back-requires-clause-plain : goal.give_back-requires-clause-plain
+give_back-requires-clause-plain g c =
+    let same = same-row c.in-Some.at.row c.requires.there.0 (sym c.in-Some.ensures.found ∙ c.requires.there.1) in
+    ap (λ (h : HandleRow). is_valued h.owner) same ∙ c.requires.there.2
+
+pub give_back-requires-clause-free : goal.give_back-requires-clause-free
+give_back-requires-clause-free g c =
+    let same = same-row c.in-Some.at.row c.requires.there.0 (sym c.in-Some.ensures.found ∙ c.requires.there.1) in
+    ap (λ (h : HandleRow). is_owner owners.List h.owner) same ∙ c.requires.there.3
+
+pub returns-clause-falls : goal.returns-clause-falls
+returns-clause-falls g c before w f few =
+    subst (λ (q : HandleNumber). FallsAnyhow before w (only_handle q) (with_tables w c.give_back.new.t)) c.in-Some.ensures.number (record { told = c.give_back.result; falls = c.give_back.ensures.falls before w f few })

@@ -1,0 +1,75 @@
+use Rattle.std.proofs.Common.{◌≡◌, ◌+◌, ◌∙◌, false, None, Ok, Err, Some, inr, refl, ap, sym, subst, arith}
+use Rattle.std.specs.Prelude.{IfSome, length}
+use Rattle.std.proofs.lemmas.Bool.Decides.{nat_tests}
+use Rattle.pagable_world.specs.declared.handles.Owner.TheVariants as owners
+use Rattle.pagable_world.specs.Kinds.{is_owner, mode_of}
+use Rattle.pagable_world.specs.Calls.{OfferCall, with_known}
+use Rattle.pagable_world.specs.Cascade.{Falls, only_handle}
+use Rattle.pagable_tables.specs.declared.tables.Tables.{Tables}
+use Rattle.pagable_tables.specs.Falling.{is_valued}
+use Rattle.pagable_tables.specs.Core.{core_of, plain_of}
+use Rattle.pagable_tables.specs.Offering.{Offered}
+use Rattle.pagable_tables.proofs.Begun.{open-then}
+use Rattle.pagable_tables.proofs.Pins.{found-again}
+use Rattle.pagable_tables.proofs.Shedding.{stays-first, sheds-still}
+use Rattle.pagable_tables.proofs.Swapped.{begun-made, swapped, values-made, values-still}
+use Rattle.pagable_tables.proofs.keeps.CacheCalls.{offer-whole}
+use Rattle.pagable_tables.proofs.keeps.Comes.{not-a-value, not-list}
+use Rattle.pagable_tables.proofs.keeps.Placed.{whole-so}
+use Rattle.pagable_tables.proofs.keeps.Rows.{found-among}
+use Rattle.pagable_tables.proofs.swapping.offer.Goals as goal
+
+pub give_number-requires-clause-there : goal.give_number-requires-clause-there
+give_number-requires-clause-there g c =
+    let (row, owns, typed, (n, known, next, alike)) = (subst (λ f. Offered (core_of c.args.t.now (λ key. None) false 0) c.args.me c.args.kind c.args.key c.args.handle (Ok f) (core_of c.cache_put.new.t (λ key. None) false 0)) c.in-Ok-Some.field-0-is (c.in-Ok-Some.ensures.offered (λ key. None) 0)).answers in
+    let w = plain_of c.args.t.now in
+    (
+      row,
+      found-again c.args.handle.0 _ _ _ row _ owns.live alike.rows refl,
+      ap is_valued owns.own ∙ not-a-value w c.args.me c.requires.holder,
+      ap (is_owner owners.List) owns.own ∙ not-list w c.args.me c.requires.holder,
+    )
+
+pub returns-in-Ok-Some-clause-offered : goal.returns-in-Ok-Some-clause-offered
+returns-in-Ok-Some-clause-offered g c stored closed failures e =
+    let (row, owns, typed, (n, known, next, alike)) = (subst (λ f. Offered (core_of c.args.t.now stored false failures) c.args.me c.args.kind c.args.key c.args.handle (Ok f) (core_of c.cache_put.new.t stored false failures)) c.in-Ok-Some.field-0-is (c.in-Ok-Some.ensures.offered stored failures)).answers in
+    let t = c.args.t.now in
+    let t1 = c.cache_put.new.t in
+    let w = core_of t stored false failures in
+    let u = with_known w c.args.kind n c.args.me in
+    let numbered = c.requires.whole.core.handles.numbered in
+    let made = begun-made t t1 stored failures (record { 0 = n }) (mode_of c.args.kind.0) c.args.me c.cache_put.ensures.whole alike in
+    let fell = c.give_number.ensures.falls u u made (let a = ap length alike.rows in omega arith) in
+    let given = found-among c.args.handle.0 w.rows row owns.live in
+    let spared : only_handle c.args.handle (w.last.handle + 1) ≡ false = let a = (numbered row given.0).1 in let b = given.1 in grind (arith, nat_tests) in
+    let falls = swapped w (record { 0 = n }) (mode_of c.args.kind.0) c.args.me (λ h among. (numbered h among).1) (not-a-value (plain_of t) c.args.me c.requires.holder) fell.falls spared in
+    let anew : Falls w u (only_handle c.args.handle) fell.told (core_of (record t1 { holdings = c.give_number.new.t }) stored false failures) =
+        subst (λ (z : Tables). Falls w u (only_handle c.args.handle) fell.told (core_of (record z { holdings = c.give_number.new.t }) stored false failures)) (sym (subst (λ f. IfSome f (λ k. t1 ≡ record t { holdings = t1.holdings })) c.in-Ok-Some.field-0-is c.in-Ok-Some.ensures.known)) falls in
+    subst (λ b. OfferCall (core_of t stored b failures) c.args.me c.args.kind c.args.key c.args.handle (Ok (Some c.in-Ok-Some.known)) (core_of (record t1 { holdings = c.give_number.new.t }) stored b failures))
+    (sym (open-then c.args.lists closed c.if-not-lists.false e))
+    (record { answers = (row, owns, typed, inr (refl, (n, known, next, record { told = fell.told; falls = anew }))); refused = tt })
+
+pub returns-in-Ok-Some-clause-whole : goal.returns-in-Ok-Some-clause-whole
+returns-in-Ok-Some-clause-whole g c =
+    whole-so c.give_number.ensures.steady (offer-whole c.args.me c.args.kind c.args.key c.args.handle (Ok (Some c.in-Ok-Some.known)) c.requires.whole.core c.requires.holder (returns-in-Ok-Some-clause-offered g c (λ key. None) false 0 c.if-not-lists.false))
+
+pub returns-in-Ok-Some-clause-sheds : goal.returns-in-Ok-Some-clause-sheds
+returns-in-Ok-Some-clause-sheds g c there =
+    let (row, owns, typed, (n, known, next, alike)) = (subst (λ f. Offered (core_of c.args.t.now (λ key. None) false 0) c.args.me c.args.kind c.args.key c.args.handle (Ok f) (core_of c.cache_put.new.t (λ key. None) false 0)) c.in-Ok-Some.field-0-is (c.in-Ok-Some.ensures.offered (λ key. None) 0)).answers in
+    stays-first (values-made c.args.t.now c.cache_put.new.t (λ key. None) 0 (record { 0 = n }) (mode_of c.args.kind.0) c.args.me c.cache_put.ensures.whole alike c.requires.whole (there n known)) c.give_number.ensures.sheds
+
+pub returns-in-Ok-None-clause-offered : goal.returns-in-Ok-None-clause-offered
+returns-in-Ok-None-clause-offered g c stored closed failures e =
+    let (row, owns, typed, learned) = (subst (λ f. Offered (core_of c.args.t.now stored false failures) c.args.me c.args.kind c.args.key c.args.handle (Ok f) (core_of c.cache_put.new.t stored false failures)) c.in-Ok-None.field-0-is (c.in-Ok-None.ensures.offered stored failures)).answers in
+    subst (λ b. OfferCall (core_of c.args.t.now stored b failures) c.args.me c.args.kind c.args.key c.args.handle (Ok None) (core_of c.cache_put.new.t stored b failures))
+    (sym (open-then c.args.lists closed c.if-not-lists.false e)) (record { answers = (row, owns, typed, (refl, learned.0, learned.1)); refused = tt })
+
+pub returns-in-Ok-None-clause-sheds : goal.returns-in-Ok-None-clause-sheds
+returns-in-Ok-None-clause-sheds g c there =
+    let learned = (subst (λ f. Offered (core_of c.args.t.now (λ key. None) false 0) c.args.me c.args.kind c.args.key c.args.handle (Ok f) (core_of c.cache_put.new.t (λ key. None) false 0)) c.in-Ok-None.field-0-is (c.in-Ok-None.ensures.offered (λ key. None) 0)).answers.3.1 in
+    stays-first (values-still c.args.t.now c.cache_put.new.t c.requires.whole c.cache_put.ensures.whole learned.rows learned.cells) (sheds-still c.cache_put.new.t.holdings _ c.cache_put.ensures.whole.steady)
+
+pub returns-in-Err-cache_put-clause-offered : goal.returns-in-Err-cache_put-clause-offered
+returns-in-Err-cache_put-clause-offered g c stored closed failures e =
+    subst (λ b. OfferCall (core_of c.args.t.now stored b failures) c.args.me c.args.kind c.args.key c.args.handle (Err c.in-Err-cache_put.e) (core_of c.cache_put.new.t stored b failures))
+    (sym (open-then c.args.lists closed c.if-not-lists.false e)) (record { answers = tt; refused = (c.in-Err-cache_put.ensures.offered stored failures).refused })

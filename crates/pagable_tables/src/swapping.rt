@@ -1,0 +1,80 @@
+//! A handle that is offered to the cache, and is given up where the cache gives a node already.
+
+ghost use Rattle.std.specs.Prelude.{◌≡◌, ℕ, ◌≤◌, [], length, Bool, Option, None, Some, not, true, false, nat_eq};
+ghost use Rattle.pagable_world.specs.declared.handles.HandleRow.{HandleRow};
+ghost use Rattle.pagable_world.specs.declared.handles.Owner.TheVariants as owners;
+ghost use Rattle.pagable_world.specs.Plain.{Blob};
+ghost use Rattle.pagable_world.specs.Kinds.{find_row, is_owner, is_pinning, mode_of};
+ghost use Rattle.pagable_world.specs.World.{Core, usable};
+ghost use Rattle.pagable_world.specs.Calls.{OfferCall};
+ghost use Rattle.pagable_world.specs.Cascade.{FallsAnyhow, nobody, only_handle};
+ghost use Rattle.pagable_tables.specs.Live.{live};
+ghost use Rattle.indexmap.specs.IndexMap.{get};
+ghost use Rattle.pagable_tables.specs.ByNumber.{counts_at};
+ghost use Rattle.pagable_tables.specs.Falling.{IsFalling, has_value, is_valued, owns_nothing, Sheds};
+ghost use Rattle.pagable_tables.specs.Onward.{with_tables, SoFar};
+ghost use Rattle.pagable_tables.specs.Core.{core_of, plain_of, IsWhole, MayHold};
+
+use crate::handles;
+use crate::holdings::Holdings;
+use crate::known::{cache_put, offered};
+use crate::releases::give_back;
+use crate::tables::Tables;
+use indexmap::IndexMap;
+use pagable_model::{DataKey, Error, HandleNumber, Kind};
+use pagable_world::handles::Owner;
+use std::sync::Arc;
+
+/// The live handle of this number is given up, with all that goes with it.
+fn give_number<N: Drop>(
+    t: &mut Holdings,
+    values: &mut IndexMap<u64, Arc<N>>,
+    handle: HandleNumber,
+)
+    requires steady { IsFalling t.old [] owns_nothing }
+    requires there { (row : HandleRow) × (find_row handle.0 (live t.old.handles.places.items) ≡ Some row) × (is_valued row.owner ≡ false) × (is_owner owners.List row.owner ≡ false) }
+    ensures steady { IsFalling t.new [] owns_nothing }
+    ensures falls { (before w : Core) → SoFar before w nobody true (record t.old { unlisted = None })
+        → length (live t.old.handles.places.items) ≤ length w.rows → FallsAnyhow before w (only_handle handle) (with_tables w t.new) }
+    ensures sheds { Sheds (counts_at t.old.nodes) (get nat_eq values.old) (counts_at t.new.nodes) (get nat_eq values.new) }
+{
+    let Some(at) = handles::look(&t.handles, handle) else {
+        unreachable!();
+    };
+    let _ = give_back(t, values, at, true);
+}
+
+/// The cache learns a handle's node, while cells are listed. Where it gives a node already, a handle of that is answered, and the one that was offered is given
+/// up. While none are listed the handle itself is answered. It is refused as `cache_put` is.
+pub fn offer<N: Drop>(
+    t: &mut Tables,
+    values: &mut IndexMap<u64, Arc<N>>,
+    me: Owner,
+    kind: Kind,
+    key: DataKey,
+    handle: HandleNumber,
+    lists: bool,
+) -> Result<Option<HandleNumber>, Error>
+    requires whole { IsWhole t.old }
+    requires holder { MayHold (plain_of t.old) me }
+    ensures offered { (stored : ℕ → Option Blob) (closed : Bool) (failures : ℕ) → lists ≡ not closed
+        → OfferCall (core_of t.old stored closed failures) me kind key handle result (core_of t.new stored closed failures) }
+    ensures whole { IsWhole t.new }
+    ensures sheds { ((n : ℕ) → usable (plain_of t.old) kind.0 key ≡ Some n → is_pinning (mode_of kind.0) ≡ true → has_value (counts_at t.old.holdings.nodes n) ≡ true)
+        → Sheds (counts_at t.old.holdings.nodes) (get nat_eq values.old) (counts_at t.new.holdings.nodes) (get nat_eq values.new) }
+{
+    if !lists {
+        return match offered(t, me, kind, handle) {
+            Ok(_) => Ok(Some(handle)),
+            Err(e) => Err(e),
+        };
+    }
+    match cache_put(t, me, kind, key, handle) {
+        Ok(Some(known)) => {
+            give_number(&mut t.holdings, values, handle);
+            Ok(Some(known))
+        }
+        Ok(None) => Ok(None),
+        Err(e) => Err(e),
+    }
+}
