@@ -69,8 +69,8 @@ pub returns-clause-whole : goal.returns-clause-whole
 returns-clause-whole g c =
     let row = c.in-Ok.at.row in
     let w = c.requires.whole.steady in
-    let free = no-values row owners.List (ap is_valued (owner-same c.args.me row.owner c.in-Ok.ensures.owner) ∙ not-a-value (plain_of c.args.t.now) c.args.me c.requires.holder) refl in
-    let steady = c.hand_over.ensures.falling (record c.args.t.now.holdings { list = c.push.new.self }) owns_nothing owns_nothing free (record { sound = w.sound; next = w.next; fits = w.fits }) in
+    let unvalued = ap is_valued (owner-same c.args.me row.owner c.in-Ok.ensures.owner) ∙ not-a-value (plain_of c.args.t.now) c.args.me c.requires.holder in
+    let steady = c.hand_over.ensures.stands (record c.args.t.now.holdings { list = c.push.new.self }) unvalued refl (record { sound = w.sound; next = w.next; fits = w.fits }) in
     whole-so steady (schedule-whole c.args.me c.args.handle (Ok tt) c.requires.whole.core c.requires.holder (returns-clause-scheduled g c (λ key. None) false 0 c.if-not-lists.false))
 
 pub returns-in_default-clause-whole : goal.returns-in_default-clause-whole
