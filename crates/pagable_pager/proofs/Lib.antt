@@ -6,3 +6,4 @@ pub mod Spared
 pub mod Stored
 pub mod Shed
 pub mod Shut
+pub mod Asking
