@@ -29,6 +29,8 @@ mod Pins
 mod Offers
 mod Regiven
 mod Named
+mod Born
+mod NewNodes
 mod Lowered
 mod Dropped
 mod Asked
@@ -38,4 +40,6 @@ mod Seen
 mod Handed
 mod KeySet
 mod Taken
-mod Newer
+pub mod Newer
+mod Adopted
+mod Lazily

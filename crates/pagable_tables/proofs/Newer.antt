@@ -14,20 +14,25 @@ use Rattle.pagable_world.specs.declared.rows.Mode.{Mode}
 use Rattle.pagable_world.specs.declared.rows.Mode.TheVariants as modes
 use Rattle.pagable_world.specs.declared.answers.Beginning.{Beginning}
 use Rattle.pagable_world.specs.declared.answers.Beginning.TheVariants as beginnings
+use Rattle.pagable_world.specs.declared.answers.Pinning.{Pinning}
+use Rattle.pagable_world.specs.declared.answers.Pinning.TheVariants as pinnings
 use Rattle.pagable_model.specs.declared.numbers.Kind.{Kind}
-use Rattle.pagable_world.specs.Plain.{Blob, if_there, is_in}
-use Rattle.pagable_world.specs.Kinds.{is_owner, is_owned_by, find_row, mode_of}
+use Rattle.pagable_model.specs.declared.numbers.ArcRef.{ArcRef}
+use Rattle.pagable_model.specs.declared.data_key.OptionalDataKey.{OptionalDataKey}
+use Rattle.pagable_model.specs.declared.data_key.OptionalDataKey.TheVariants as optional
+use Rattle.pagable_world.specs.Plain.{if_there, is_in, type_of, changed}
+use Rattle.pagable_world.specs.Kinds.{is_handle, is_owner, is_owned_by, owner_value, find_row, mode_of}
 use Rattle.pagable_world.specs.World.{Core, Last, Alike}
 use Rattle.pagable_world.specs.Pager as pager
 use Rattle.pagable_world.specs.Cascade.{Falls}
-use Rattle.pagable_world.specs.Calls.{with_handle, moved, RecallCall}
-use Rattle.pagable_world.specs.LoadCalls.{is_owned_in, numbers_of, DropCall, HandOverCall, BeginCall}
+use Rattle.pagable_world.specs.Calls.{with_handle, with_node, next_node, with_cached, with_cached_if_open, is_named_by, moved, with_mode, RecallCall, LoosenCall, PinCall, UnpinCall, ReleaseCall, SetKeyCall}
+use Rattle.pagable_world.specs.LoadCalls.{is_owned_in, numbers_of, adopted, DropCall, HandOverCall, BeginCall, LazyCall}
 use Rattle.pagable_tables.specs.declared.rows.LoadRow.{LoadRow}
 use Rattle.pagable_tables.specs.declared.tables.Tables.{Tables}
 use Rattle.pagable_tables.specs.ByNumber.{load_at}
-use Rattle.pagable_tables.specs.Core.{core_of, plain_of, load_in}
+use Rattle.pagable_tables.specs.Core.{plain_of, load_in, Makes}
 use Rattle.pagable_tables.specs.Later.{AreLater}
-use Rattle.pagable_tables.proofs.Regiven.{loaded, loaded-left, no-entry}
+use Rattle.pagable_tables.proofs.Regiven.{loaded, loaded-here, loaded-left, no-entry}
 use Rattle.pagable_tables.proofs.Taken.{loaded-moved, and-left}
 use Rattle.pagable_tables.proofs.Worlds.{owner-same}
 use Rattle.pagable_tables.proofs.keeps.Rows.{found-among, found-push}
@@ -57,6 +62,22 @@ newer-handle w node mode owner = record { last = omega arith; owned = λ l q own
 
 pub newer-moved : (w : Core) (s : ℕ → Bool) (o : Owner) → ((l : LoadNumber) → is_owner (owners.Load l) o ≡ false) → OnlyNewer w (record w { rows = moved s o w.rows })
 newer-moved w s o other = record { last = omega arith; owned = λ l q own. inl (and-left (loaded l q w.rows) (not (s q)) (sym (loaded-moved s o l q w.rows (other l)) ∙ own)) }
+
+-- a handle's mode says nothing of who owns it
+loaded-mode : (l : LoadNumber) (q : ℕ) (test : HandleRow → Bool) (mode : Mode) (rows : List HandleRow) → loaded l q (changed test (λ row. record row { mode = mode }) rows) ≡ loaded l q rows
+loaded-mode l q test mode [] = refl
+loaded-mode l q test mode (x ∷ xs) =
+    split (test x) ∙ ap (λ b. if is_handle q x then is_owner (owners.Load l) x.owner else b) (loaded-mode l q test mode xs) ∙ sym (loaded-here l q x xs)
+  where
+    rest : List HandleRow
+    rest = changed test (λ row. record row { mode = mode }) xs
+
+    split : (b : Bool) → loaded l q ((if b then record x { mode = mode } else x) ∷ rest) ≡ (if is_handle q x then is_owner (owners.Load l) x.owner else loaded l q rest)
+    split true = loaded-here l q (record x { mode = mode }) rest
+    split false = loaded-here l q x rest
+
+newer-mode : (w : Core) (h : HandleNumber) (mode : Mode) → OnlyNewer w (with_mode w h mode)
+newer-mode w h mode = record { last = omega arith; owned = λ l q own. inl (sym (loaded-mode l q (is_handle h.0) mode w.rows) ∙ own) }
 
 pub newer-falls : {before u w' : Core} {given : ℕ → Bool} {r : Result (Unit {0}) Error} → Falls before u given r w' → OnlyNewer u w'
 newer-falls {before} {u} {w'} falls =
@@ -141,3 +162,59 @@ pub recall-newer : {w w' : Core} (me : Owner) (kind : Kind) (key : ℕ) (r : Res
 recall-newer {w} me kind key (Ok (Some k)) call = let (n, is, next, leaves) = call.answers in newer-then (newer-handle w (record { 0 = n }) (mode_of kind.0) me) (newer-alike leaves)
 recall-newer me kind key (Ok None) call = newer-alike call.answers.1
 recall-newer me kind key (Err e) call = newer-alike call.refused.stays
+
+pub makes-newer : {w w' : Core} (node : NodeNumber) (mode : Mode) (owner : Owner) (r : Result HandleNumber Error) → Makes w node mode owner r w' → OnlyNewer w w'
+makes-newer {w} node mode owner (Ok k) m = newer-then (newer-handle w node mode owner) (newer-alike m.made.1)
+makes-newer node mode owner (Err e) m = newer-alike m.refused.stays
+
+newer-cached : (w : Core) (kind : Kind) (key : ℕ) (n : NodeNumber) → OnlyNewer w (with_cached_if_open w kind key n)
+newer-cached w kind key n = split w.closed
+  where
+    split : (closed : Bool) → OnlyNewer w (if closed then w else with_cached w kind key n)
+    split true = record { last = omega arith; owned = λ l q own. inl own }
+    split false = record { last = omega arith; owned = λ l q own. inl own }
+
+-- a node comes with its references and a handle
+pub newer-node : (w : Core) (node_type : ℕ) (own_key : OptionalDataKey) (references : List ArcRef) (mode : Mode) (owner : Owner) → OnlyNewer w (with_handle (with_node w node_type own_key references) (next_node w) mode owner)
+newer-node w node_type own_key references mode owner =
+    let m = newer-moved w (is_named_by references) (owner_value (w.last.node + 1)) (λ l. refl) in
+    newer-then (record { last = m.last; owned = m.owned }) (newer-handle (with_node w node_type own_key references) (next_node w) mode owner)
+
+pub newer-adopted : (w : Core) (l : LoadNumber) (kind : Kind) (key : ℕ) (own_key : OptionalDataKey) (references : List ArcRef) → OnlyNewer w (adopted w l kind key own_key references)
+newer-adopted w l kind key own_key references =
+    newer-then (newer-node w (type_of kind.0) own_key references (mode_of kind.0) (owners.Load l)) (newer-cached (with_handle (with_node w (type_of kind.0) own_key references) (next_node w) (mode_of kind.0) (owners.Load l)) kind key (next_node w))
+
+pub lazy-newer : {w w' : Core} (me : Owner) (l : LoadNumber) (kind : Kind) (key : ℕ) (r : Result HandleNumber Error) → LazyCall w me l kind key r w' → OnlyNewer w w'
+lazy-newer {w} me l kind key (Ok k) call = elim call.makes.3 [
+  | inl gets ↦ newer-then (newer-handle w (record { 0 = gets.n }) (mode_of kind.0) (owners.Load l)) (newer-alike gets.leaves)
+  | inr (none, left, next, leaves) ↦ newer-then (newer-adopted w l kind key (optional.Some key) []) (newer-alike leaves)
+]
+lazy-newer me l kind key (Err e) call = newer-alike call.refused.stays
+
+pub loosen-newer : {w w' : Core} (me : Owner) (h : HandleNumber) (r : Result HandleNumber Error) → LoosenCall w me h r w' → OnlyNewer w w'
+loosen-newer {w} me h (Ok k) call = newer-then (newer-mode w h modes.LoosePinned) (newer-alike (let (row, own, same, leaves) = call.turned in leaves))
+loosen-newer me h (Err e) call = newer-alike call.refused.1
+
+pub pin-newer : {w w' : Core} (me : Owner) (h : HandleNumber) (r : Result Pinning Error) → PinCall w me h r w' → OnlyNewer w w'
+pin-newer {w} me h (Ok (pinnings.Pinned k)) call =
+    let (row, own, (here, next, leaves)) = call.pins in
+    newer-then (newer-then (newer-mode w h modes.LoosePinned) (newer-handle (with_mode w h modes.LoosePinned) row.node modes.Pinned me)) (newer-alike leaves)
+pin-newer me h (Ok (pinnings.NeedsLoad key)) call = let (row, own, (away, is, stays)) = call.pins in newer-alike stays
+pin-newer me h (Err e) call = newer-alike call.refused.stays
+
+pub unpin-newer : {w w' : Core} (me : Owner) (h : HandleNumber) (r : Result (Unit {0}) Error) → UnpinCall w me h r w' → OnlyNewer w w'
+unpin-newer {w} me h r call = elim call.does [
+  | inl refused ↦ newer-alike refused.stays
+  | inr (row, own, inl (mode, told, stays)) ↦ newer-alike stays
+  | inr (row, own, inr (mode, falls)) ↦ newer-then (newer-mode w h modes.LooseUnpinned) (newer-falls falls)
+]
+
+pub release-newer : {w w' : Core} (me : Owner) (h : HandleNumber) (r : Result (Unit {0}) Error) → ReleaseCall w me h r w' → OnlyNewer w w'
+release-newer me h r call = elim call.does [ inl refused ↦ newer-alike refused.stays | inr (row, own, falls) ↦ newer-falls falls ]
+
+pub set-key-newer : {w w' : Core} (me : Owner) (h : HandleNumber) (key : ℕ) (r : Result (Unit {0}) Error) → SetKeyCall w me h key r w' → OnlyNewer w w'
+set-key-newer me h key r call = elim call.does [
+  | inl refused ↦ newer-alike refused.stays
+  | inr (row, own, inl (mode, told, stays)) ↦ newer-alike stays
+  | inr (row, own, inr (loose, falls)) ↦ (let n = newer-falls falls in record { last = n.last; owned = n.owned })
+]

@@ -19,7 +19,7 @@ use Rattle.pagable_world.specs.Calls.{is_usable, offer_fault}
 use Rattle.pagable_tables.proofs.Pins.{handle-first, spent-late, no-fault, earlier-first}
 
 -- of two late causes any is late
-late : (a b : Option Error) (m : ℕ) → ((f : Error) → a ≡ Some f → m < rank f) → ((f : Error) → b ≡ Some f → m < rank f) → (f : Error) → earlier a b ≡ Some f → m < rank f
+pub late : (a b : Option Error) (m : ℕ) → ((f : Error) → a ≡ Some f → m < rank f) → ((f : Error) → b ≡ Some f → m < rank f) → (f : Error) → earlier a b ≡ Some f → m < rank f
 late None b m one two f is = two f is
 late (Some e) None m one two f is = one f is
 late (Some e) (Some g) m one two f is = by (nat_lt (rank g) (rank e)) is

@@ -15,7 +15,7 @@ use Rattle.pagable_world.specs.World.{Core, Cell, SameCache, Alike, HasRoom, row
 use Rattle.pagable_world.specs.declared.handles.HandleRow.{HandleRow}
 
 -- what an entry of the cache gives where its node is this cell
-abbrev use-of : List HandleRow → ℕ → ℕ → Option Cell → Option ℕ
+abbrev pub use-of : List HandleRow → ℕ → ℕ → Option Cell → Option ℕ
 use-of rows kind n cell = if_there (λ (cell : Cell). if is_pinned_kind kind && not (is_in_memory (pins n rows) cell.key) then None else Some n) None cell
 
 pub usable-same : (rows rows' : List HandleRow) (cells cells' : ℕ → Option Cell) (kind : ℕ) (found found' : Option ℕ) → rows' ≡ rows → SameAt cells cells' → found' ≡ found → if_there (λ n. use-of rows' kind n (cells' n)) None found' ≡ if_there (λ n. use-of rows kind n (cells n)) None found

@@ -10,3 +10,4 @@ pub mod Asking
 pub mod Keyed
 pub mod Named
 pub mod Offering
+pub mod Bearing

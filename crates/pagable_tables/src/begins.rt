@@ -5,6 +5,7 @@ ghost use Rattle.pagable_world.specs.Plain.{Blob};
 ghost use Rattle.pagable_world.specs.LoadCalls.{BeginKeyCall};
 ghost use Rattle.pagable_world.specs.Pager.{MayOwnLoad};
 ghost use Rattle.pagable_tables.specs.Core.{core_of, plain_of, IsWhole};
+ghost use Rattle.pagable_tables.specs.Later.{AreLater};
 
 use crate::loads;
 use crate::rows::{LoadRoot, LoadRow};
@@ -16,9 +17,11 @@ use pagable_world::handles::Owner;
 /// A load of a key.
 pub fn load_key(t: &mut Tables, me: Owner, key: DataKey) -> Result<Beginning, Error>
     requires whole { IsWhole t.old }
+    requires later { AreLater t.old }
     requires owner { MayOwnLoad (plain_of t.old) me }
     ensures begun { (stored : ℕ → Option Blob) (closed : Bool) (failures : ℕ) → BeginKeyCall (core_of t.old stored closed failures) me key result (core_of t.new stored closed failures) }
     ensures whole { IsWhole t.new }
+    ensures later { AreLater t.new }
 {
     if t.last_load == u64::MAX {
         return Err(Error::NumbersSpent);

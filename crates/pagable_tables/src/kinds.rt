@@ -1,7 +1,7 @@
 //! What is asked of modes and kinds.
 
 ghost use Rattle.std.specs.Prelude.{◌≡◌, Some, None};
-ghost use Rattle.pagable_world.specs.Plain.{is_pinned_kind, type_of, if_there};
+ghost use Rattle.pagable_world.specs.Plain.{is_loose_kind, is_pinned_kind, type_of, if_there};
 ghost use Rattle.pagable_world.specs.Kinds.{is_loose, is_unpinned, mode_of, fits_mode};
 ghost use Rattle.pagable_world.specs.Refusals.{is_type};
 ghost use Rattle.pagable_world.specs.World.{Cell};
@@ -36,6 +36,13 @@ pub fn is_pinned_kind(kind: Kind) -> bool
     ensures { result ≡ is_pinned_kind kind.0 }
 {
     kind.0 % 3 == 2
+}
+
+/// Whether a reference of this kind is loose.
+pub fn is_loose_kind(kind: Kind) -> bool
+    ensures { result ≡ is_loose_kind kind.0 }
+{
+    kind.0 % 3 == 1
 }
 
 /// The mode of a handle that is made for a reference of this kind.

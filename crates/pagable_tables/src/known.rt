@@ -11,6 +11,7 @@ ghost use Rattle.pagable_world.specs.Calls.{RecallCall, offer_fault};
 ghost use Rattle.pagable_tables.specs.Falling.{IsFalling, owns_nothing};
 ghost use Rattle.pagable_tables.specs.Offering.{Offered};
 ghost use Rattle.pagable_tables.specs.Core.{core_of, plain_of, IsWhole, MayHold};
+ghost use Rattle.pagable_tables.specs.Later.{AreLater};
 
 use crate::kinds::{fits_mode, is_of, is_pinned_kind, mode_of};
 use crate::lookups::is_here;
@@ -22,7 +23,7 @@ use pagable_model::{DataKey, Error, HandleNumber, Kind, NodeNumber};
 use pagable_world::handles::{HandleRow, Owner};
 
 /// The node that the cache gives for a kind and a key. An entry counts only while its node lives and, as a pin, has its value.
-fn usable_of(t: &Tables, kind: Kind, key: DataKey) -> Option<NodeNumber>
+pub fn usable_of(t: &Tables, kind: Kind, key: DataKey) -> Option<NodeNumber>
     requires { IsWhole t.now }
     ensures { (stored : ℕ → Option Blob) (closed : Bool) (failures : ℕ) → option_map (λ (n : NodeNumber). n.0) result ≡ usable (core_of t.now stored closed failures) kind.0 key }
 {
@@ -49,6 +50,7 @@ pub fn cache_get(
     ensures recalled { (stored : ℕ → Option Blob) (closed : Bool) (failures : ℕ) → RecallCall (core_of t.old stored closed failures) me kind key result (core_of t.new stored closed failures) }
     ensures whole { IsWhole t.new }
     ensures none { IfOk result (λ found. IfNone found (t.new ≡ t.old)) }
+    ensures later { AreLater t.old → AreLater t.new }
 {
     let Some(node) = usable_of(t, kind, key) else {
         return Ok(None);

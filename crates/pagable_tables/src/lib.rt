@@ -2,8 +2,9 @@
 //! handles are given up with all that goes with them. No call of it knows of values or of the storage.
 #![tactic(auto)]
 
-pub mod arriving;
+pub mod adopting;
 pub mod begins;
+pub mod births;
 pub mod cache;
 pub mod cascade;
 pub mod causes;

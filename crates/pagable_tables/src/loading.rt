@@ -17,10 +17,11 @@ ghost use Rattle.pagable_tables.specs.ByNumber.{load_at};
 ghost use Rattle.pagable_tables.specs.Falling.{key_in, IsFalling, owns_nothing};
 ghost use Rattle.pagable_tables.specs.Core.{core_of, plain_of, IsWhole, load_in};
 ghost use Rattle.pagable_tables.specs.Asking.{AsksKnown};
+ghost use Rattle.pagable_tables.specs.Later.{AreLater};
 
-use crate::arriving::come;
 use crate::kinds::is_loose;
 use crate::known::cache_get;
+use crate::making::come;
 use crate::rows::{Counts, HandleAt, LoadRoot, LoadRow};
 use crate::tables::Tables;
 use crate::turning::{is_owner, own};
@@ -59,6 +60,7 @@ fn key_away(counts: Counts) -> Option<DataKey>
 /// A load of the cell of the handle at this place, with an unpinned handle of its own. OutOfMemory where one of them has no place.
 fn open_cell(t: &mut Tables, me: Owner, at: HandleAt, node_type: u32, key: DataKey) -> Result<LoadNumber, Error>
     requires whole { IsWhole t.old }
+    requires later { AreLater t.old }
     requires place { slice_get t.old.holdings.handles.places.items at.place ≡ Some (alive at.row) }
     requires load { t.old.last_load < greatest }
     requires handle { t.old.holdings.last_handle < greatest }
@@ -67,6 +69,7 @@ fn open_cell(t: &mut Tables, me: Owner, at: HandleAt, node_type: u32, key: DataK
     ensures refused { IfErr result (λ e. e ≡ errors.OutOfMemory) }
     ensures stays { IfErr result (λ e. (stored : ℕ → Option Blob) (closed : Bool) (failures : ℕ) → Alike (core_of t.old stored closed failures) (core_of t.new stored closed failures)) }
     ensures steady { IsFalling t.new.holdings [] owns_nothing }
+    ensures later { AreLater t.new }
 {
     let load = LoadNumber(t.last_load + 1);
     let row = LoadRow {
@@ -99,9 +102,11 @@ fn open_cell(t: &mut Tables, me: Owner, at: HandleAt, node_type: u32, key: DataK
 /// no number of a load or a handle is left, or memory is wanting.
 pub fn load_begin(t: &mut Tables, me: Owner, handle: HandleNumber) -> Result<Beginning, Error>
     requires whole { IsWhole t.old }
+    requires later { AreLater t.old }
     requires owner { MayOwnLoad (plain_of t.old) me }
     ensures begun { (stored : ℕ → Option Blob) (closed : Bool) (failures : ℕ) → BeginCall (core_of t.old stored closed failures) me handle result (core_of t.new stored closed failures) }
     ensures whole { IsWhole t.new }
+    ensures later { AreLater t.new }
 {
     let at = match own(t, me, handle) {
         Ok(at) => at,
@@ -134,10 +139,12 @@ pub fn load_known(
     kind: Kind,
     key: DataKey,
 ) -> Result<Option<HandleNumber>, Error>
-    requires { IsWhole t.old }
+    requires whole { IsWhole t.old }
+    requires later { AreLater t.old }
     ensures asked { (stored : ℕ → Option Blob) (closed : Bool) (failures : ℕ) → AsksKnown (core_of t.old stored closed failures) me load kind key result (core_of t.new stored closed failures) }
     ensures whole { IsWhole t.new }
     ensures none { IfOk result (λ found. IfNone found (t.new ≡ t.old)) }
+    ensures later { AreLater t.new }
 {
     let _row = match load_row(t, me, load) {
         Ok(row) => row,

@@ -1,11 +1,16 @@
 //! Handles that come to live nodes.
 
-ghost use Rattle.std.specs.Prelude.{◌≡◌, ℕ, ◌<◌, ◌^◌, ◌+◌, Bool, Option, length};
+ghost use Rattle.std.specs.Prelude.{◌≡◌, ℕ, ◌<◌, ◌^◌, ◌+◌, [], Bool, Option, IsSome, false, length};
 ghost use Rattle.pagable_world.specs.Plain.{Blob, one};
+ghost use Rattle.pagable_world.specs.World.{Core};
 ghost use Rattle.pagable_world.specs.Calls.{CloneCall};
+ghost use Rattle.pagable_tables.specs.ByNumber.{counts_at};
+ghost use Rattle.pagable_tables.specs.Falling.{is_valued, IsFalling, owns_nothing};
+ghost use Rattle.pagable_tables.specs.Onward.{with_tables};
 ghost use Rattle.pagable_tables.specs.Core.{core_of, plain_of, IsWhole, MayHold, Suits, Makes};
+ghost use Rattle.pagable_tables.specs.Later.{AreLater};
 
-use crate::holdings::pins;
+use crate::holdings::{Holdings, pins};
 use crate::rows::{Counts, Place};
 use crate::tables::Tables;
 use crate::{handles, nodes};
@@ -22,7 +27,7 @@ pub fn places_taken(places: &[Place]) -> usize
 }
 
 /// The counts after one handle more.
-pub fn counts_more(counts: Counts, pinning: bool) -> Counts
+fn counts_more(counts: Counts, pinning: bool) -> Counts
     requires pins { counts.pins < 2 ^ 63 }
     requires holds { counts.holds < 2 ^ 63 }
     ensures { result ≡ record counts { pins = counts.pins + one pinning; holds = counts.holds + 1 } }
@@ -39,7 +44,43 @@ pub fn counts_more(counts: Counts, pinning: bool) -> Counts
     }
 }
 
-/// A handle of a live node comes under the next number. It is refused only where none is left, or no place.
+/// A handle of a live node comes under the next number. NumbersSpent where none is left, OutOfMemory where there is no place.
+pub fn come(
+    t: &mut Holdings,
+    node: NodeNumber,
+    mode: Mode,
+    owner: Owner,
+) -> Result<HandleNumber, Error>
+    requires steady { IsFalling t.old [] owns_nothing }
+    requires live { IsSome (counts_at t.old.nodes node.0) }
+    requires owner { is_valued owner ≡ false }
+    ensures made { (w : Core) → Makes (with_tables w t.old) node mode owner result (with_tables w t.new) }
+    ensures steady { IsFalling t.new [] owns_nothing }
+{
+    let Some(counts) = nodes::counts_of(&t.nodes, node.0) else {
+        unreachable!();
+    };
+    if t.last_handle == u64::MAX {
+        return Err(Error::NumbersSpent);
+    }
+    places_taken(&t.handles.places);
+    let number = HandleNumber(t.last_handle + 1);
+    let row = HandleRow {
+        number,
+        node,
+        mode,
+        owner,
+    };
+    let Ok(()) = handles::push(&mut t.handles, row) else {
+        return Err(Error::OutOfMemory);
+    };
+    t.last_handle = number.0;
+    let more = counts_more(counts, pins(mode));
+    nodes::set_counts(&mut t.nodes, node.0, more);
+    Ok(number)
+}
+
+/// The same, and the tables are whole again.
 pub fn make(
     t: &mut Tables,
     node: NodeNumber,
@@ -51,29 +92,10 @@ pub fn make(
     requires holder { MayHold (plain_of t.old) owner }
     ensures made { (stored : ℕ → Option Blob) (closed : Bool) (failures : ℕ) → Makes (core_of t.old stored closed failures) node mode owner result (core_of t.new stored closed failures) }
     ensures whole { IsWhole t.new }
+    ensures later { AreLater t.old → AreLater t.new }
     ensures same { t.new ≡ record t.old { holdings = t.new.holdings } }
 {
-    let Some(counts) = nodes::counts_of(&t.holdings.nodes, node.0) else {
-        unreachable!();
-    };
-    if t.holdings.last_handle == u64::MAX {
-        return Err(Error::NumbersSpent);
-    }
-    places_taken(&t.holdings.handles.places);
-    let number = HandleNumber(t.holdings.last_handle + 1);
-    let row = HandleRow {
-        number,
-        node,
-        mode,
-        owner,
-    };
-    let Ok(()) = handles::push(&mut t.holdings.handles, row) else {
-        return Err(Error::OutOfMemory);
-    };
-    t.holdings.last_handle = number.0;
-    let more = counts_more(counts, pins(mode));
-    nodes::set_counts(&mut t.holdings.nodes, node.0, more);
-    Ok(number)
+    come(&mut t.holdings, node, mode, owner)
 }
 
 /// A second handle of the same mode, of any live handle.
@@ -82,6 +104,7 @@ pub fn clone(t: &mut Tables, me: Owner, handle: HandleNumber) -> Result<HandleNu
     requires holder { MayHold (plain_of t.old) me }
     ensures cloned { (stored : ℕ → Option Blob) (closed : Bool) (failures : ℕ) → CloneCall (core_of t.old stored closed failures) me handle result (core_of t.new stored closed failures) }
     ensures whole { IsWhole t.new }
+    ensures later { AreLater t.old → AreLater t.new }
 {
     let Some(at) = handles::look(&t.holdings.handles, handle) else {
         return Err(Error::NoSuchHandle);

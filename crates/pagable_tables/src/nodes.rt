@@ -1,7 +1,8 @@
 //! The nodes by their numbers, seen as two functions of a number: what is counted of each, and what its value refers to.
 
-ghost use Rattle.std.specs.Prelude.{◌≡◌, ℕ, ◌≢◌, ◌++◌, ◌∷◌, [], Some, None, IsSome, IfNone, OnOk, OnErr};
+ghost use Rattle.std.specs.Prelude.{◌≡◌, ℕ, ◌≢◌, ◌++◌, ◌∷◌, [], Some, None, IsSome, IfNone, OnOk, OnErr, IsOk, ◌<◌};
 ghost use Rattle.std.specs.Option.{option_to_list};
+ghost use Rattle.indexmap.specs.IndexMap.{spare};
 ghost use Rattle.pagable_tables.specs.ByNumber.{counts_at, refs_at};
 
 use crate::rows::{Counts, NodeRow};
@@ -57,6 +58,15 @@ pub fn remove(nodes: &mut IndexMap<u64, NodeRow>, node: u64)
     nodes.swap_remove(&node);
 }
 
+/// Room for one more node.
+pub fn reserve(nodes: &mut IndexMap<u64, NodeRow>) -> Result<(), AllocError>
+    ensures counts { (q : ℕ) → counts_at nodes.new q ≡ counts_at nodes.old q }
+    ensures refs { (q : ℕ) → refs_at nodes.new q ≡ refs_at nodes.old q }
+    ensures ok { OnOk result (0 < spare nodes.new) }
+{
+    nodes.reserve(1)
+}
+
 /// A node comes, under a number that is free.
 pub fn add(nodes: &mut IndexMap<u64, NodeRow>, node: u64, row: NodeRow) -> Result<(), AllocError>
     requires { counts_at nodes.old node ≡ None }
@@ -66,6 +76,7 @@ pub fn add(nodes: &mut IndexMap<u64, NodeRow>, node: u64, row: NodeRow) -> Resul
     ensures other_refs { OnOk result ((q : ℕ) → q ≢ node → refs_at nodes.new q ≡ refs_at nodes.old q) }
     ensures err { OnErr result ((q : ℕ) → counts_at nodes.new q ≡ counts_at nodes.old q) }
     ensures err_refs { OnErr result ((q : ℕ) → refs_at nodes.new q ≡ refs_at nodes.old q) }
+    ensures succeeds { 0 < spare nodes.old → IsOk result }
 {
     nodes.insert(node, row)?;
     Ok(())

@@ -42,7 +42,10 @@ fn fault_of(t: &Tables, me: Owner, reference: ArcRef, is_seen: bool) -> Option<E
     if !fits_mode(reference.kind, at.row.mode) {
         return Some(Error::WrongMode);
     }
-    if !is_of(nodes::counts_of(&t.holdings.nodes, reference.node.0), reference.kind) {
+    if !is_of(
+        nodes::counts_of(&t.holdings.nodes, reference.node.0),
+        reference.kind,
+    ) {
         return Some(Error::WrongKind);
     }
     None

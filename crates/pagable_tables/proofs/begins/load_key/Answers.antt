@@ -1,4 +1,4 @@
-use Rattle.std.proofs.Common.{◌+◌, refl, ap, arith, rules, None, false, Ok}
+use Rattle.std.proofs.Common.{◌+◌, refl, ap, arith, rules, None, false, Ok, inl}
 use Rattle.pagable_world.specs.declared.answers.Beginning.TheVariants as beginnings
 use Rattle.std.specs.Option.{option_map}
 use Rattle.pagable_tables.specs.ByNumber.{load_at}
@@ -8,6 +8,7 @@ use Rattle.pagable_tables.proofs.Worlds.{same-cache}
 use Rattle.pagable_tables.proofs.keeps.LoadCalls.{begin-key-whole}
 use Rattle.pagable_tables.proofs.keeps.Told.{told-whole}
 use Rattle.pagable_tables.proofs.keeps.Placed.{whole-so}
+use Rattle.pagable_tables.proofs.Newer.{later-opened}
 use Rattle.pagable_tables.proofs.begins.load_key.Goals as goal
 
 pub open-requires : goal.open-requires
@@ -45,3 +46,9 @@ returns-clause-whole c =
 pub returns-in_default-clause-whole : goal.returns-in_default-clause-whole
 returns-in_default-clause-whole c = whole-so c.requires.whole.steady
     (told-whole c.requires.whole.core refl (λ n. refl) refl (λ kind key n is. is) refl (λ l. ap (option_map load_in) (c.in_default.ensures.err l)) (λ v. refl) refl)
+
+pub returns-clause-later : goal.returns-clause-later
+returns-clause-later c =
+    let t = c.args.t.now in
+    later-opened c.requires.whole.core c.requires.later (record { last = omega arith; owned = λ l q own. inl own }) (t.last_load + 1) _ (none-yet (load_at t.loads (t.last_load + 1)) t.last_load (λ some. (c.requires.whole.core.loads.numbered (t.last_load + 1) some).1))
+    c.in-Ok.ensures.here refl c.in-Ok.ensures.others

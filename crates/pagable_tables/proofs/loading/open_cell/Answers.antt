@@ -1,11 +1,14 @@
-use Rattle.std.proofs.Common.{◌+◌, refl, arith, None, false}
+use Rattle.std.proofs.Common.{◌+◌, ◌∙◌, refl, arith, None, false}
 use Rattle.pagable_tables.specs.ByNumber.{counts_at, load_at}
-use Rattle.pagable_tables.specs.Core.{core_of}
+use Rattle.pagable_world.specs.declared.handles.Owner.TheVariants as owners
+use Rattle.pagable_world.specs.declared.rows.Mode.TheVariants as modes
+use Rattle.pagable_tables.specs.Core.{core_of, plain_of}
 use Rattle.pagable_tables.proofs.Alive.{row-le-live}
 use Rattle.pagable_tables.proofs.Beginning.{load-comes, none-yet}
 use Rattle.pagable_tables.proofs.Coming.{some-held}
 use Rattle.pagable_tables.proofs.Fitting.{handle_of, held-here}
 use Rattle.pagable_tables.proofs.Opened.{load-goes, only-memory}
+use Rattle.pagable_tables.proofs.Newer.{newer-alike, newer-handle, newer-then, later-so, later-opened, closed-still}
 use Rattle.pagable_tables.proofs.loading.open_cell.Goals as goal
 
 pub come-requires-clause-live : goal.come-requires-clause-live
@@ -56,3 +59,17 @@ returns-in-Err-clause-stays c stored closed failures =
       last = a.last;
       places = a.places;
     }
+
+pub returns-in-Ok-come-clause-later : goal.returns-in-Ok-come-clause-later
+returns-in-Ok-come-clause-later c =
+    let t = c.args.t.now in
+    let l = t.last_load + 1 in
+    let w = plain_of t in
+    let a = newer-alike (returns-in-Ok-come-clause-opened c (λ key. None) false 0) in
+    let n = newer-then (newer-handle w c.args.at.row.node modes.LooseUnpinned (owners.Load (record { 0 = l }))) (record { last = a.last; owned = a.owned }) in
+    later-opened c.requires.whole.core c.requires.later n l _ (none-yet (load_at t.loads l) t.last_load (λ some. (c.requires.whole.core.loads.numbered l some).1)) c.in-Ok.ensures.here refl c.in-Ok.ensures.others
+
+pub returns-in-Err-clause-later : goal.returns-in-Err-clause-later
+returns-in-Err-clause-later c =
+    later-so c.requires.later (newer-alike (returns-in-Err-clause-stays c (λ key. None) false 0))
+    (closed-still (load_at c.args.t.now.loads) (load_at c.close.new.loads) (c.args.t.now.last_load + 1) c.close.ensures.gone (λ q other. c.close.ensures.others q other ∙ c.in-Ok.ensures.others q other))

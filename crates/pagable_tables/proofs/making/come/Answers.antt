@@ -9,7 +9,7 @@ use Rattle.pagable_tables.proofs.Alive.{length-live-le}
 use Rattle.pagable_tables.proofs.Fitting.{pins-le-held}
 use Rattle.pagable_tables.proofs.Coming.{come-fits, come-cells, rows-told, held-few}
 use Rattle.pagable_tables.proofs.Worlds.{alike}
-use Rattle.pagable_tables.proofs.arriving.come.Goals as goal
+use Rattle.pagable_tables.proofs.making.come.Goals as goal
 
 pub counts_more-more-requires-clause-pins : goal.counts_more-more-requires-clause-pins
 counts_more-more-requires-clause-pins c =

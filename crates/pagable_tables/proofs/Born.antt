@@ -1,0 +1,257 @@
+-- A node comes, and the handles that its value refers to are the value's.
+use Rattle.std.proofs.Common.{◌≡◌, ℕ, ◌+◌, ◌<◌, ◌≤◌, ◌==◌, ◌&&◌, ◌||◌, Bool, true, false, List, [], ◌∷◌, ◌++◌, map, sum_by, refl, ap, sym, ◌∙◌, subst, arith, Option, Some, None, inl, inr, if◌then◌else◌}
+use Rattle.std.specs.Prelude.{◌≢◌, ◌⊎◌, not, nat_lt, is_some}
+use Rattle.std.specs.List.{AllPairs}
+use Rattle.std.proofs.lemmas.Bool.{cases_eq}
+use Rattle.std.proofs.lemmas.Bool.Decides.{nat_tests}
+use Rattle.std.proofs.lemmas.List.Sums.{sum_by_push, sum_by-cons}
+use Rattle.pagable_model.specs.declared.error.Error.{Error}
+use Rattle.pagable_model.specs.declared.error.Error.TheVariants as errors
+use Rattle.pagable_model.specs.declared.numbers.ArcRef.{ArcRef}
+use Rattle.pagable_world.specs.declared.handles.HandleRow.{HandleRow}
+use Rattle.pagable_world.specs.declared.handles.Owner.{Owner}
+use Rattle.pagable_world.specs.declared.rows.Mode.{Mode}
+use Rattle.pagable_world.specs.Plain.{Among, is_in, one, or_else, if_there}
+use Rattle.pagable_world.specs.Kinds.{find_row, held, pins, is_handle, is_owner, is_pinning, owner_value}
+use Rattle.pagable_world.specs.Pager.{IsHandleBefore}
+use Rattle.pagable_world.specs.World.{Core, row_at}
+use Rattle.pagable_world.specs.Refusals.{reference_fault, references_fault, row_fault, refused_if}
+use Rattle.pagable_world.specs.Calls.{moved, is_named_by}
+use Rattle.pagable_tables.specs.declared.rows.Counts.{Counts}
+use Rattle.pagable_tables.specs.Falling.{Fits, Right, is_right, is_bare, cell_in, pins_in, holds_in, falls_in, is_valued, named, owns_nothing}
+use Rattle.pagable_tables.proofs.Coming.{owned-by-none}
+use Rattle.pagable_tables.proofs.Fitting.{pin_of, handle_of, is_owned, pin-here, held-here, pin-other, held-other}
+use Rattle.pagable_tables.proofs.Owned.{owned-by}
+use Rattle.pagable_tables.proofs.Worlds.{owner-same}
+use Rattle.pagable_tables.proofs.keeps.Rests.{found-so}
+use Rattle.pagable_tables.proofs.keeps.Rows.{found-among, sum-map, sum-none, at-most-sum, only-row}
+
+or-none : (a b : Option Error) → or_else a b ≡ None → (a ≡ None) × (b ≡ None)
+or-none None b e = (refl, e)
+or-none (Some x) b e = absurd (cc)
+
+-- the handle of this number is live, and of the one who hands it in
+pub record IsOwn (w : Core) (me : Owner) (q : ℕ) : Type 0 where
+  pub row : HandleRow
+  pub live : find_row q w.rows ≡ Some row
+  pub own : is_owner me row.owner ≡ true
+
+own-first : (own seen : Bool) → refused_if (not own || seen) errors.NotYours ≡ None → (own ≡ true) × (seen ≡ false)
+own-first false seen e = absurd (cc)
+own-first true false e = (refl, refl)
+own-first true true e = absurd (cc)
+
+named-own : (w : Core) (me : Owner) (seen : List ℕ) (r : ArcRef) → reference_fault w me seen r ≡ None → (is_in seen r.handle.0 ≡ false) × IsOwn w me r.handle.0
+named-own w me seen r none = by (row_at w r.handle) refl none
+  where
+    here : (row : HandleRow) (b : Bool) (last : Option Error) → row_at w r.handle ≡ Some row → (if not b then Some errors.NoSuchHandle else or_else (refused_if (not (is_owner me row.owner) || is_in seen r.handle.0) errors.NotYours) last) ≡ None
+        → (is_in seen r.handle.0 ≡ false) × IsOwn w me r.handle.0
+    here row false last at e = absurd (cc)
+    here row true last at e = let a = own-first (is_owner me row.owner) (is_in seen r.handle.0) (or-none _ last e).0 in (a.1, record { row = row; live = at; own = a.0 })
+
+    by : (o : Option HandleRow) → row_at w r.handle ≡ o
+        → if_there (λ (row : HandleRow). row_fault w r (refused_if (not (is_owner me row.owner) || is_in seen r.handle.0) errors.NotYours) row) (Some errors.NoSuchHandle) o ≡ None → (is_in seen r.handle.0 ≡ false) × IsOwn w me r.handle.0
+    by None at e = absurd (cc)
+    by (Some row) at e = here row (row.node.0 == r.node.0) _ at e
+
+-- what is named is own, and wasn't named before
+good-name : (w : Core) (me : Owner) (seen : List ℕ) (rs : List ArcRef) → references_fault w me seen rs ≡ None → (q : ℕ) → is_named_by rs q ≡ true → (is_in seen q ≡ false) × IsOwn w me q
+unfolding references_fault is_named_by is_in
+good-name w me seen [] fit q is = absurd (cc)
+good-name w me seen (r ∷ rs) fit q is = by (r.handle.0 == q) refl is (good-name w me (r.handle.0 ∷ seen) rs (or-none (reference_fault w me seen r) _ fit).1 q)
+  where
+    by : (b : Bool) → (r.handle.0 == q) ≡ b → (b || is_named_by rs q) ≡ true → (is_named_by rs q ≡ true → (((r.handle.0 == q) || is_in seen q) ≡ false) × IsOwn w me q) → (is_in seen q ≡ false) × IsOwn w me q
+    by true same is rest = let e : r.handle.0 ≡ q = grind (arith, nat_tests) in subst (λ k. (is_in seen k ≡ false) × IsOwn w me k) e (named-own w me seen r (or-none (reference_fault w me seen r) _ fit).0)
+    by false other is rest = let a = rest is in (sym (ap (λ b. b || is_in seen q) other) ∙ a.0, a.1)
+
+once-named : (w : Core) (me : Owner) (seen : List ℕ) (rs : List ArcRef) → references_fault w me seen rs ≡ None → (q : ℕ) → named q rs ≡ one (is_named_by rs q)
+unfolding references_fault is_named_by is_in
+once-named w me seen [] fit q = refl
+once-named w me seen (r ∷ rs) fit q =
+    let rest = (or-none (reference_fault w me seen r) _ fit).1 in
+    sum_by-cons (λ (x : ArcRef). one (x.handle.0 == q)) r rs ∙ by (r.handle.0 == q) refl (is_named_by rs q) refl (once-named w me (r.handle.0 ∷ seen) rs rest q) (good-name w me (r.handle.0 ∷ seen) rs rest q)
+  where
+    by : (b : Bool) → (r.handle.0 == q) ≡ b → (d : Bool) → is_named_by rs q ≡ d → named q rs ≡ one (is_named_by rs q) → (is_named_by rs q ≡ true → (((r.handle.0 == q) || is_in seen q) ≡ false) × IsOwn w me q) → one b + named q rs ≡ one (b || is_named_by rs q)
+    by true same true is once good = let a = sym (ap (λ b. b || is_in seen q) same) ∙ (good is).0 in absurd (cc)
+    by true same false is once good = let a = ap one is in omega arith
+    by false other d is once good = omega arith
+
+module _ (w : Core) (me : Owner) (n : ℕ) (rs : List ArcRef) (ordered : AllPairs IsHandleBefore w.rows) (fit : references_fault w me [] rs ≡ None) (unvalued : is_valued me ≡ false) where
+  abbrev to : HandleRow → HandleRow
+  to h = if is_named_by rs h.number.0 then owned-by (owner_value n) h else h
+
+  same-weight : (f : HandleRow → ℕ) → ((h : HandleRow) → f (owned-by (owner_value n) h) ≡ f h) → sum_by f (map to w.rows) ≡ sum_by f w.rows
+  same-weight f same = sum-map f f to w.rows (λ h among. by h (is_named_by rs h.number.0))
+    where
+      by : (h : HandleRow) (b : Bool) → f (if b then owned-by (owner_value n) h else h) ≡ f h
+      by h true = same h
+      by h false = refl
+
+  -- a row that is named isn't a value's
+  named-free : (h : HandleRow) → Among w.rows h → is_named_by rs h.number.0 ≡ true → is_valued h.owner ≡ false
+  named-free h among is =
+      let o = (good-name w me [] rs fit h.number.0 is).1 in
+      let found : find_row h.number.0 w.rows ≡ Some h = found-so h.number.0 w.rows h ordered among refl in
+      let e : Some o.row ≡ Some h = sym o.live ∙ found in
+      let same : o.row ≡ h = cc in
+      ap (λ (r : HandleRow). is_valued r.owner) (sym same) ∙ ap is_valued (owner-same me o.row.owner o.own) ∙ unvalued
+
+  others-own : (m q : ℕ) → m ≢ n → sum_by (is_owned m q) (map to w.rows) ≡ sum_by (is_owned m q) w.rows
+  others-own m q other = sum-map (is_owned m q) (is_owned m q) to w.rows (λ h among. by h among (is_named_by rs h.number.0) refl)
+    where
+      by : (h : HandleRow) → Among w.rows h → (b : Bool) → is_named_by rs h.number.0 ≡ b → is_owned m q (if b then owned-by (owner_value n) h else h) ≡ is_owned m q h
+      by h among true is = let a = owned-by-none m q h (named-free h among is) in let b : is_owned m q (owned-by (owner_value n) h) ≡ 0 = grind (arith, nat_tests) in b ∙ sym a
+      by h among false is = refl
+
+  abbrev both : ℕ → HandleRow → ℕ
+  both q h = one (is_handle q h && is_named_by rs q)
+
+  sum-both : (q : ℕ) (b : Bool) → is_named_by rs q ≡ b → sum_by (both q) w.rows ≡ one b
+  sum-both q true is =
+      let o = (good-name w me [] rs fit q is).1 in
+      let (there, number) = found-among q w.rows o.row o.live in
+      let a = only-row (both q) w.rows o.row ordered there (λ x other. let e : (x.number.0 == q) ≡ false = ap (λ k. x.number.0 == k) (sym number) ∙ other in ap (λ b. one (b && is_named_by rs q)) e) in
+      let b : is_handle q o.row ≡ true = grind (arith, nat_tests) in
+      a ∙ ap (λ d. one (d && is_named_by rs q)) b ∙ ap one is
+  sum-both q false is = sum-none (both q) w.rows (λ h among. ap (λ b. one (is_handle q h && b)) is ∙ none (is_handle q h))
+    where
+      none : (b : Bool) → one (b && false) ≡ 0
+      none true = refl
+      none false = refl
+
+  pub own-own : (q : ℕ) → sum_by (is_owned n q) w.rows ≡ 0 → sum_by (is_owned n q) (map to w.rows) ≡ named q rs
+  own-own q before = sum-map (is_owned n q) (both q) to w.rows (λ h among. by h among (is_named_by rs h.number.0) refl (is_handle q h) refl) ∙ sum-both q (is_named_by rs q) refl ∙ sym (once-named w me [] rs fit q)
+    where
+      by : (h : HandleRow) → Among w.rows h → (b : Bool) → is_named_by rs h.number.0 ≡ b → (d : Bool) → is_handle q h ≡ d → is_owned n q (if b then owned-by (owner_value n) h else h) ≡ both q h
+      by h among true is true here =
+          let e : h.number.0 ≡ q = grind (arith, nat_tests) in
+          let s : is_named_by rs q ≡ true = subst (λ k. is_named_by rs k ≡ true) e is in
+          let r : (n == n) ≡ true = grind (arith, nat_tests) in
+          rw (here, s, r) refl
+      by h among true is false other = rw other refl
+      by h among false is true here =
+          let e : h.number.0 ≡ q = grind (arith, nat_tests) in
+          let s : is_named_by rs q ≡ false = subst (λ k. is_named_by rs k ≡ false) e is in
+          let a = at-most-sum (is_owned n q) w.rows h among in
+          let z : is_owned n q h ≡ 0 = omega arith in
+          let o : both q h ≡ 0 = rw (here, s) refl in
+          z ∙ sym o
+      by h among false is false other = rw other refl
+
+-- the counts of a new node are right, where it has no key, or its value refers to nothing, or it is pinned
+right-new : (c : Counts) (mode : Mode) (rs : List ArcRef) → c ≡ record c { pins = one (is_pinning mode); holds = 1; is_falling = false; next = 0 } → (c.key ≡ 0) ⊎ (rs ≡ []) ⊎ (is_pinning mode ≡ true) → is_right c (is_bare rs) ≡ true
+right-new c mode rs new or = subst (λ d. is_right d (is_bare rs) ≡ true) (sym new) (by or)
+  where
+    either : (a k b : Bool) → (k ≡ false) ⊎ (b ≡ true) → (a || not k || b) ≡ true
+    either true k b h = refl
+    either false false b h = refl
+    either false true b (inl h) = absurd (cc)
+    either false true b (inr h) = h
+
+    by : (c.key ≡ 0) ⊎ (rs ≡ []) ⊎ (is_pinning mode ≡ true) → (nat_lt 0 (one (is_pinning mode)) || not (nat_lt 0 c.key) || is_bare rs) ≡ true
+    by (inl none) = either (nat_lt 0 (one (is_pinning mode))) (nat_lt 0 c.key) (is_bare rs) (inl (grind (arith, nat_tests)))
+    by (inr (inl none)) = either (nat_lt 0 (one (is_pinning mode))) (nat_lt 0 c.key) (is_bare rs) (inr (ap is_bare none))
+    by (inr (inr pinned)) = ap (λ b. nat_lt 0 (one b) || not (nat_lt 0 c.key) || is_bare rs) pinned
+
+module _ (w : Core) (me : Owner) (rs : List ArcRef) (ordered : AllPairs IsHandleBefore w.rows) (fit : references_fault w me [] rs ≡ None) (unvalued : is_valued me ≡ false)
+    (at at' : ℕ → Option Counts) (refs refs' : ℕ → List ArcRef) (top : ℕ) (x : HandleRow) (c : Counts) (fits : Fits at refs w.rows top [] owns_nothing) (owner : x.owner ≡ me)
+    (new : c ≡ record c { pins = one (is_pinning x.mode); holds = 1; is_falling = false; next = 0 }) (bare : (c.key ≡ 0) ⊎ (rs ≡ []) ⊎ (is_pinning x.mode ≡ true)) (real : 0 < x.node.0) (free : at x.node.0 ≡ None)
+    (here : at' x.node.0 ≡ Some c) (others : (q : ℕ) → q ≢ x.node.0 → at' q ≡ at q) (refers : refs' x.node.0 ≡ rs) (same : (q : ℕ) → q ≢ x.node.0 → refs' q ≡ refs q) where
+  abbrev n : ℕ
+  n = x.node.0
+
+  abbrev given : List HandleRow
+  given = moved (is_named_by rs) (owner_value n) w.rows
+
+  abbrev rows' : List HandleRow
+  rows' = given ++ x ∷ []
+
+  nothing : refs n ≡ []
+  nothing = subst (λ o. Right o (refs n)) free (fits.right n)
+
+  not-x : (m q : ℕ) → is_owned m q x ≡ 0
+  not-x m q = owned-by-none m q x (ap is_valued owner ∙ unvalued)
+
+  pins-given : (m : ℕ) → pins m rows' ≡ pins m w.rows + pin_of m x
+  pins-given m = let s = same-weight w me n rs ordered fit unvalued (pin_of m) (λ h. refl) in let l = sum_by_push (pin_of m) given x in omega arith
+
+  held-given : (m : ℕ) → held m rows' ≡ held m w.rows + handle_of m x
+  held-given m = let s = same-weight w me n rs ordered fit unvalued (handle_of m) (λ h. refl) in let l = sum_by_push (handle_of m) given x in omega arith
+
+  pinned-here : pins_in (at' n) ≡ pins n rows'
+  pinned-here =
+      let g = pins-given n in
+      let old = fits.pinned n in
+      let none = ap pins_in free in
+      let some = ap pins_in here in
+      let p = pin-here x in
+      let k : c.pins ≡ one (is_pinning x.mode) = ap (λ (d : Counts). d.pins) new in
+      omega arith
+
+  held-here' : holds_in (at' n) ≡ held n rows'
+  held-here' =
+      let g = held-given n in
+      let old = fits.holding n in
+      let none = ap holds_in free in
+      let some = ap holds_in here in
+      let p = held-here x in
+      let k : c.holds ≡ 1 = ap (λ (d : Counts). d.holds) new in
+      omega arith
+
+  owned-here : (q : ℕ) → named q (refs' n) + owns_nothing n q ≡ sum_by (is_owned n q) rows'
+  owned-here q =
+      let l = sum_by_push (is_owned n q) given x in
+      let z = not-x n q in
+      let old = fits.owned n q in
+      let none = ap (named q) nothing in
+      let before : sum_by (is_owned n q) w.rows ≡ 0 = omega arith in
+      let own = own-own w me n rs ordered fit unvalued q before in
+      let some = ap (named q) refers in
+      omega arith
+
+  falls-here : 0 ≡ one (falls_in (at' n))
+  falls-here = let k : c.is_falling ≡ false = ap (λ (d : Counts). d.is_falling) new in sym (ap (λ o. one (falls_in o)) here ∙ ap one k)
+
+  right-here : Right (at' n) (refs' n)
+  right-here = subst (λ o. Right o (refs' n)) (sym here) (subst (λ r. Right (Some c) r) (sym refers) (right-new c x.mode rs new bare))
+
+  real' : 0 ≢ n
+  real' z = absurd (omega arith)
+
+  pub born-fits : Fits at' refs' rows' top [] owns_nothing
+  born-fits =
+      record {
+        pinned = λ m. elim (cases_eq m n) [
+          | inl e ↦ subst (λ k. pins_in (at' k) ≡ pins k rows') (sym e) pinned-here
+          | inr e ↦ let g = pins-given m in let old = fits.pinned m in let a = ap pins_in (others m e) in let p = pin-other m x e in omega arith
+        ];
+        holding = λ m. elim (cases_eq m n) [
+          | inl e ↦ subst (λ k. holds_in (at' k) ≡ held k rows') (sym e) held-here'
+          | inr e ↦ let g = held-given m in let old = fits.holding m in let a = ap holds_in (others m e) in let p = held-other m x e in omega arith
+        ];
+        owned = λ m q. elim (cases_eq m n) [
+          | inl e ↦ subst (λ k. named q (refs' k) + owns_nothing k q ≡ sum_by (is_owned k q) rows') (sym e) (owned-here q)
+          | inr e ↦
+              let l = sum_by_push (is_owned m q) given x in
+              let z = not-x m q in
+              let old = fits.owned m q in
+              let a = ap (named q) (same m e) in
+              let b = others-own w me n rs ordered fit unvalued m q e in
+              omega arith
+        ];
+        chain = fits.chain;
+        marked = λ m. elim (cases_eq m n) [
+          | inl e ↦ subst (λ k. 0 ≡ one (falls_in (at' k))) (sym e) falls-here
+          | inr e ↦ fits.marked m ∙ sym (ap (λ o. one (falls_in o)) (others m e))
+        ];
+        right = λ m. elim (cases_eq m n) [
+          | inl e ↦ subst (λ k. Right (at' k) (refs' k)) (sym e) right-here
+          | inr e ↦ subst (λ o. Right o (refs' m)) (sym (others m e)) (subst (λ r. Right (at m) r) (sym (same m e)) (fits.right m))
+        ];
+        from_one = others 0 real' ∙ fits.from_one;
+      }
+
+-- no node has a number that wasn't given yet
+pub no-node : (o : Option Counts) (last : ℕ) → (is_some (cell_in o) ≡ true → (0 < last + 1) × (last + 1 ≤ last)) → o ≡ None
+no-node None last h = refl
+no-node (Some c) last h = let a = (h refl).1 in absurd (omega arith)

@@ -1,0 +1,132 @@
+-- Why a load can't make a node, and what it gets.
+use Rattle.std.proofs.Common.{◌≡◌, ℕ, ◌<◌, ◌≤◌, Bool, true, false, if◌then◌else◌, refl, ap, sym, ◌∙◌, subst, arith, Ok, Err, Option, Some, None, inl, inr}
+use Rattle.std.specs.Prelude.{◌⊎◌, not, nat_lt, nat_le, is_some, Result, IfOk, IfErr, [], zero, suc}
+use Rattle.std.proofs.lemmas.Bool.Decides.{nat_tests}
+use Rattle.pagable_model.specs.declared.error.Error.{Error}
+use Rattle.pagable_model.specs.declared.error.Error.TheVariants as errors
+use Rattle.pagable_model.specs.declared.numbers.HandleNumber.{HandleNumber}
+use Rattle.pagable_model.specs.declared.numbers.LoadNumber.{LoadNumber}
+use Rattle.pagable_model.specs.declared.numbers.NodeNumber.{NodeNumber}
+use Rattle.pagable_model.specs.declared.numbers.Kind.{Kind}
+use Rattle.pagable_world.specs.declared.handles.Owner.{Owner}
+use Rattle.pagable_world.specs.declared.handles.Owner.TheVariants as owners
+use Rattle.pagable_world.specs.declared.rows.Mode.{Mode}
+use Rattle.pagable_world.specs.Plain.{is_loose_kind, if_there}
+use Rattle.pagable_world.specs.Kinds.{mode_of}
+use Rattle.pagable_world.specs.World.{Core, OpenLoad, greatest, usable, Alike}
+use Rattle.pagable_world.specs.Refusals.{rank, earlier, refused_if, spent, load_fault, OwnsLoad, Refused, AreHandlesFull}
+use Rattle.pagable_world.specs.Calls.{with_handle, is_usable, birth_fault, IsNext}
+use Rattle.pagable_world.specs.LoadCalls.{node_fault, lazy_fault, adopted, GetsKnown, LazyCall}
+use Rattle.pagable_model.specs.declared.data_key.OptionalDataKey.TheVariants as optional
+use Rattle.pagable_tables.specs.Falling.{key_in}
+use Rattle.pagable_tables.specs.Core.{Makes}
+use Rattle.pagable_tables.proofs.Opened.{earlier-first, load-low, no-load-fault, number-late, unspent}
+use Rattle.pagable_tables.proofs.Worlds.{still}
+
+-- of two causes that come late each is
+earlier-late : (a b : Option Error) (f : Error) (n : ℕ) → ((g : Error) → a ≡ Some g → n ≤ rank g) → ((g : Error) → b ≡ Some g → n ≤ rank g) → earlier a b ≡ Some f → n ≤ rank f
+earlier-late None b f n first second is = second f is
+earlier-late (Some x) None f n first second is = first f is
+earlier-late (Some x) (Some y) f n first second is = split (nat_lt (rank y) (rank x)) is
+  where
+    split : (c : Bool) → (if c then Some y else Some x) ≡ Some f → n ≤ rank f
+    split true is = second f is
+    split false is = first f is
+
+pub kind-late : (b : Bool) (f : Error) → refused_if b errors.WrongKind ≡ Some f → 3 ≤ rank f
+kind-late true f is = let a : rank errors.WrongKind ≡ rank f = ap (if_there rank 0) is in omega arith
+kind-late false f is = absurd (cc)
+
+birth-late : (w : Core) (f : Error) → birth_fault w ≡ Some f → 4 ≤ rank f
+birth-late w f is = earlier-late (spent w.last.node) (spent w.last.handle) f 4 (number-late true w.last.node) (number-late true w.last.handle) is
+
+pub node-late : (w : Core) (kind : Kind) (key : ℕ) (f : Error) → node_fault w kind key ≡ Some f → 4 ≤ rank f
+node-late w kind key f is = split (is_usable w kind key) is
+  where
+    split : (b : Bool) → (if b then spent w.last.handle else birth_fault w) ≡ Some f → 4 ≤ rank f
+    split true is = number-late true w.last.handle f is
+    split false is = birth-late w f is
+
+pub kind-or-node-late : (w : Core) (b : Bool) (kind : Kind) (key : ℕ) (f : Error) → earlier (refused_if b errors.WrongKind) (node_fault w kind key) ≡ Some f → 3 ≤ rank f
+kind-or-node-late w b kind key f is = earlier-late (refused_if b errors.WrongKind) (node_fault w kind key) f 3 (kind-late b) (λ g e. let a = node-late w kind key g e in omega arith) is
+
+-- where both numbers are left
+pub no-birth-fault : (w : Core) → w.last.node < greatest → w.last.handle < greatest → birth_fault w ≡ None
+no-birth-fault w node handle = ap (λ f. earlier f (spent w.last.handle)) (unspent w.last.node node) ∙ unspent w.last.handle handle
+
+-- where one of them isn't
+pub birth-spent : (w : Core) → (greatest ≤ w.last.node) ⊎ (greatest ≤ w.last.handle) → birth_fault w ≡ Some errors.NumbersSpent
+birth-spent w or = split (nat_le greatest w.last.node) (nat_le greatest w.last.handle) refl refl
+  where
+    split : (a b : Bool) → nat_le greatest w.last.node ≡ a → nat_le greatest w.last.handle ≡ b → earlier (refused_if a errors.NumbersSpent) (refused_if b errors.NumbersSpent) ≡ Some errors.NumbersSpent
+    split true true e f = refl
+    split true false e f = refl
+    split false true e f = refl
+    split false false e f = absurd (elim or [ inl past ↦ (let a : nat_le greatest w.last.node ≡ true = grind (arith, nat_tests) in cc) | inr past ↦ (let a : nat_le greatest w.last.handle ≡ true = grind (arith, nat_tests) in cc) ])
+
+pub lazy-not-own : (w : Core) (me : Owner) (l : LoadNumber) (kind : Kind) (key : ℕ) (e : Error) → load_fault w me l ≡ Some e → LazyCall w me l kind key (Err e) w
+lazy-not-own w me l kind key e is =
+    record {
+      makes = tt;
+      refused = record {
+        why = inl (earlier-first (load_fault w me l) (earlier (refused_if (not (is_loose_kind kind.0)) errors.WrongKind) (node_fault w kind key)) e is (λ f late. let a = load-low w me l e is in let b = kind-or-node-late w (not (is_loose_kind kind.0)) kind key f late in omega arith));
+        stays = still w;
+      };
+    }
+
+module _ (w : Core) (me : Owner) (l : LoadNumber) (load : OpenLoad) (kind : Kind) (key : ℕ) (own : OwnsLoad w me l load) where
+  pub lazy-not-loose : is_loose_kind kind.0 ≡ false → LazyCall w me l kind key (Err errors.WrongKind) w
+  lazy-not-loose tight =
+      record {
+        makes = tt;
+        refused = record {
+          why = inl (ap (λ f. earlier f (earlier (refused_if (not (is_loose_kind kind.0)) errors.WrongKind) (node_fault w kind key))) (no-load-fault w me l load own)
+              ∙ earlier-first (refused_if (not (is_loose_kind kind.0)) errors.WrongKind) (node_fault w kind key) errors.WrongKind (ap (λ b. refused_if (not b) errors.WrongKind) tight) (λ f late. let a = node-late w kind key f late in omega arith));
+          stays = still w;
+        };
+      }
+
+  module _ (loose : is_loose_kind kind.0 ≡ true) where
+    cause : lazy_fault w me l kind key ≡ node_fault w kind key
+    cause =
+        ap (λ f. earlier f (earlier (refused_if (not (is_loose_kind kind.0)) errors.WrongKind) (node_fault w kind key))) (no-load-fault w me l load own)
+        ∙ ap (λ b. earlier (refused_if (not b) errors.WrongKind) (node_fault w kind key)) loose
+
+    -- a handle of the node that the cache gives
+    pub lazy-known : (node : NodeNumber) (mode : Mode) (r : Result HandleNumber Error) (w' : Core) → usable w kind.0 key ≡ Some node.0 → mode ≡ mode_of kind.0 → Makes w node mode (owners.Load l) r w' → LazyCall w me l kind key r w'
+    lazy-known node mode (Ok k) w' is fits m =
+        record {
+          makes = (load, own, loose, inl (record { n = node.0; known = is; next = m.made.0; leaves = subst (λ mode. Alike (with_handle w node mode (owners.Load l)) w') fits m.made.1 }));
+          refused = tt;
+        }
+    lazy-known node mode (Err e) w' is fits m =
+        let known : node_fault w kind key ≡ spent w.last.handle = ap (λ b. if b then spent w.last.handle else birth_fault w) (ap is_some is) in
+        record {
+          makes = tt;
+          refused = record {
+            why = elim m.refused.why [ inl a ↦ inl (cause ∙ known ∙ a) | inr b ↦ inr (b.0, cause ∙ known ∙ b.1, inr b.2) ];
+            stays = m.refused.stays;
+          };
+        }
+
+    module _ (none : usable w kind.0 key ≡ None) where
+      fresh : lazy_fault w me l kind key ≡ birth_fault w
+      fresh = cause ∙ ap (λ b. if b then spent w.last.handle else birth_fault w) (ap is_some none)
+
+      pub lazy-spent : (greatest ≤ w.last.node) ⊎ (greatest ≤ w.last.handle) → LazyCall w me l kind key (Err errors.NumbersSpent) w
+      lazy-spent or = record { makes = tt; refused = record { why = inl (fresh ∙ birth-spent w or); stays = still w } }
+
+      lazy-not-new : (e : Error) (w' : Core) → w.last.node < greatest → w.last.handle < greatest → Refused (birth_fault w) None (Unit {0}) w e w' → LazyCall w me l kind key (Err e) w'
+      lazy-not-new e w' node handle r =
+          let no = no-birth-fault w node handle in
+          record { makes = tt; refused = record { why = elim r.why [ inl a ↦ absurd (let b = sym no ∙ a in cc) | inr b ↦ inr (b.0, fresh ∙ no, inl none) ]; stays = r.stays } }
+
+      pub lazy-new : (r : Result HandleNumber Error) (w' : Core) → w.last.node < greatest → w.last.handle < greatest → IfOk r (λ k. (w.last.node < greatest) × IsNext k w) → IfOk r (λ k. Alike (adopted w l kind key (optional.Some key) []) w')
+          → IfErr r (λ e. Refused (birth_fault w) None (Unit {0}) w e w') → LazyCall w me l kind key r w'
+      lazy-new (Ok k) w' node handle next made refused = record { makes = (load, own, loose, inr (none, node, next.1, made)); refused = tt }
+      lazy-new (Err e) w' node handle next made refused = lazy-not-new e w' node handle refused
+
+-- the number of a key
+pub key-there : (n : ℕ) → 0 < n → key_in n ≡ optional.Some n
+key-there zero lt = absurd (omega arith)
+key-there (suc n) lt = refl

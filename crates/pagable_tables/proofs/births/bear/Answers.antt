@@ -1,0 +1,32 @@
+use Rattle.std.proofs.Common.{◌≡◌, ◌+◌, ◌<◌, ◌++◌, ◌∷◌, [], refl, ap, ◌∙◌, arith, None}
+use Rattle.pagable_world.specs.declared.handles.HandleRow.{HandleRow}
+use Rattle.pagable_world.specs.Kinds.{owner_value}
+use Rattle.pagable_world.specs.Calls.{moved, is_named_by}
+use Rattle.pagable_tables.specs.Live.{live}
+use Rattle.pagable_tables.specs.ByNumber.{counts_at, refs_at}
+use Rattle.pagable_tables.specs.Core.{plain_of}
+use Rattle.pagable_tables.proofs.Born.{born-fits, no-node}
+use Rattle.pagable_tables.proofs.Coming.{rows-told}
+use Rattle.pagable_tables.proofs.keeps.Comes.{not-a-value}
+use Rattle.pagable_tables.proofs.births.bear.Goals as goal
+
+pub returns-clause-steady : goal.returns-clause-steady
+returns-clause-steady c =
+    let u = c.args.t.now in
+    let t = u.holdings in
+    let me = c.args.me in
+    let rs = c.args.references.items in
+    let at = counts_at t.nodes in
+    let refs = refs_at t.nodes in
+    let w = c.requires.whole in
+    let n = u.last_node + 1 in
+    let x : HandleRow = record { number = record { 0 = t.last_handle + 1 }; node = record { 0 = n }; mode = c.args.mode; owner = me } in
+    let added = c.in-Ok-add.ensures in
+    let room = c.reserve-2.ensures in
+    let free : at n ≡ None = no-node (at n) u.last_node (w.core.handles.nodes_numbered n) in
+    let named = ap (λ l. moved (is_named_by l) (owner_value n) (live c.reserve.new.handles.places.items)) c.deref.ensures.value in
+    let given = c.hand_over_all.ensures.rows ∙ named ∙ ap (moved (is_named_by rs) (owner_value n)) c.reserve.ensures.rows in
+    let rows = c.in-Ok-push.ensures.rows ∙ ap (λ l. l ++ x ∷ []) given in
+    let fits = born-fits (plain_of u) me rs w.core.handles.ordered c.requires.fit (not-a-value (plain_of u) me c.requires.holder) at (counts_at c.add.new.nodes) refs (refs_at c.add.new.nodes) t.top x c.args.counts w.steady.fits refl
+    c.requires.counts c.requires.bare (omega arith) free added.here (λ q other. added.others q other ∙ room.counts q) added.refs (λ q other. added.other_refs q other ∙ room.refs q) in
+    record { sound = c.push.ensures.sound; next = c.in-Ok-push.ensures.next; fits = rows-told (counts_at c.add.new.nodes) (refs_at c.add.new.nodes) _ _ t.top rows fits }
