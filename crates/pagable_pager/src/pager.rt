@@ -5,6 +5,7 @@ ghost use Rattle.pagable_world.specs.Calls.{Looks};
 ghost use Rattle.pagable_world.specs.Pager.{IsNew, ValueCall, WellFormed};
 ghost use Rattle.pagable_pager.specs.View.{state_in, telling, spelling, values_of};
 
+pub mod ends;
 pub mod handles;
 pub mod known;
 pub mod loads;

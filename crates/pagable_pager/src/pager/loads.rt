@@ -6,7 +6,7 @@ ghost use Rattle.pagable_core.specs.Data.{blob_of};
 ghost use Rattle.pagable_world.specs.declared.handles.Owner.TheVariants as owners;
 ghost use Rattle.pagable_world.specs.declared.calls.Want.TheVariants as wants;
 ghost use Rattle.pagable_world.specs.World.{seen_as};
-ghost use Rattle.pagable_world.specs.LoadCalls.{AskCall, BeginCall, BeginKeyCall};
+ghost use Rattle.pagable_world.specs.LoadCalls.{AskCall, BeginCall, BeginKeyCall, LazyCall};
 ghost use Rattle.pagable_tables.specs.Asking.{AsksKnown};
 ghost use Rattle.pagable_pager.specs.View.{core_in, telling, given_as, OnlyTables, OnlyStorage, SameValues};
 
@@ -15,7 +15,7 @@ use pagable_codec::{Env, NodeSet};
 use either::Either;
 use pagable_core::{PagableData, PagableStorage};
 use pagable_model::{DataKey, Error, HandleNumber, Kind, LoadNumber};
-use pagable_tables::{begins, loading};
+use pagable_tables::{adopting, begins, loading};
 use pagable_world::handles::Owner;
 use pagable_world::{Beginning, Want};
 use std::alloc::Global;
@@ -115,5 +115,21 @@ where
             Want::Root => self.fetch_root(alloc, load),
             Want::Nested(kind, key) => self.fetch_nested(alloc, load, kind, key),
         }
+    }
+
+    /// A reference through a loose handle, of which nothing is read: a handle, which the load owns, of the cell that the cache gives, or of a new one that has this
+    /// key and no value. Refused with NoSuchHandle, NotYours, WrongKind where the kind isn't a loose one, NumbersSpent and OutOfMemory.
+    pub fn load_lazy(
+        &mut self,
+        alloc: Global,
+        load: LoadNumber,
+        kind: Kind,
+        key: DataKey,
+    ) -> Result<HandleNumber, Error>
+        ensures step { LazyCall (core_in (telling S.stored S.is_closed S.failed) self.old) owners.Caller load kind key result (core_in (telling S.stored S.is_closed S.failed) self.new) }
+        ensures only { OnlyTables self.old self.new }
+    {
+        let lists = !self.storage.has_closed();
+        adopting::load_lazy(&mut self.tables, Owner::Caller, load, kind, key, lists, alloc)
     }
 }
