@@ -44,3 +44,4 @@ mod Newer
 mod Adopted
 mod Lazily
 mod GivenNamed
+mod Stays

@@ -1,6 +1,6 @@
 //! What a load reads becomes nodes.
 
-ghost use Rattle.std.specs.Prelude.{◌≡◌, ℕ, ◌⊎◌, ◌<◌, ◌≤◌, ◌==◌, length, [], Bool, Option, IfOk, IfErr, None, not, true};
+ghost use Rattle.std.specs.Prelude.{◌≡◌, ℕ, ◌⊎◌, ◌<◌, ◌≤◌, ◌==◌, length, [], Bool, Option, IfOk, IfErr, None, not, true, false};
 ghost use Rattle.pagable_world.specs.declared.handles.Owner.TheVariants as owners;
 ghost use Rattle.pagable_world.specs.Plain.{Blob, is_loose_kind, type_of};
 ghost use Rattle.pagable_world.specs.Kinds.{is_pinning, mode_of};
@@ -9,11 +9,11 @@ ghost use Rattle.pagable_world.specs.Cascade.{FallsAnyhow, nobody};
 ghost use Rattle.pagable_tables.specs.Live.{live};
 ghost use Rattle.pagable_tables.specs.Onward.{with_tables, SoFar};
 ghost use Rattle.pagable_world.specs.World.{Core, Alike, greatest};
-ghost use Rattle.pagable_world.specs.Refusals.{earlier, refused_if, load_fault, references_fault, Refused};
-ghost use Rattle.pagable_world.specs.Calls.{IsNext, is_named_by, birth_fault};
+ghost use Rattle.pagable_world.specs.Refusals.{earlier, refused_if, load_fault, references_fault, spent, AreHandlesFull, Refused};
+ghost use Rattle.pagable_world.specs.Calls.{IsNext, with_handle, is_named_by, birth_fault};
 ghost use Rattle.pagable_world.specs.LoadCalls.{adopted, is_owned_in, LazyCall};
 ghost use Rattle.pagable_tables.specs.Falling.{IsFalling, owns_nothing, key_in};
-ghost use Rattle.pagable_tables.specs.Core.{core_of, plain_of, IsWhole, MayHold};
+ghost use Rattle.pagable_tables.specs.Core.{core_of, plain_of, IsWhole, MayHold, Suits};
 ghost use Rattle.pagable_tables.specs.Later.{AreLater};
 
 use crate::births::{bear, first_counts};
@@ -129,4 +129,32 @@ fn give_named(t: &mut Holdings, load: LoadNumber, references: &[ArcRef], lists: 
         give_next(t, load, reference.handle, lists);
     }
     let _ = fall(t, lists);
+}
+
+/// A handle of the load's of the node that the cache gives. What was read is dropped, and the handles that its references name are given up.
+fn adopt_known(
+    t: &mut Tables,
+    load: LoadNumber,
+    node: NodeNumber,
+    kind: Kind,
+    references: &[ArcRef],
+    lists: bool,
+) -> Result<HandleNumber, Error>
+    requires whole { IsWhole t.old }
+    requires suits { Suits (plain_of t.old) node (mode_of kind.0) }
+    requires holder { MayHold (plain_of t.old) (owners.Load load) }
+    requires eager { is_loose_kind kind.0 ≡ false }
+    requires fit { references_fault (plain_of t.old) (owners.Load load) [] references.now ≡ None }
+    ensures known { (stored : ℕ → Option Blob) (closed : Bool) (failures : ℕ) → lists ≡ not closed → IfOk result (λ k. IsNext k (core_of t.old stored closed failures) × FallsAnyhow (core_of t.old stored closed failures) (with_handle (core_of t.old stored closed failures) node (mode_of kind.0) (owners.Load load)) (is_named_by references.now) (core_of t.new stored closed failures)) }
+    ensures refused { (stored : ℕ → Option Blob) (closed : Bool) (failures : ℕ) → IfErr result (λ e. Refused (spent t.old.holdings.last_handle) (spent t.old.holdings.last_handle) (AreHandlesFull (core_of t.old stored closed failures)) (core_of t.old stored closed failures) e (core_of t.new stored closed failures)) }
+    ensures steady { IsFalling t.new.holdings [] owns_nothing }
+    ensures loads { t.new.loads ≡ t.old.loads }
+{
+    match make(t, node, mode_of(kind), Owner::Load(load)) {
+        Ok(handle) => {
+            give_named(&mut t.holdings, load, references, lists);
+            Ok(handle)
+        }
+        Err(e) => Err(e),
+    }
 }
