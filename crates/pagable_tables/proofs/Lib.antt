@@ -43,3 +43,5 @@ mod Taken
 pub mod Newer
 mod Adopted
 mod Lazily
+mod GivenNamed
+mod Stays

@@ -32,7 +32,7 @@ unfolding is_named_by
 moved-nobody owner [] = refl
 moved-nobody owner (x ∷ xs) = ap (λ l. x ∷ l) (moved-nobody owner xs)
 
-named-push : (rs : List ArcRef) (r : ArcRef) (q : ℕ) → is_named_by (rs ++ r ∷ []) q ≡ (r.handle.0 == q) || is_named_by rs q
+pub named-push : (rs : List ArcRef) (r : ArcRef) (q : ℕ) → is_named_by (rs ++ r ∷ []) q ≡ (r.handle.0 == q) || is_named_by rs q
 unfolding is_named_by
 named-push [] r q = refl
 named-push (x ∷ xs) r q = ap (λ b. (x.handle.0 == q) || b) (named-push xs r q) ∙ swap (x.handle.0 == q) (r.handle.0 == q) (is_named_by xs q)

@@ -60,7 +60,7 @@ loaded-here l q x xs = split (is_handle q x) refl
     split true e = rw e refl
     split false e = rw e refl
 
-loaded-none : (l : LoadNumber) (q : ℕ) → loaded l q [] ≡ false
+pub loaded-none : (l : LoadNumber) (q : ℕ) → loaded l q [] ≡ false
 unfolding find_row
 loaded-none l q = refl
 

@@ -1,6 +1,7 @@
 -- What a load asks of the tables.
-use Rattle.std.specs.Prelude.{ℕ, ◌≡◌, true, Option, Result, IfOk, IfErr}
+use Rattle.std.specs.Prelude.{ℕ, ◌≡◌, true, List, Option, Result, IfOk, IfErr}
 use Rattle.pagable_model.specs.declared.error.Error.{Error}
+use Rattle.pagable_model.specs.declared.numbers.ArcRef.{ArcRef}
 use Rattle.pagable_model.specs.declared.numbers.HandleNumber.{HandleNumber}
 use Rattle.pagable_model.specs.declared.numbers.Kind.{Kind}
 use Rattle.pagable_model.specs.declared.numbers.LoadNumber.{LoadNumber}
@@ -8,11 +9,16 @@ use Rattle.pagable_world.specs.declared.handles.Owner.{Owner}
 use Rattle.pagable_world.specs.declared.handles.Owner.TheVariants as owners
 use Rattle.pagable_world.specs.declared.calls.Want.TheVariants as wants
 use Rattle.pagable_world.specs.World.{Core, OpenLoad}
-use Rattle.pagable_world.specs.Refusals.{OwnsLoad, Refused, AreHandlesFull}
+use Rattle.pagable_world.specs.Refusals.{OwnsLoad, load_fault, Refused, AreHandlesFull}
 use Rattle.pagable_world.specs.Calls.{Recalls}
-use Rattle.pagable_world.specs.LoadCalls.{ask_fault, is_known}
+use Rattle.pagable_world.specs.LoadCalls.{ask_fault, is_known, Adopts, adopt_fault}
 
 -- The load of a reference gets a handle of the node that the cache gives; or None where it gives none, and the storage has to be asked.
 pub record AsksKnown (w : Core) (me : Owner) (l : LoadNumber) (kind : Kind) (key : ℕ) (r : Result (Option HandleNumber) Error) (w' : Core) : Type 0 where
   pub gives : IfOk r (λ found. (load : OpenLoad) × OwnsLoad w me l load × Recalls w (owners.Load l) kind key found w')
   pub refused : IfErr r (λ e. Refused (ask_fault w me l (wants.Nested kind key)) (ask_fault w me l (wants.Nested kind key)) ((is_known w (wants.Nested kind key) ≡ true) × AreHandlesFull w) w e w')
+
+-- What a load has read becomes a node, but for the value itself, which its owner keeps where it is refused.
+pub record AdoptOf (w : Core) (me : Owner) (l : LoadNumber) (kind : Kind) (key node_type : ℕ) (references : List ArcRef) (r : Result HandleNumber Error) (w' : Core) : Type 0 where
+  pub adopts : IfOk r (λ k. Adopts w me l kind key node_type references k w')
+  pub refused : IfErr r (λ e. Refused (adopt_fault w me l kind key node_type references) (load_fault w me l) (Unit {0}) w e w')

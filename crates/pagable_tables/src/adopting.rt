@@ -1,27 +1,40 @@
 //! What a load reads becomes nodes.
 
-ghost use Rattle.std.specs.Prelude.{◌≡◌, ℕ, ◌⊎◌, ◌<◌, [], Bool, Option, IfOk, IfErr, None, not, true};
+ghost use Rattle.std.specs.Prelude.{nat_eq, ◌≡◌, ℕ, ◌⊎◌, ◌<◌, ◌≤◌, ◌==◌, length, [], Bool, Option, IfOk, IfErr, None, not, true, false};
 ghost use Rattle.pagable_world.specs.declared.handles.Owner.TheVariants as owners;
-ghost use Rattle.pagable_world.specs.Plain.{Blob};
+ghost use Rattle.pagable_world.specs.Plain.{Blob, is_loose_kind, type_of};
 ghost use Rattle.pagable_world.specs.Kinds.{is_pinning, mode_of};
-ghost use Rattle.pagable_world.specs.World.{Alike, greatest};
-ghost use Rattle.pagable_world.specs.Refusals.{references_fault, Refused};
-ghost use Rattle.pagable_world.specs.Calls.{IsNext, birth_fault};
-ghost use Rattle.pagable_world.specs.LoadCalls.{adopted, LazyCall};
-ghost use Rattle.pagable_tables.specs.Falling.{IsFalling, owns_nothing, key_in};
-ghost use Rattle.pagable_tables.specs.Core.{core_of, plain_of, IsWhole, MayHold};
+ghost use Rattle.pagable_model.specs.declared.error.Error.TheVariants as errors;
+ghost use Rattle.pagable_world.specs.Cascade.{FallsAnyhow, nobody};
+ghost use Rattle.pagable_tables.specs.Live.{live};
+ghost use Rattle.pagable_tables.specs.Onward.{with_tables, SoFar};
+ghost use Rattle.pagable_world.specs.World.{Core, Alike, greatest};
+ghost use Rattle.pagable_world.specs.Refusals.{earlier, refused_if, load_fault, references_fault, spent, AreHandlesFull, Refused};
+ghost use Rattle.pagable_world.specs.Calls.{IsNext, with_handle, is_named_by, birth_fault};
+ghost use Rattle.pagable_world.specs.LoadCalls.{adopted, is_owned_in, LazyCall};
+ghost use Rattle.pagable_tables.specs.Falling.{IsFalling, owns_nothing, key_in, Sheds};
+ghost use Rattle.indexmap.specs.IndexMap.{get};
+ghost use Rattle.pagable_tables.specs.ByNumber.{counts_at};
+ghost use Rattle.pagable_tables.specs.Core.{core_of, plain_of, IsWhole, MayHold, Suits};
 ghost use Rattle.pagable_tables.specs.Later.{AreLater};
 
 use crate::births::{bear, first_counts};
-use crate::cache;
+use crate::cascade::fall;
+use crate::causes::{earlier, load_fault, refused_if};
+use crate::ending::give_next;
+use crate::holdings::Holdings;
 use crate::kinds::{is_loose_kind, mode_of};
 use crate::known::usable_of;
 use crate::loading::load_row;
 use crate::making::make;
+use crate::references::references_fault;
 use crate::tables::Tables;
+use crate::{cache, loads};
+use indexmap::IndexMap;
 use pagable_model::{ArcRef, DataKey, Error, HandleNumber, Kind, LoadNumber, NodeNumber};
 use pagable_world::handles::Owner;
 use std::alloc::Global;
+use std::sync::Arc;
 
 /// A new node with a handle of the load's, which the cache knows from now on, where it is to learn. It is refused only where a number is spent, or by memory.
 fn adopt_new(
@@ -88,4 +101,72 @@ pub fn load_lazy(
         return Err(Error::NumbersSpent);
     }
     adopt_new(t, load, kind, key, key.get(), Vec::new(alloc), lists)
+}
+
+/// Why what a load has read can't become a node, apart from numbers and memory.
+fn adopt_fault(
+    t: &Tables,
+    me: Owner,
+    load: LoadNumber,
+    kind: Kind,
+    node_type: u32,
+    references: &[ArcRef],
+) -> Option<Error>
+    requires { IsWhole t.now }
+    ensures { (stored : ℕ → Option Blob) (closed : Bool) (failures : ℕ) → result ≡ earlier (load_fault (core_of t.now stored closed failures) me load) (earlier (refused_if (is_loose_kind kind.0) errors.WrongMode) (earlier (refused_if (not (node_type == type_of kind.0)) errors.WrongKind) (references_fault (core_of t.now stored closed failures) (owners.Load load) [] references.now))) }
+{
+    let own = load_fault(loads::load_of(&t.loads, load.0), me);
+    let mode = refused_if(is_loose_kind(kind), Error::WrongMode);
+    let typed = refused_if(node_type != kind.0 / 3, Error::WrongKind);
+    let fit = references_fault(t, Owner::Load(load), references);
+    earlier(own, earlier(mode, earlier(typed, fit)))
+}
+
+/// The handles that the references name are given up, with all that goes with them. The load owns them.
+fn give_named<N: Drop>(
+    t: &mut Holdings,
+    values: &mut IndexMap<u64, Arc<N>>,
+    load: LoadNumber,
+    references: &[ArcRef],
+    lists: bool,
+)
+    requires { IsFalling t.old [] owns_nothing }
+    ensures steady { IsFalling t.new [] owns_nothing }
+    ensures sheds { Sheds (counts_at t.old.nodes) (get nat_eq values.old) (counts_at t.new.nodes) (get nat_eq values.new) }
+    ensures falls { (before w : Core) → SoFar before w nobody lists (record t.old { unlisted = None }) → length (live t.old.handles.places.items) ≤ length w.rows → ((q : ℕ) → is_named_by references.now q ≡ true → is_owned_in w (owners.Load load) q ≡ true) → FallsAnyhow before w (is_named_by references.now) (with_tables w t.new) }
+{
+    t.unlisted = None;
+    for reference in references {
+        give_next(t, values, load, reference.handle, lists);
+    }
+    let _ = fall(t, values, lists);
+}
+
+/// A handle of the load's of the node that the cache gives. What was read is dropped, and the handles that its references name are given up.
+fn adopt_known<N: Drop>(
+    t: &mut Tables,
+    values: &mut IndexMap<u64, Arc<N>>,
+    load: LoadNumber,
+    node: NodeNumber,
+    kind: Kind,
+    references: &[ArcRef],
+    lists: bool,
+) -> Result<HandleNumber, Error>
+    requires whole { IsWhole t.old }
+    requires suits { Suits (plain_of t.old) node (mode_of kind.0) }
+    requires holder { MayHold (plain_of t.old) (owners.Load load) }
+    requires eager { is_loose_kind kind.0 ≡ false }
+    requires fit { references_fault (plain_of t.old) (owners.Load load) [] references.now ≡ None }
+    ensures known { (stored : ℕ → Option Blob) (closed : Bool) (failures : ℕ) → lists ≡ not closed → IfOk result (λ k. IsNext k (core_of t.old stored closed failures) × FallsAnyhow (core_of t.old stored closed failures) (with_handle (core_of t.old stored closed failures) node (mode_of kind.0) (owners.Load load)) (is_named_by references.now) (core_of t.new stored closed failures)) }
+    ensures refused { (stored : ℕ → Option Blob) (closed : Bool) (failures : ℕ) → IfErr result (λ e. Refused (spent t.old.holdings.last_handle) (spent t.old.holdings.last_handle) (AreHandlesFull (core_of t.old stored closed failures)) (core_of t.old stored closed failures) e (core_of t.new stored closed failures)) }
+    ensures steady { IsFalling t.new.holdings [] owns_nothing }
+    ensures loads { t.new.loads ≡ t.old.loads }
+{
+    match make(t, node, mode_of(kind), Owner::Load(load)) {
+        Ok(handle) => {
+            give_named(&mut t.holdings, values, load, references, lists);
+            Ok(handle)
+        }
+        Err(e) => Err(e),
+    }
 }

@@ -74,3 +74,10 @@ pub fn cell_fault(row: Option<LoadRow>) -> Option<Error>
         None => None,
     }
 }
+
+/// This refusal, if it is so.
+pub fn refused_if(so: bool, error: Error) -> Option<Error>
+    ensures { result ≡ refused_if so error }
+{
+    if so { Some(error) } else { None }
+}

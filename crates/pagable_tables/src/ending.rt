@@ -28,7 +28,7 @@ use pagable_world::handles::Owner;
 use std::sync::Arc;
 
 /// The handle of this number is given up, if the load owns it, with all that goes with it.
-fn give_next<N: Drop>(
+pub fn give_next<N: Drop>(
     t: &mut Holdings,
     values: &mut IndexMap<u64, Arc<N>>,
     load: LoadNumber,

@@ -65,3 +65,14 @@ pub fn check_references(t: &Tables, me: Owner, references: &[ArcRef]) -> Result<
     }
     Ok(())
 }
+
+/// The same, as a cause that there may be.
+pub fn references_fault(t: &Tables, me: Owner, references: &[ArcRef]) -> Option<Error>
+    requires { IsWhole t.now }
+    ensures { (stored : ℕ → Option Blob) (closed : Bool) (failures : ℕ) → result ≡ references_fault (core_of t.now stored closed failures) me [] references.now }
+{
+    match check_references(t, me, references) {
+        Ok(()) => None,
+        Err(e) => Some(e),
+    }
+}
