@@ -12,7 +12,7 @@ ghost use Rattle.pagable_world.specs.World.{Core, Alike, greatest};
 ghost use Rattle.pagable_world.specs.Refusals.{earlier, refused_if, load_fault, references_fault, spent, AreHandlesFull, Refused};
 ghost use Rattle.pagable_world.specs.Calls.{IsNext, with_handle, is_named_by, birth_fault};
 ghost use Rattle.pagable_world.specs.LoadCalls.{adopted, is_owned_in, LazyCall};
-ghost use Rattle.pagable_tables.specs.Falling.{IsFalling, owns_nothing, key_in, Sheds};
+ghost use Rattle.pagable_tables.specs.Falling.{has_value, IsFalling, owns_nothing, key_in, Sheds};
 ghost use Rattle.indexmap.specs.IndexMap.{get};
 ghost use Rattle.pagable_tables.specs.ByNumber.{counts_at};
 ghost use Rattle.pagable_tables.specs.Core.{core_of, plain_of, IsWhole, MayHold, Suits};
@@ -156,11 +156,13 @@ fn adopt_known<N: Drop>(
     requires suits { Suits (plain_of t.old) node (mode_of kind.0) }
     requires holder { MayHold (plain_of t.old) (owners.Load load) }
     requires eager { is_loose_kind kind.0 ≡ false }
+    requires valued { has_value (counts_at t.old.holdings.nodes node.0) ≡ true }
     requires fit { references_fault (plain_of t.old) (owners.Load load) [] references.now ≡ None }
     ensures known { (stored : ℕ → Option Blob) (closed : Bool) (failures : ℕ) → lists ≡ not closed → IfOk result (λ k. IsNext k (core_of t.old stored closed failures) × FallsAnyhow (core_of t.old stored closed failures) (with_handle (core_of t.old stored closed failures) node (mode_of kind.0) (owners.Load load)) (is_named_by references.now) (core_of t.new stored closed failures)) }
     ensures refused { (stored : ℕ → Option Blob) (closed : Bool) (failures : ℕ) → IfErr result (λ e. Refused (spent t.old.holdings.last_handle) (spent t.old.holdings.last_handle) (AreHandlesFull (core_of t.old stored closed failures)) (core_of t.old stored closed failures) e (core_of t.new stored closed failures)) }
     ensures steady { IsFalling t.new.holdings [] owns_nothing }
     ensures loads { t.new.loads ≡ t.old.loads }
+    ensures sheds { Sheds (counts_at t.old.holdings.nodes) (get nat_eq values.old) (counts_at t.new.holdings.nodes) (get nat_eq values.new) }
 {
     match make(t, node, mode_of(kind), Owner::Load(load)) {
         Ok(handle) => {

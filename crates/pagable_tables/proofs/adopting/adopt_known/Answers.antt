@@ -12,6 +12,9 @@ use Rattle.pagable_tables.specs.declared.tables.Tables.{Tables}
 use Rattle.pagable_tables.proofs.Begun.{begun-whole}
 use Rattle.pagable_tables.proofs.Stays.{stays-pinned, seen-before, retold, eager-pins, loaded-append, named-loaded, not-named}
 use Rattle.pagable_tables.proofs.Regiven.{loaded}
+use Rattle.pagable_tables.specs.ByNumber.{counts_at}
+use Rattle.pagable_tables.specs.Falling.{has_value}
+use Rattle.pagable_tables.proofs.Shedding.{sheds-still, stays-first}
 use Rattle.pagable_tables.proofs.adopting.adopt_known.Goals as goal
 
 pub returns-in-Err-clause-refused : goal.returns-in-Err-clause-refused
@@ -38,3 +41,13 @@ returns-in-Ok-clause-known g c stored closed failures e =
     let to = stays-pinned w b w' given some.told x a.rows c.in-Ok.ensures.whole.core.handles.ordered refl (eager-pins c.args.kind.0 c.requires.eager) kept falls in
     let same = retold u b a (ap (λ (k : Tables). (core_of k stored closed failures).cache) c.in-Ok.ensures.same) in
     (record { above = m.0.above; is_left = m.0.is_left }, record { told = some.told; falls = seen-before {b = b} {w = w} {u = u} b.places a.places to (subst (λ (v : Core). Falls b v given some.told w') same falls) })
+
+pub returns-in-Err-clause-sheds : goal.returns-in-Err-clause-sheds
+returns-in-Err-clause-sheds g c =
+    let at = counts_at c.args.t.now.holdings.nodes in
+    stays-first (λ n. c.in-Err.ensures.values n (λ eq. ap (λ k. has_value (at k)) eq ∙ c.requires.valued)) (sheds-still c.make.new.t.holdings _ c.in-Err.ensures.whole.steady)
+
+pub returns-in-Ok-clause-sheds : goal.returns-in-Ok-clause-sheds
+returns-in-Ok-clause-sheds g c =
+    let at = counts_at c.args.t.now.holdings.nodes in
+    stays-first (λ n. c.in-Ok.ensures.values n (λ eq. ap (λ k. has_value (at k)) eq ∙ c.requires.valued)) c.give_named.ensures.sheds
