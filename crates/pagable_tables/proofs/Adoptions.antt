@@ -19,7 +19,7 @@ use Rattle.pagable_world.specs.Refusals.{rank, earlier, refused_if, spent, is_ty
 use Rattle.pagable_world.specs.Cascade.{FallsAnyhow}
 use Rattle.pagable_world.specs.Calls.{IsNext, with_handle, is_usable, is_named_by, birth_fault}
 use Rattle.pagable_world.specs.LoadCalls.{node_fault, adopt_fault, adopted, first_key, Adopts}
-use Rattle.pagable_tables.specs.Asking.{AdoptOf}
+use Rattle.pagable_tables.specs.Asking.{AdoptOf, early_fault}
 use Rattle.pagable_tables.proofs.Lazily.{node-late, kind-late}
 use Rattle.pagable_tables.proofs.Opened.{load-low}
 use Rattle.pagable_tables.proofs.Worlds.{still, owner-same}
@@ -98,20 +98,20 @@ not-so true e is = absurd (cc)
 not-so false e is = refl
 
 module _ (w : Core) (me : Owner) (l : LoadNumber) (kind : Kind) (key node_type : ℕ) (refs : List ArcRef) where
-  abbrev pub early-fault : Option Error
-  early-fault = earlier (load_fault w me l) (earlier (refused_if (is_loose_kind kind.0) errors.WrongMode) (earlier (refused_if (not (node_type == type_of kind.0)) errors.WrongKind) (references_fault w (owners.Load l) [] refs)))
+  abbrev early : Option Error
+  early = early_fault w me l kind node_type refs
 
-  cause : adopt_fault w me l kind key node_type refs ≡ or_else early-fault (node_fault w kind key)
+  cause : adopt_fault w me l kind key node_type refs ≡ or_else early (node_fault w kind key)
   cause =
       last-of (load_fault w me l) (refused_if (is_loose_kind kind.0) errors.WrongMode) (refused_if (not (node_type == type_of kind.0)) errors.WrongKind) (references_fault w (owners.Load l) [] refs) (node_fault w kind key)
       (λ e is. let a = load-low w me l e is in omega arith) (λ e is. let a = named (is_loose_kind kind.0) errors.WrongMode e is in omega arith) (λ e is. let a = named (not (node_type == type_of kind.0)) errors.WrongKind e is in omega arith)
       (fit-early w (owners.Load l) [] refs) (node-late w kind key)
 
   -- one of the causes that come first
-  pub not-adopted : (e : Error) → early-fault ≡ Some e → AdoptOf w me l kind key node_type refs (Err e) w
+  pub not-adopted : (e : Error) → early ≡ Some e → AdoptOf w me l kind key node_type refs (Err e) w
   not-adopted e is = record { adopts = tt; refused = record { why = inl (cause ∙ ap (λ f. or_else f (node_fault w kind key)) is); stays = still w } }
 
-  module _ (good : early-fault ≡ None) where
+  module _ (good : early ≡ None) where
     parts : (load_fault w me l ≡ None) × (refused_if (is_loose_kind kind.0) errors.WrongMode ≡ None) × (refused_if (not (node_type == type_of kind.0)) errors.WrongKind ≡ None) × (references_fault w (owners.Load l) [] refs ≡ None)
     parts =
         let a = both-none (load_fault w me l) _ good in

@@ -1,21 +1,20 @@
 //! What a load reads becomes nodes.
 
-ghost use Rattle.std.specs.Prelude.{◌≡◌, ℕ, ◌⊎◌, ◌<◌, ◌≤◌, ◌==◌, length, [], Bool, Option, IfOk, IfErr, None, not, true, false};
+ghost use Rattle.std.specs.Prelude.{◌≡◌, ℕ, ◌⊎◌, ◌<◌, ◌≤◌, length, [], Bool, Option, IfOk, IfErr, None, not, true, false};
 ghost use Rattle.pagable_world.specs.declared.handles.Owner.TheVariants as owners;
-ghost use Rattle.pagable_world.specs.Plain.{Blob, is_loose_kind, type_of};
+ghost use Rattle.pagable_world.specs.Plain.{Blob, is_loose_kind};
 ghost use Rattle.pagable_world.specs.Kinds.{is_pinning, mode_of};
-ghost use Rattle.pagable_model.specs.declared.error.Error.TheVariants as errors;
 ghost use Rattle.pagable_world.specs.Cascade.{FallsAnyhow, nobody};
 ghost use Rattle.pagable_tables.specs.Live.{live};
 ghost use Rattle.pagable_tables.specs.Onward.{with_tables, SoFar};
 ghost use Rattle.pagable_world.specs.World.{Core, Alike, greatest};
-ghost use Rattle.pagable_world.specs.Refusals.{earlier, refused_if, load_fault, references_fault, spent, AreHandlesFull, Refused};
+ghost use Rattle.pagable_world.specs.Refusals.{references_fault, spent, AreHandlesFull, Refused};
 ghost use Rattle.pagable_world.specs.Calls.{IsNext, with_handle, is_named_by, birth_fault};
 ghost use Rattle.pagable_world.specs.LoadCalls.{adopted, first_key, is_owned_in, LazyCall};
 ghost use Rattle.pagable_tables.specs.Falling.{IsFalling, owns_nothing, key_in};
 ghost use Rattle.pagable_tables.specs.Core.{core_of, plain_of, IsWhole, MayHold, Suits};
 ghost use Rattle.pagable_tables.specs.Later.{AreLater};
-ghost use Rattle.pagable_tables.specs.Asking.{AdoptOf};
+ghost use Rattle.pagable_tables.specs.Asking.{AdoptOf, early_fault};
 
 use crate::births::{bear, first_counts};
 use crate::cascade::fall;
@@ -110,7 +109,7 @@ fn adopt_fault(
     references: &[ArcRef],
 ) -> Option<Error>
     requires { IsWhole t.now }
-    ensures { (stored : ℕ → Option Blob) (closed : Bool) (failures : ℕ) → result ≡ earlier (load_fault (core_of t.now stored closed failures) me load) (earlier (refused_if (is_loose_kind kind.0) errors.WrongMode) (earlier (refused_if (not (node_type == type_of kind.0)) errors.WrongKind) (references_fault (core_of t.now stored closed failures) (owners.Load load) [] references.now))) }
+    ensures { (stored : ℕ → Option Blob) (closed : Bool) (failures : ℕ) → result ≡ early_fault (core_of t.now stored closed failures) me load kind node_type references.now }
 {
     let own = load_fault(loads::load_of(&t.loads, load.0), me);
     let mode = refused_if(is_loose_kind(kind), Error::WrongMode);
