@@ -45,3 +45,4 @@ mod Adopted
 mod Lazily
 mod GivenNamed
 mod Stays
+mod Adoptions

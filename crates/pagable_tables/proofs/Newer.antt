@@ -26,12 +26,13 @@ use Rattle.pagable_world.specs.World.{Core, Last, Alike}
 use Rattle.pagable_world.specs.Pager as pager
 use Rattle.pagable_world.specs.Cascade.{Falls}
 use Rattle.pagable_world.specs.Calls.{with_handle, with_node, next_node, with_cached, with_cached_if_open, is_named_by, moved, with_mode, RecallCall, LoosenCall, PinCall, UnpinCall, ReleaseCall, SetKeyCall}
-use Rattle.pagable_world.specs.LoadCalls.{is_owned_in, numbers_of, adopted, DropCall, HandOverCall, BeginCall, LazyCall}
+use Rattle.pagable_world.specs.LoadCalls.{is_owned_in, numbers_of, adopted, first_key, DropCall, HandOverCall, BeginCall, LazyCall}
 use Rattle.pagable_tables.specs.declared.rows.LoadRow.{LoadRow}
 use Rattle.pagable_tables.specs.declared.tables.Tables.{Tables}
 use Rattle.pagable_tables.specs.ByNumber.{load_at}
 use Rattle.pagable_tables.specs.Core.{plain_of, load_in, Makes}
 use Rattle.pagable_tables.specs.Later.{AreLater}
+use Rattle.pagable_tables.specs.Asking.{AdoptOf}
 use Rattle.pagable_tables.proofs.Regiven.{loaded, loaded-here, loaded-left, no-entry}
 use Rattle.pagable_tables.proofs.Taken.{loaded-moved, and-left}
 use Rattle.pagable_tables.proofs.Worlds.{owner-same}
@@ -218,3 +219,10 @@ set-key-newer me h key r call = elim call.does [
   | inr (row, own, inl (mode, told, stays)) ↦ newer-alike stays
   | inr (row, own, inr (loose, falls)) ↦ (let n = newer-falls falls in record { last = n.last; owned = n.owned })
 ]
+
+pub adopt-newer : {w w' : Core} (me : Owner) (l : LoadNumber) (kind : Kind) (key node_type : ℕ) (refs : List ArcRef) (r : Result HandleNumber Error) → AdoptOf w me l kind key node_type refs r w' → OnlyNewer w w'
+adopt-newer {w} me l kind key node_type refs (Ok k) call = elim call.adopts.makes [
+  | inl (n, is, falls) ↦ newer-then (newer-handle w (record { 0 = n }) (mode_of kind.0) (owners.Load l)) (newer-falls falls.falls)
+  | inr (none, left, leaves) ↦ newer-then (newer-adopted w l kind key (first_key kind.0 key) refs) (newer-alike leaves)
+]
+adopt-newer me l kind key node_type refs (Err e) call = newer-alike call.refused.stays

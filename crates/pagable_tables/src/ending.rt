@@ -112,12 +112,7 @@ pub fn load_drop<N: Drop>(
 }
 
 /// Why a load of a key can't hand over the handles that are named, if it can't.
-fn hand_over_fault(
-    t: &Tables,
-    me: Owner,
-    load: LoadNumber,
-    named: &[HandleNumber],
-) -> Option<Error>
+fn hand_over_fault(t: &Tables, me: Owner, load: LoadNumber, named: &[HandleNumber]) -> Option<Error>
     requires { IsWhole t.now }
     ensures { (stored : ℕ → Option Blob) (closed : Bool) (failures : ℕ) → result ≡ hand_over_fault (core_of t.now stored closed failures) me load named.now }
 {

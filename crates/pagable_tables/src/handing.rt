@@ -36,12 +36,7 @@ fn is_before(named: &[HandleNumber], place: usize, number: u64) -> bool
 }
 
 /// Why the handle that is named at this place can't be handed over by this owner, if it can't.
-fn fault_at(
-    handles: &Handles,
-    owner: Owner,
-    named: &[HandleNumber],
-    place: usize,
-) -> Option<Error>
+fn fault_at(handles: &Handles, owner: Owner, named: &[HandleNumber], place: usize) -> Option<Error>
     requires sound { AreSound handles.now }
     requires within { place < length named.now }
     ensures { result ≡ if_there (λ (row : HandleRow). refused_if (not (is_owner owner row.owner) || is_in (seen named.now place) (named_at named.now place)) errors.NotYours) (Some errors.NoSuchHandle) (find_row (named_at named.now place) (live handles.now.places.items)) }

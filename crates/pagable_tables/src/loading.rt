@@ -58,7 +58,13 @@ fn key_away(counts: Counts) -> Option<DataKey>
 }
 
 /// A load of the cell of the handle at this place, with an unpinned handle of its own. OutOfMemory where one of them has no place.
-fn open_cell(t: &mut Tables, me: Owner, at: HandleAt, node_type: u32, key: DataKey) -> Result<LoadNumber, Error>
+fn open_cell(
+    t: &mut Tables,
+    me: Owner,
+    at: HandleAt,
+    node_type: u32,
+    key: DataKey,
+) -> Result<LoadNumber, Error>
     requires whole { IsWhole t.old }
     requires later { AreLater t.old }
     requires place { slice_get t.old.holdings.handles.places.items at.place ≡ Some (alive at.row) }

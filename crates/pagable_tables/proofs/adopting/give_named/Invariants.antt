@@ -16,5 +16,5 @@ invariant-loop-reference g l =
     IsFalling l.t [] owns_nothing
     × (length (live l.t.handles.places.items) ≤ length (live l.fn.t.handles.places.items))
     × ((before w : Core) → SoFar before w nobody l.lists (record l.fn.t { unlisted = None }) → length (live l.fn.t.handles.places.items) ≤ length w.rows
-        → SoFar before w (λ q. is_named_by (take l.reference-index l.references) q && is_owned_in w (owners.Load l.load) q) l.lists l.t)
+    → SoFar before w (λ q. is_named_by (take l.reference-index l.references) q && is_owned_in w (owners.Load l.load) q) l.lists l.t)
     × Sheds (counts_at l.fn.t.nodes) (get nat_eq l.fn.values) (counts_at l.t.nodes) (get nat_eq l.values)

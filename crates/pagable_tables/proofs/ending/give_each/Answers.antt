@@ -11,8 +11,7 @@ loop-past-preserved g c =
     let i = c.loop-past.invariant in
     let past = i.0 in
     let fewer = i.2 in
-    let next = c.give_next.ensures.fewer in
-    (
+    let next = c.give_next.ensures.fewer in (
       omega arith,
       c.give_next.ensures.steady,
       omega arith,

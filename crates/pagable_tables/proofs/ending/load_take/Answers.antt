@@ -59,13 +59,13 @@ returns-clause-taken g c stored closed failures e =
     let can : MayHand p me l hs = may-hand c.requires.whole.core me l hs (sym (c.hand_over_fault.ensures (λ key. None) false 0) ∙ c.in_default.is) in
     let left : (q : ℕ) → is_owned_in u (owners.Load l) q ≡ (is_owned_in w (owners.Load l) q && not (s q)) = λ q. loaded-moved s me l q w.rows (no-load p me l can.may) in
     let so-far = begun-moved t h l s me stored closed c.args.lists failures c.requires.whole e c.hand_each.ensures.same c.hand_each.ensures.rows
-        (record { handles = (let a = c.hand_each.ensures.capacity in omega arith); entries = (let a = ap (λ (k : Holdings). (with_tables w k).places.entries) c.hand_each.ensures.same in omega arith) })
-        (still-listed c.requires.whole.core me l hs can) in
+    (record { handles = (let a = c.hand_each.ensures.capacity in omega arith); entries = (let a = ap (λ (k : Holdings). (with_tables w k).places.entries) c.hand_each.ensures.same in omega arith) })
+    (still-listed c.requires.whole.core me l hs can) in
     let row : load_at t.loads l.0 ≡ Some c.in-Some-load_of.row = sym c.load_of.ensures ∙ c.in-Some-load_of.is in
     let last = ap (λ (k : Holdings). k.last_handle) c.hand_each.ensures.same in
     let falls = c.give_up_load.ensures.falls w u so-far (let a = ap length c.hand_each.ensures.rows in omega arith)
-        (λ q own. let mine = and-left (is_owned_in w (owners.Load l) q) (not (s q)) (sym (left q) ∙ own) in let g = owned-given p (owners.Load l) q c.requires.whole.core.handles mine in
-        (c.requires.later.since l.0 c.in-Some-load_of.row q row mine, omega arith)) in
+    (λ q own. let mine = and-left (is_owned_in w (owners.Load l) q) (not (s q)) (sym (left q) ∙ own) in let g = owned-given p (owners.Load l) q c.requires.whole.core.handles mine in
+    (c.requires.later.since l.0 c.in-Some-load_of.row q row mine, omega arith)) in
     record {
       hands = (
         sym (c.hand_over_fault.ensures stored closed failures) ∙ c.in_default.is,

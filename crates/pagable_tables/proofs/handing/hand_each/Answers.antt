@@ -28,8 +28,7 @@ loop-place-preserved c =
     let row = c.in-Some.at.row in
     let n : IsNamed (live t.handles.places.items) (named_at hs p) = named-still hs p (named_at hs p) c.args.owner (live c.args.t.now.handles.places.items) (live t.handles.places.items) i.2 c.requires.plain (c.requires.there p lt) in
     let same : n.row ≡ row = (let a : Some n.row ≡ Some row = sym n.found ∙ c.in-Some.ensures.found in cc) in
-    let plain : is_valued row.owner ≡ false = ap (λ r. is_valued r.owner) (sym same) ∙ n.plain in
-    (
+    let plain : is_valued row.owner ≡ false = ap (λ r. is_valued r.owner) (sym same) ∙ n.plain in (
       omega arith,
       c.hand_over.ensures.falling t owns_nothing owns_nothing (no-values row c.args.owner plain c.requires.plain) i.1,
       one-moved hs p c.args.owner (live c.args.t.now.handles.places.items) (live t.handles.places.items) (live c.hand_over.new.handles.places.items) row.number (ap (λ (h : HandleNumber). h.0) c.in-Some.ensures.number) i.2 c.hand_over.ensures.rows,

@@ -18,12 +18,11 @@ loop-place-preserved c =
     let p = c.loop-place.place - 1 in
     let i = c.loop-place.invariant.0 in
     let some = c.loop-place-test.true in
-    let up : c.loop-place.place ≡ p + 1 = omega arith in
-    (
+    let up : c.loop-place.place ≡ p + 1 = omega arith in (
       omega arith,
       λ w is. c.earlier-fault.ensures ∙ one-named w c.args.owner hs p c.fault_at.result c.loop-place.fault (omega arith)
-      (c.fault_at.ensures ∙ ap (λ rows. if_there (λ (row : HandleRow). refused_if (not (is_owner c.args.owner row.owner) || is_in (seen hs p) (named_at hs p)) errors.NotYours) (Some errors.NoSuchHandle) (find_row (named_at hs p) rows)) (sym is))
-      (subst (λ q. c.loop-place.fault ≡ named_fault w c.args.owner (seen hs q) (drop q hs)) up (c.loop-place.invariant.1 w is)),
+          (c.fault_at.ensures ∙ ap (λ rows. if_there (λ (row : HandleRow). refused_if (not (is_owner c.args.owner row.owner) || is_in (seen hs p) (named_at hs p)) errors.NotYours) (Some errors.NoSuchHandle) (find_row (named_at hs p) rows)) (sym is))
+          (subst (λ q. c.loop-place.fault ≡ named_fault w c.args.owner (seen hs q) (drop q hs)) up (c.loop-place.invariant.1 w is)),
     )
 
 pub returns : goal.returns
