@@ -4,3 +4,4 @@ pub mod Shed
 pub mod Shut
 pub mod Empty
 pub mod Seen
+pub mod Asking

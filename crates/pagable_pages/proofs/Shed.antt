@@ -17,6 +17,7 @@ use Rattle.pagable_tables.specs.declared.rows.Counts.{Counts}
 use Rattle.pagable_tables.specs.declared.tables.Tables.{Tables}
 use Rattle.pagable_tables.specs.ByNumber.{counts_at}
 use Rattle.pagable_tables.specs.Falling.{AreKept, Sheds, has_value, pins_in, cell_in, key_in}
+use Rattle.pagable_tables.specs.Later.{AreLater}
 use Rattle.pagable_tables.specs.Core.{IsWhole, core_of, plain_of}
 use Rattle.pagable_pages.specs.View.{PagerView, Telling, Spelling, ValuesByNode, IsPager, core_in, state_in, value_in, values_of}
 
@@ -86,10 +87,10 @@ module _ {N S E : Type 0} (tells : Telling S) (g : Spelling N E) (p : PagerView 
       }
 
   -- what is left leaves the pager in step
-  pub shed : (t : Tables) (values : ValuesByNode N) → IsWhole t → Sheds (counts_at p.tables.holdings.nodes) (get nat_eq p.values) (counts_at t.holdings.nodes) (get nat_eq values)
+  pub shed : (t : Tables) (values : ValuesByNode N) → IsWhole t → AreLater t → Sheds (counts_at p.tables.holdings.nodes) (get nat_eq p.values) (counts_at t.holdings.nodes) (get nat_eq values)
       → ((core_in tells p).closed ≡ true → (t.holdings.list.items ≡ []) × ((kind key : ℕ) → (plain_of t).cache kind key ≡ None))
       → (Leaves (value_in p.values) (state_in tells (record p { tables = t; values = values })) → WellFormed (values_of g p.environment) (state_in tells (record p { tables = t; values = values }))) → IsPager tells g (record p { tables = t; values = values })
-  shed t values whole sheds shut state = record { tables = whole; state = state (leaves t values whole sheds (whole-over t (tells.stored p.storage) (tells.closed p.storage) (tells.failed p.storage) whole shut)) }
+  shed t values whole later sheds shut state = record { tables = whole; later = later; state = state (leaves t values whole sheds (whole-over t (tells.stored p.storage) (tells.closed p.storage) (tells.failed p.storage) whole shut)) }
 
   -- no value came
   pub less : (t : Tables) (values : ValuesByNode N) → Sheds (counts_at p.tables.holdings.nodes) (get nat_eq p.values) (counts_at t.holdings.nodes) (get nat_eq values) → (n : ℕ) (x : N) → value_in values n ≡ Some x → value_in p.values n ≡ Some x

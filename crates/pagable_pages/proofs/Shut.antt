@@ -1,17 +1,22 @@
 -- Once the storage is closed nothing comes to the list or the cache.
-use Rattle.std.proofs.Common.{Ok, Err, ◌≡◌, ℕ, ◌<◌, Bool, true, false, List, [], ◌∷◌, ◌++◌, refl, ap, sym, ◌∙◌, Some, None, inl, inr, arith}
+use Rattle.std.proofs.Common.{◌≡◌, ℕ, ◌<◌, Bool, true, false, if◌then◌else◌, Ok, Err, List, [], ◌∷◌, ◌++◌, refl, ap, sym, ◌∙◌, Some, None, inl, inr, arith}
 use Rattle.std.specs.Prelude.{Option, Result, map, filter, not}
 use Rattle.std.proofs.lemmas.Bool.Decides.{nat_tests}
 use Rattle.std.proofs.lemmas.List.Sums.{sum_by-cons}
+use Rattle.pagable_model.specs.declared.data_key.OptionalDataKey.TheVariants as optional
 use Rattle.pagable_model.specs.declared.numbers.HandleNumber.{HandleNumber}
 use Rattle.pagable_model.specs.declared.numbers.Kind.{Kind}
+use Rattle.pagable_model.specs.declared.numbers.LoadNumber.{LoadNumber}
+use Rattle.pagable_model.specs.declared.numbers.NodeNumber.{NodeNumber}
+use Rattle.pagable_world.specs.declared.handles.Owner.TheVariants as owners
 use Rattle.pagable_world.specs.declared.handles.HandleRow.{HandleRow}
 use Rattle.pagable_world.specs.declared.handles.Owner.{Owner}
-use Rattle.pagable_world.specs.Plain.{Error, one}
-use Rattle.pagable_world.specs.Kinds.{is_at, held}
+use Rattle.pagable_world.specs.Plain.{Error, one, type_of}
+use Rattle.pagable_world.specs.Kinds.{is_at, held, mode_of}
 use Rattle.pagable_world.specs.World.{Core, Alike}
 use Rattle.pagable_world.specs.Cascade.{Falls}
-use Rattle.pagable_world.specs.Calls.{ReleaseCall, UnpinCall, SetKeyCall, ScheduleCall, OfferCall}
+use Rattle.pagable_world.specs.Calls.{with_cached, with_cached_if_open, with_handle, with_node, next_node, ReleaseCall, UnpinCall, SetKeyCall, ScheduleCall, OfferCall}
+use Rattle.pagable_world.specs.LoadCalls.{LazyCall, DropCall, HandOverCall}
 
 -- nothing is listed or known
 abbrev pub IsBare : Core → Type 0
@@ -35,6 +40,13 @@ bare-fell {u = u} {w'} f closed b =
       λ kind key. none-known (w'.cache kind key) (λ n is. sym (b.1 kind key) ∙ f.leaves.cache.only kind key n is),
     )
 
+bare-cached : (w : Core) (kind : Kind) (key : ℕ) (n : NodeNumber) → w.closed ≡ true → IsBare w → IsBare (with_cached_if_open w kind key n)
+bare-cached w kind key n closed b = split w.closed closed
+  where
+    split : (c : Bool) → c ≡ true → IsBare (if c then w else with_cached w kind key n)
+    split true e = b
+    split false e = absurd (cc)
+
 module _ {w w' : Core} (closed : w.closed ≡ true) (b : IsBare w) where
   pub released-bare : {me : Owner} {h : HandleNumber} {r : Result (Unit {0}) Error} → ReleaseCall w me h r w' → IsBare w'
   released-bare c = elim c.does [ inl refused ↦ bare-alike refused.stays b | inr (row, owns, f) ↦ bare-fell f closed b ]
@@ -53,3 +65,17 @@ module _ {w w' : Core} (closed : w.closed ≡ true) (b : IsBare w) where
   offered-bare (Ok None) c = absurd (let e : true ≡ false = sym closed ∙ c.answers.3.0 in cc)
   offered-bare (Ok (Some k)) c = elim c.answers.3 [ inl (shut, same, a) ↦ bare-alike a b | inr (stands_open, makes) ↦ absurd (let e : true ≡ false = sym closed ∙ stands_open in cc) ]
   offered-bare (Err e) c = bare-alike c.refused.stays b
+
+  pub dropped-bare : {me : Owner} {l : LoadNumber} {r : Result (Unit {0}) Error} → DropCall w me l r w' → IsBare w'
+  dropped-bare c = elim c.does [ inl refused ↦ bare-alike refused.stays b | inr (load, owns, f) ↦ bare-fell f closed b ]
+
+  pub handed-bare : {me : Owner} {l : LoadNumber} {hs : List HandleNumber} (r : Result (Unit {0}) Error) → HandOverCall w me l hs r w' → IsBare w'
+  handed-bare (Ok u) c = bare-fell c.hands.1.falls closed b
+  handed-bare (Err e) c = bare-alike c.refused.1 b
+
+  pub lazy-bare : {me : Owner} {l : LoadNumber} {kind : Kind} {key : ℕ} (r : Result HandleNumber Error) → LazyCall w me l kind key r w' → IsBare w'
+  lazy-bare {l = l} {kind} {key} (Ok k) c = elim c.makes.3 [
+    | inl gets ↦ bare-alike gets.leaves b
+    | inr (none, few, next, leaves) ↦ bare-alike leaves (bare-cached (with_handle (with_node w (type_of kind.0) (optional.Some key) []) (next_node w) (mode_of kind.0) (owners.Load l)) kind key (next_node w) closed b)
+  ]
+  lazy-bare (Err e) c = bare-alike c.refused.stays b

@@ -19,6 +19,7 @@ use Rattle.pagable_tables.specs.declared.tables.Tables.{Tables}
 use Rattle.pagable_tables.specs.ByNumber.{counts_at}
 use Rattle.pagable_tables.specs.Falling.{pins_in}
 use Rattle.pagable_tables.specs.Core.{core_of}
+use Rattle.pagable_tables.specs.Later.{AreLater}
 use Rattle.pagable_tables.specs.Core as tables
 
 abbrev pub ValuesByNode : Type 0 → Type 0
@@ -78,9 +79,10 @@ abbrev pub spelling : {N E : Type 0} → (N → ℕ) → (N → List ArcRef) →
 spelling type_of refs_of means read_causes write_causes shape_of parts hash =
     record { type_of = type_of; refs_of = refs_of; means = means; read_causes = read_causes; write_causes = write_causes; shape_of = shape_of; parts = parts; hash = hash }
 
--- the tables are whole, and the plain state
+-- the tables are whole, what loads own has come since they began, and the plain state
 pub record IsPager {N S E : Type 0} (tells : Telling S) (g : Spelling N E) (p : PagerView N S E) : Type 0 where
   pub tables : tables.IsWhole p.tables
+  pub later : AreLater p.tables
   pub state : WellFormed (values_of g p.environment) (state_in tells p)
 
 -- values, storage and environment are the same

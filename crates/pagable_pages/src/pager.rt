@@ -6,6 +6,7 @@ ghost use Rattle.pagable_world.specs.World.{seen_as};
 ghost use Rattle.pagable_world.specs.Pager.{IsNew, ValueCall, WellFormed};
 ghost use Rattle.pagable_pages.specs.View.{state_in, telling, spelling, values_of};
 
+pub mod ends;
 pub mod handles;
 pub mod known;
 pub mod lists;

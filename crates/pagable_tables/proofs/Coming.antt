@@ -20,7 +20,7 @@ more-right : (w k bare : Bool) (p h p' h' : ℕ) → w ≡ false → p ≤ p' �
 more-right true k bare p h p' h' e a b r = absurd (cc)
 more-right false k bare p h p' h' e a b r = grind (arith, nat_tests)
 
-no-value : (n : ℕ) (o : Owner) → is_valued o ≡ false → is_owner (owner_value n) o ≡ false
+pub no-value : (n : ℕ) (o : Owner) → is_valued o ≡ false → is_owner (owner_value n) o ≡ false
 no-value n owners.Caller e = refl
 no-value n (owners.Value m) e = absurd (cc)
 no-value n owners.List e = refl

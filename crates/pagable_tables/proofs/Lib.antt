@@ -30,6 +30,8 @@ mod Offers
 mod Swapped
 mod Regiven
 mod Named
+mod Born
+mod NewNodes
 mod Lowered
 mod Dropped
 mod Asked
@@ -37,12 +39,12 @@ mod Unpinning
 mod KeyPut
 mod Seen
 mod Handed
-mod Born
-mod NewNodes
 mod KeySet
 mod Nothing
 mod Taken
-mod Newer
+pub mod Newer
 mod Adopted
 mod Lazily
 mod GivenNamed
+mod Stays
+mod Adoptions

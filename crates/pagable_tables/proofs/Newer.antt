@@ -14,23 +14,26 @@ use Rattle.pagable_world.specs.declared.rows.Mode.{Mode}
 use Rattle.pagable_world.specs.declared.rows.Mode.TheVariants as modes
 use Rattle.pagable_world.specs.declared.answers.Beginning.{Beginning}
 use Rattle.pagable_world.specs.declared.answers.Beginning.TheVariants as beginnings
+use Rattle.pagable_world.specs.declared.answers.Pinning.{Pinning}
+use Rattle.pagable_world.specs.declared.answers.Pinning.TheVariants as pinnings
 use Rattle.pagable_model.specs.declared.numbers.Kind.{Kind}
 use Rattle.pagable_model.specs.declared.numbers.ArcRef.{ArcRef}
 use Rattle.pagable_model.specs.declared.data_key.OptionalDataKey.{OptionalDataKey}
 use Rattle.pagable_model.specs.declared.data_key.OptionalDataKey.TheVariants as optional
-use Rattle.pagable_world.specs.Plain.{if_there, is_in, type_of}
-use Rattle.pagable_world.specs.Kinds.{is_owner, is_owned_by, owner_value, find_row, mode_of}
+use Rattle.pagable_world.specs.Plain.{if_there, is_in, type_of, changed}
+use Rattle.pagable_world.specs.Kinds.{is_handle, is_owner, is_owned_by, owner_value, find_row, mode_of}
 use Rattle.pagable_world.specs.World.{Core, Last, Alike}
 use Rattle.pagable_world.specs.Pager as pager
 use Rattle.pagable_world.specs.Cascade.{Falls}
-use Rattle.pagable_world.specs.Calls.{with_handle, with_node, next_node, with_cached, with_cached_if_open, is_named_by, moved, RecallCall}
-use Rattle.pagable_world.specs.LoadCalls.{is_owned_in, numbers_of, adopted, DropCall, HandOverCall, BeginCall, LazyCall}
+use Rattle.pagable_world.specs.Calls.{with_handle, with_node, next_node, with_cached, with_cached_if_open, is_named_by, moved, with_mode, RecallCall, LoosenCall, PinCall, UnpinCall, ReleaseCall, SetKeyCall}
+use Rattle.pagable_world.specs.LoadCalls.{is_owned_in, numbers_of, adopted, first_key, DropCall, HandOverCall, BeginCall, LazyCall}
 use Rattle.pagable_tables.specs.declared.rows.LoadRow.{LoadRow}
 use Rattle.pagable_tables.specs.declared.tables.Tables.{Tables}
 use Rattle.pagable_tables.specs.ByNumber.{load_at}
 use Rattle.pagable_tables.specs.Core.{plain_of, load_in, Makes}
 use Rattle.pagable_tables.specs.Later.{AreLater}
-use Rattle.pagable_tables.proofs.Regiven.{loaded, loaded-left, no-entry}
+use Rattle.pagable_tables.specs.Asking.{AdoptOf}
+use Rattle.pagable_tables.proofs.Regiven.{loaded, loaded-here, loaded-left, no-entry}
 use Rattle.pagable_tables.proofs.Taken.{loaded-moved, and-left}
 use Rattle.pagable_tables.proofs.Worlds.{owner-same}
 use Rattle.pagable_tables.proofs.keeps.Rows.{found-among, found-push}
@@ -60,6 +63,22 @@ newer-handle w node mode owner = record { last = omega arith; owned = λ l q own
 
 pub newer-moved : (w : Core) (s : ℕ → Bool) (o : Owner) → ((l : LoadNumber) → is_owner (owners.Load l) o ≡ false) → OnlyNewer w (record w { rows = moved s o w.rows })
 newer-moved w s o other = record { last = omega arith; owned = λ l q own. inl (and-left (loaded l q w.rows) (not (s q)) (sym (loaded-moved s o l q w.rows (other l)) ∙ own)) }
+
+-- a handle's mode says nothing of who owns it
+loaded-mode : (l : LoadNumber) (q : ℕ) (test : HandleRow → Bool) (mode : Mode) (rows : List HandleRow) → loaded l q (changed test (λ row. record row { mode = mode }) rows) ≡ loaded l q rows
+loaded-mode l q test mode [] = refl
+loaded-mode l q test mode (x ∷ xs) =
+    split (test x) ∙ ap (λ b. if is_handle q x then is_owner (owners.Load l) x.owner else b) (loaded-mode l q test mode xs) ∙ sym (loaded-here l q x xs)
+  where
+    rest : List HandleRow
+    rest = changed test (λ row. record row { mode = mode }) xs
+
+    split : (b : Bool) → loaded l q ((if b then record x { mode = mode } else x) ∷ rest) ≡ (if is_handle q x then is_owner (owners.Load l) x.owner else loaded l q rest)
+    split true = loaded-here l q (record x { mode = mode }) rest
+    split false = loaded-here l q x rest
+
+newer-mode : (w : Core) (h : HandleNumber) (mode : Mode) → OnlyNewer w (with_mode w h mode)
+newer-mode w h mode = record { last = omega arith; owned = λ l q own. inl (sym (loaded-mode l q (is_handle h.0) mode w.rows) ∙ own) }
 
 pub newer-falls : {before u w' : Core} {given : ℕ → Bool} {r : Result (Unit {0}) Error} → Falls before u given r w' → OnlyNewer u w'
 newer-falls {before} {u} {w'} falls =
@@ -172,3 +191,38 @@ lazy-newer {w} me l kind key (Ok k) call = elim call.makes.3 [
   | inr (none, left, next, leaves) ↦ newer-then (newer-adopted w l kind key (optional.Some key) []) (newer-alike leaves)
 ]
 lazy-newer me l kind key (Err e) call = newer-alike call.refused.stays
+
+pub loosen-newer : {w w' : Core} (me : Owner) (h : HandleNumber) (r : Result HandleNumber Error) → LoosenCall w me h r w' → OnlyNewer w w'
+loosen-newer {w} me h (Ok k) call = newer-then (newer-mode w h modes.LoosePinned) (newer-alike (let (row, own, same, leaves) = call.turned in leaves))
+loosen-newer me h (Err e) call = newer-alike call.refused.1
+
+pub pin-newer : {w w' : Core} (me : Owner) (h : HandleNumber) (r : Result Pinning Error) → PinCall w me h r w' → OnlyNewer w w'
+pin-newer {w} me h (Ok (pinnings.Pinned k)) call =
+    let (row, own, (here, next, leaves)) = call.pins in
+    newer-then (newer-then (newer-mode w h modes.LoosePinned) (newer-handle (with_mode w h modes.LoosePinned) row.node modes.Pinned me)) (newer-alike leaves)
+pin-newer me h (Ok (pinnings.NeedsLoad key)) call = let (row, own, (away, is, stays)) = call.pins in newer-alike stays
+pin-newer me h (Err e) call = newer-alike call.refused.stays
+
+pub unpin-newer : {w w' : Core} (me : Owner) (h : HandleNumber) (r : Result (Unit {0}) Error) → UnpinCall w me h r w' → OnlyNewer w w'
+unpin-newer {w} me h r call = elim call.does [
+  | inl refused ↦ newer-alike refused.stays
+  | inr (row, own, inl (mode, told, stays)) ↦ newer-alike stays
+  | inr (row, own, inr (mode, falls)) ↦ newer-then (newer-mode w h modes.LooseUnpinned) (newer-falls falls)
+]
+
+pub release-newer : {w w' : Core} (me : Owner) (h : HandleNumber) (r : Result (Unit {0}) Error) → ReleaseCall w me h r w' → OnlyNewer w w'
+release-newer me h r call = elim call.does [ inl refused ↦ newer-alike refused.stays | inr (row, own, falls) ↦ newer-falls falls ]
+
+pub set-key-newer : {w w' : Core} (me : Owner) (h : HandleNumber) (key : ℕ) (r : Result (Unit {0}) Error) → SetKeyCall w me h key r w' → OnlyNewer w w'
+set-key-newer me h key r call = elim call.does [
+  | inl refused ↦ newer-alike refused.stays
+  | inr (row, own, inl (mode, told, stays)) ↦ newer-alike stays
+  | inr (row, own, inr (loose, falls)) ↦ (let n = newer-falls falls in record { last = n.last; owned = n.owned })
+]
+
+pub adopt-newer : {w w' : Core} (me : Owner) (l : LoadNumber) (kind : Kind) (key node_type : ℕ) (refs : List ArcRef) (r : Result HandleNumber Error) → AdoptOf w me l kind key node_type refs r w' → OnlyNewer w w'
+adopt-newer {w} me l kind key node_type refs (Ok k) call = elim call.adopts.makes [
+  | inl (n, is, falls) ↦ newer-then (newer-handle w (record { 0 = n }) (mode_of kind.0) (owners.Load l)) (newer-falls falls.falls)
+  | inr (none, left, leaves) ↦ newer-then (newer-adopted w l kind key (first_key kind.0 key) refs) (newer-alike leaves)
+]
+adopt-newer me l kind key node_type refs (Err e) call = newer-alike call.refused.stays

@@ -52,7 +52,7 @@ regiven before w given given' lists t f less more =
 abbrev pub loaded : LoadNumber → ℕ → List HandleRow → Bool
 loaded l q rows = if_there (is_owned_by (owners.Load l)) false (find_row q rows)
 
-loaded-here : (l : LoadNumber) (q : ℕ) (x : HandleRow) (xs : List HandleRow) → loaded l q (x ∷ xs) ≡ (if is_handle q x then is_owner (owners.Load l) x.owner else loaded l q xs)
+pub loaded-here : (l : LoadNumber) (q : ℕ) (x : HandleRow) (xs : List HandleRow) → loaded l q (x ∷ xs) ≡ (if is_handle q x then is_owner (owners.Load l) x.owner else loaded l q xs)
 unfolding find_row
 loaded-here l q x xs = split (is_handle q x) refl
   where
@@ -60,7 +60,7 @@ loaded-here l q x xs = split (is_handle q x) refl
     split true e = rw e refl
     split false e = rw e refl
 
-loaded-none : (l : LoadNumber) (q : ℕ) → loaded l q [] ≡ false
+pub loaded-none : (l : LoadNumber) (q : ℕ) → loaded l q [] ≡ false
 unfolding find_row
 loaded-none l q = refl
 

@@ -1,6 +1,7 @@
 -- What a load asks of the tables.
-use Rattle.std.specs.Prelude.{ℕ, ◌≡◌, true, List, Option, Result, IfOk, IfErr}
+use Rattle.std.specs.Prelude.{ℕ, ◌≡◌, ◌==◌, not, true, List, [], Option, Result, IfOk, IfErr}
 use Rattle.pagable_model.specs.declared.error.Error.{Error}
+use Rattle.pagable_model.specs.declared.error.Error.TheVariants as errors
 use Rattle.pagable_model.specs.declared.numbers.ArcRef.{ArcRef}
 use Rattle.pagable_model.specs.declared.numbers.HandleNumber.{HandleNumber}
 use Rattle.pagable_model.specs.declared.numbers.Kind.{Kind}
@@ -8,8 +9,9 @@ use Rattle.pagable_model.specs.declared.numbers.LoadNumber.{LoadNumber}
 use Rattle.pagable_world.specs.declared.handles.Owner.{Owner}
 use Rattle.pagable_world.specs.declared.handles.Owner.TheVariants as owners
 use Rattle.pagable_world.specs.declared.calls.Want.TheVariants as wants
+use Rattle.pagable_world.specs.Plain.{is_loose_kind, type_of}
 use Rattle.pagable_world.specs.World.{Core, OpenLoad}
-use Rattle.pagable_world.specs.Refusals.{OwnsLoad, load_fault, Refused, AreHandlesFull}
+use Rattle.pagable_world.specs.Refusals.{OwnsLoad, earlier, refused_if, load_fault, references_fault, Refused, AreHandlesFull}
 use Rattle.pagable_world.specs.Calls.{Recalls}
 use Rattle.pagable_world.specs.LoadCalls.{ask_fault, is_known, Adopts, adopt_fault}
 
@@ -17,6 +19,12 @@ use Rattle.pagable_world.specs.LoadCalls.{ask_fault, is_known, Adopts, adopt_fau
 pub record AsksKnown (w : Core) (me : Owner) (l : LoadNumber) (kind : Kind) (key : ℕ) (r : Result (Option HandleNumber) Error) (w' : Core) : Type 0 where
   pub gives : IfOk r (λ found. (load : OpenLoad) × OwnsLoad w me l load × Recalls w (owners.Load l) kind key found w')
   pub refused : IfErr r (λ e. Refused (ask_fault w me l (wants.Nested kind key)) (ask_fault w me l (wants.Nested kind key)) ((is_known w (wants.Nested kind key) ≡ true) × AreHandlesFull w) w e w')
+
+-- why what a load has read can't become a node, apart from numbers and memory
+abbrev pub early_fault : Core → Owner → LoadNumber → Kind → ℕ → List ArcRef → Option Error
+early_fault w me l kind node_type references =
+    earlier (load_fault w me l) (earlier (refused_if (is_loose_kind kind.0) errors.WrongMode) (earlier (refused_if (not (node_type == type_of kind.0)) errors.WrongKind)
+    (references_fault w (owners.Load l) [] references)))
 
 -- What a load has read becomes a node, but for the value itself, which its owner keeps where it is refused.
 pub record AdoptOf (w : Core) (me : Owner) (l : LoadNumber) (kind : Kind) (key node_type : ℕ) (references : List ArcRef) (r : Result HandleNumber Error) (w' : Core) : Type 0 where

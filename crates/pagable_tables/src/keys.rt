@@ -9,6 +9,7 @@ ghost use Rattle.indexmap.specs.IndexMap.{get};
 ghost use Rattle.pagable_tables.specs.ByNumber.{counts_at};
 ghost use Rattle.pagable_tables.specs.Falling.{IsFalling, owns_nothing, ValueStays, Sheds};
 ghost use Rattle.pagable_tables.specs.Keyed.{keyed, GetsKey};
+ghost use Rattle.pagable_tables.specs.Later.{AreLater};
 
 use crate::cascade::fall;
 use crate::holdings::{Holdings, top_after};
@@ -72,6 +73,7 @@ fn set_key<N: Drop>(
     ensures falls { (stored : ℕ → Option Blob) (closed : Bool) (failures : ℕ) → lists ≡ not closed
         → Falls (core_of t.old stored closed failures) (with_key (core_of t.old stored closed failures) node key) nobody result (core_of t.new stored closed failures) }
     ensures steady { IsFalling t.new.holdings [] owns_nothing }
+    ensures loads { t.new.loads ≡ t.old.loads }
     ensures sheds { Sheds (counts_at t.old.holdings.nodes) (get nat_eq values.old) (counts_at t.new.holdings.nodes) (get nat_eq values.new) }
 {
     t.holdings.unlisted = None;
@@ -93,6 +95,7 @@ pub fn set_data_key<N: Drop>(
     ensures set { (stored : ℕ → Option Blob) (closed : Bool) (failures : ℕ) → lists ≡ not closed
         → SetKeyCall (core_of t.old stored closed failures) me handle key result (core_of t.new stored closed failures) }
     ensures whole { IsWhole t.new }
+    ensures later { AreLater t.old → AreLater t.new }
     ensures sheds { Sheds (counts_at t.old.holdings.nodes) (get nat_eq values.old) (counts_at t.new.holdings.nodes) (get nat_eq values.new) }
 {
     let at = match own(t, me, handle) {

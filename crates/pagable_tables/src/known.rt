@@ -1,6 +1,6 @@
 //! What the cache gives and learns.
 
-ghost use Rattle.std.specs.Prelude.{◌≡◌, ℕ, Bool, Option, Some, IfSome, IfOk, IfErr, false};
+ghost use Rattle.std.specs.Prelude.{◌≡◌, ℕ, [], Bool, Option, Some, IfSome, IfNone, IfOk, IfErr, false};
 ghost use Rattle.std.specs.Option.{option_map};
 ghost use Rattle.pagable_model.specs.declared.numbers.NodeNumber.{NodeNumber};
 ghost use Rattle.pagable_world.specs.Plain.{Blob, type_of};
@@ -48,6 +48,7 @@ pub fn cache_get(
     requires holder { MayHold (plain_of t.old) me }
     ensures recalled { (stored : ℕ → Option Blob) (closed : Bool) (failures : ℕ) → RecallCall (core_of t.old stored closed failures) me kind key result (core_of t.new stored closed failures) }
     ensures whole { IsWhole t.new }
+    ensures none { IfOk result (λ found. IfNone found (t.new ≡ t.old)) }
     ensures later { AreLater t.old → AreLater t.new }
 {
     let Some(node) = usable_of(t, kind, key) else {

@@ -149,6 +149,7 @@ pub fn load_known(
     requires later { AreLater t.old }
     ensures asked { (stored : ℕ → Option Blob) (closed : Bool) (failures : ℕ) → AsksKnown (core_of t.old stored closed failures) me load kind key result (core_of t.new stored closed failures) }
     ensures whole { IsWhole t.new }
+    ensures none { IfOk result (λ found. IfNone found (t.new ≡ t.old)) }
     ensures later { AreLater t.new }
 {
     let _row = match load_row(t, me, load) {

@@ -1,11 +1,11 @@
 //! Handles that come to live nodes.
 
-ghost use Rattle.std.specs.Prelude.{◌≡◌, ℕ, ◌<◌, ◌^◌, ◌+◌, [], Bool, Option, IsSome, false, length};
+ghost use Rattle.std.specs.Prelude.{◌≡◌, ℕ, ◌<◌, ◌^◌, ◌+◌, [], Bool, Option, IsSome, true, false, length};
 ghost use Rattle.pagable_world.specs.Plain.{Blob, one};
 ghost use Rattle.pagable_world.specs.World.{Core};
 ghost use Rattle.pagable_world.specs.Calls.{CloneCall};
 ghost use Rattle.pagable_tables.specs.ByNumber.{counts_at};
-ghost use Rattle.pagable_tables.specs.Falling.{is_valued, IsFalling, owns_nothing};
+ghost use Rattle.pagable_tables.specs.Falling.{is_valued, has_value, IsFalling, ValueStays, owns_nothing};
 ghost use Rattle.pagable_tables.specs.Onward.{with_tables};
 ghost use Rattle.pagable_tables.specs.Core.{core_of, plain_of, IsWhole, MayHold, Suits, Makes};
 ghost use Rattle.pagable_tables.specs.Later.{AreLater};
@@ -55,6 +55,7 @@ pub fn come(
     requires live { IsSome (counts_at t.old.nodes node.0) }
     requires owner { is_valued owner ≡ false }
     ensures made { (w : Core) → Makes (with_tables w t.old) node mode owner result (with_tables w t.new) }
+    ensures values { (n : ℕ) → (n ≡ node.0 → has_value (counts_at t.old.nodes n) ≡ true) → ValueStays (counts_at t.old.nodes n) (counts_at t.new.nodes n) }
     ensures steady { IsFalling t.new [] owns_nothing }
 {
     let Some(counts) = nodes::counts_of(&t.nodes, node.0) else {
@@ -91,6 +92,7 @@ pub fn make(
     requires suits { Suits (plain_of t.old) node mode }
     requires holder { MayHold (plain_of t.old) owner }
     ensures made { (stored : ℕ → Option Blob) (closed : Bool) (failures : ℕ) → Makes (core_of t.old stored closed failures) node mode owner result (core_of t.new stored closed failures) }
+    ensures values { (n : ℕ) → (n ≡ node.0 → has_value (counts_at t.old.holdings.nodes n) ≡ true) → ValueStays (counts_at t.old.holdings.nodes n) (counts_at t.new.holdings.nodes n) }
     ensures whole { IsWhole t.new }
     ensures later { AreLater t.old → AreLater t.new }
     ensures same { t.new ≡ record t.old { holdings = t.new.holdings } }
@@ -104,6 +106,7 @@ pub fn clone(t: &mut Tables, me: Owner, handle: HandleNumber) -> Result<HandleNu
     requires holder { MayHold (plain_of t.old) me }
     ensures cloned { (stored : ℕ → Option Blob) (closed : Bool) (failures : ℕ) → CloneCall (core_of t.old stored closed failures) me handle result (core_of t.new stored closed failures) }
     ensures whole { IsWhole t.new }
+    ensures later { AreLater t.old → AreLater t.new }
 {
     let Some(at) = handles::look(&t.holdings.handles, handle) else {
         return Err(Error::NoSuchHandle);

@@ -1,12 +1,13 @@
 //! Pins of loose handles.
 
-ghost use Rattle.std.specs.Prelude.{ℕ, Bool, Option};
+ghost use Rattle.std.specs.Prelude.{◌≡◌, ℕ, Bool, Option};
 ghost use Rattle.pagable_world.specs.Plain.{Blob};
 ghost use Rattle.pagable_world.specs.Kinds.{is_loose};
 ghost use Rattle.pagable_world.specs.Refusals.{Owns};
 ghost use Rattle.pagable_world.specs.Calls.{PinCall};
 ghost use Rattle.pagable_tables.specs.Owning.{PinsHere};
 ghost use Rattle.pagable_tables.specs.Core.{core_of, plain_of, IsWhole, MayHold};
+ghost use Rattle.pagable_tables.specs.Later.{AreLater};
 
 use crate::kinds::is_loose;
 use crate::lookups::{is_here, key_in};
@@ -25,6 +26,7 @@ fn pin_here(t: &mut Tables, me: Owner, row: HandleRow) -> Result<HandleNumber, E
     requires owns { Owns (plain_of t.old) me row.number is_loose row }
     ensures pinned { (stored : ℕ → Option Blob) (closed : Bool) (failures : ℕ) → PinsHere (core_of t.old stored closed failures) me row result (core_of t.new stored closed failures) }
     ensures whole { IsWhole t.new }
+    ensures loads { t.new.loads ≡ t.old.loads }
 {
     let handle = match make(t, row.node, Mode::Pinned, me) {
         Ok(handle) => handle,
@@ -43,6 +45,7 @@ pub fn pin(t: &mut Tables, me: Owner, handle: HandleNumber) -> Result<Pinning, E
     requires holder { MayHold (plain_of t.old) me }
     ensures pinned { (stored : ℕ → Option Blob) (closed : Bool) (failures : ℕ) → PinCall (core_of t.old stored closed failures) me handle result (core_of t.new stored closed failures) }
     ensures whole { IsWhole t.new }
+    ensures later { AreLater t.old → AreLater t.new }
 {
     let at = match own(t, me, handle) {
         Ok(at) => at,

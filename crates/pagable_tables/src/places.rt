@@ -5,6 +5,7 @@ ghost use Rattle.pagable_world.specs.Plain.{Blob};
 ghost use Rattle.pagable_world.specs.World.{Alike};
 ghost use Rattle.pagable_world.specs.Calls.{ReserveCall, ClearCall, room_of};
 ghost use Rattle.pagable_tables.specs.Core.{core_of, IsWhole};
+ghost use Rattle.pagable_tables.specs.Later.{AreLater};
 
 use crate::tables::Tables;
 use crate::{cache, handles};
@@ -32,6 +33,7 @@ fn grow(t: &mut Tables, more: usize)
     requires { IsWhole t.old }
     ensures grown { (stored : ℕ → Option Blob) (closed : Bool) (failures : ℕ) → Alike (core_of t.old stored closed failures) (core_of t.new stored closed failures) }
     ensures whole { IsWhole t.new }
+    ensures loads { t.new.loads ≡ t.old.loads }
 {
     let _ = handles::reserve(&mut t.holdings.handles, more);
     grow_list(&mut t.holdings.list, more);
@@ -42,6 +44,7 @@ pub fn reserve(t: &mut Tables, more: usize) -> Result<(), Error>
     requires { IsWhole t.old }
     ensures reserved { (stored : ℕ → Option Blob) (closed : Bool) (failures : ℕ) → ReserveCall (core_of t.old stored closed failures) more result (core_of t.new stored closed failures) }
     ensures whole { IsWhole t.new }
+    ensures later { AreLater t.old → AreLater t.new }
 {
     grow(t, more);
     if room(t) < more {
@@ -55,6 +58,7 @@ pub fn cache_clear(t: &mut Tables) -> Result<(), Error>
     requires { IsWhole t.old }
     ensures cleared { (stored : ℕ → Option Blob) (closed : Bool) (failures : ℕ) → ClearCall (core_of t.old stored closed failures) result (core_of t.new stored closed failures) }
     ensures whole { IsWhole t.new }
+    ensures later { AreLater t.old → AreLater t.new }
 {
     cache::forget(&mut t.cache);
     Ok(())

@@ -13,6 +13,7 @@ ghost use Rattle.pagable_tables.specs.ByNumber.{counts_at};
 ghost use Rattle.pagable_tables.specs.Falling.{IsFalling, is_valued, owns_nothing, Sheds};
 ghost use Rattle.pagable_tables.specs.Onward.{with_tables, SoFar};
 ghost use Rattle.pagable_tables.specs.Core.{core_of, IsWhole};
+ghost use Rattle.pagable_tables.specs.Later.{AreLater};
 
 use crate::cascade::fall;
 use crate::holdings;
@@ -60,6 +61,7 @@ pub fn release<N: Drop>(
     ensures released { (stored : ℕ → Option Blob) (closed : Bool) (failures : ℕ) → lists ≡ not closed
         → ReleaseCall (core_of t.old stored closed failures) me handle result (core_of t.new stored closed failures) }
     ensures whole { IsWhole t.new }
+    ensures later { AreLater t.old → AreLater t.new }
     ensures sheds { Sheds (counts_at t.old.holdings.nodes) (get nat_eq values.old) (counts_at t.new.holdings.nodes) (get nat_eq values.new) }
 {
     let at = match own(t, me, handle) {

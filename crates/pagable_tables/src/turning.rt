@@ -11,6 +11,7 @@ ghost use Rattle.pagable_world.specs.Refusals.{handle_fault};
 ghost use Rattle.pagable_world.specs.Calls.{LoosenCall, with_mode};
 ghost use Rattle.pagable_tables.specs.Live.{live, alive};
 ghost use Rattle.pagable_tables.specs.Core.{core_of, IsWhole};
+ghost use Rattle.pagable_tables.specs.Later.{AreLater};
 
 use crate::holdings::pins;
 use crate::making::places_taken;
@@ -104,6 +105,7 @@ pub fn into_pagable(t: &mut Tables, me: Owner, handle: HandleNumber) -> Result<H
     requires { IsWhole t.old }
     ensures loosened { (stored : ℕ → Option Blob) (closed : Bool) (failures : ℕ) → LoosenCall (core_of t.old stored closed failures) me handle result (core_of t.new stored closed failures) }
     ensures whole { IsWhole t.new }
+    ensures later { AreLater t.old → AreLater t.new }
 {
     let at = match own(t, me, handle) {
         Ok(at) => at,

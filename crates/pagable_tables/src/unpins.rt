@@ -11,6 +11,7 @@ ghost use Rattle.indexmap.specs.IndexMap.{get};
 ghost use Rattle.pagable_tables.specs.ByNumber.{counts_at};
 ghost use Rattle.pagable_tables.specs.Falling.{IsFalling, is_valued, owns_nothing, Sheds};
 ghost use Rattle.pagable_tables.specs.Lowering.{Lowers};
+ghost use Rattle.pagable_tables.specs.Later.{AreLater};
 
 use crate::cascade::fall;
 use crate::holdings::{Holdings, counts_after, enlist_if, top_after, wants_entry};
@@ -69,6 +70,7 @@ fn let_go<N: Drop>(
     ensures falls { (stored : ℕ → Option Blob) (closed : Bool) (failures : ℕ) → lists ≡ not closed
         → Falls (core_of t.old stored closed failures) (with_mode (core_of t.old stored closed failures) at.row.number modes.LooseUnpinned) nobody result (core_of t.new stored closed failures) }
     ensures steady { IsFalling t.new.holdings [] owns_nothing }
+    ensures loads { t.new.loads ≡ t.old.loads }
     ensures sheds { Sheds (counts_at t.old.holdings.nodes) (get nat_eq values.old) (counts_at t.new.holdings.nodes) (get nat_eq values.new) }
 {
     t.holdings.unlisted = None;
@@ -89,6 +91,7 @@ pub fn unpin<N: Drop>(
     ensures unpinned { (stored : ℕ → Option Blob) (closed : Bool) (failures : ℕ) → lists ≡ not closed
         → UnpinCall (core_of t.old stored closed failures) me handle result (core_of t.new stored closed failures) }
     ensures whole { IsWhole t.new }
+    ensures later { AreLater t.old → AreLater t.new }
     ensures sheds { Sheds (counts_at t.old.holdings.nodes) (get nat_eq values.old) (counts_at t.new.holdings.nodes) (get nat_eq values.new) }
 {
     let at = match own(t, me, handle) {

@@ -8,7 +8,7 @@ use Rattle.pagable_tables.proofs.adopting.give_named.Goals as goal
 pub loop-reference-init : goal.loop-reference-init
 loop-reference-init g c =
     let t = record c.args.t.now { unlisted = None } in
-    (aside c.args.t.now None [] owns_nothing c.requires, omega arith, λ before w f few. none-given before w c.args.lists t c.args.load c.args.references.now f, sheds-still t _ (aside c.args.t.now None [] owns_nothing c.requires))
+    (aside c.args.t.now None [] owns_nothing c.requires, omega arith, λ before w f few. none-given before w c.args.lists t c.args.load c.args.references.now f, sheds-still c.args.t.now _ c.requires)
 
 pub loop-reference-preserved : goal.loop-reference-preserved
 loop-reference-preserved g c =

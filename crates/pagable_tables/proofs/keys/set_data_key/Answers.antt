@@ -1,4 +1,4 @@
-use Rattle.std.proofs.Common.{not, None, refl, sym, ◌∙◌, arith, inl, inr}
+use Rattle.std.proofs.Common.{not, None, refl, sym, ◌∙◌, arith, inl, inr, ap}
 use Rattle.pagable_world.specs.Kinds.{any_mode}
 use Rattle.pagable_tables.specs.ByNumber.{counts_at}
 use Rattle.pagable_tables.proofs.Alive.{row-le-live}
@@ -9,6 +9,8 @@ use Rattle.pagable_tables.proofs.Worlds.{still, owner-same}
 use Rattle.pagable_tables.proofs.keeps.FallCalls.{set-key-whole}
 use Rattle.pagable_tables.proofs.keeps.Placed.{whole-so}
 use Rattle.pagable_tables.proofs.Shedding.{sheds-still}
+use Rattle.pagable_tables.specs.ByNumber.{load_at}
+use Rattle.pagable_tables.proofs.Newer.{set-key-newer, later-so}
 use Rattle.pagable_tables.proofs.keys.set_data_key.Goals as goal
 
 pub set_key-requires-clause-live : goal.set_key-requires-clause-live
@@ -43,3 +45,8 @@ returns-in-Err-clause-sheds g c = sheds-still c.args.t.now.holdings _ c.requires
 
 pub returns-then-not-is_loose-clause-sheds : goal.returns-then-not-is_loose-clause-sheds
 returns-then-not-is_loose-clause-sheds g c = sheds-still c.args.t.now.holdings _ c.requires.whole.steady
+
+pub returns-clause-later : goal.returns-clause-later
+returns-clause-later g c later =
+    let n = set-key-newer c.args.me c.args.handle c.args.key c.set_key.result (returns-clause-set g c (λ key. None) (not c.args.lists) 0 (not-closed c.args.lists)) in
+    later-so later (record { last = n.last; owned = n.owned }) (λ l load is. sym (ap (λ loads. load_at loads l) c.set_key.ensures.loads) ∙ is)

@@ -1,10 +1,13 @@
-use Rattle.std.proofs.Common.{◌+◌, ◌≡◌, ◌∷◌, [], ◌++◌, arith, refl, ap, sym, ◌∙◌, Some, rules}
+use Rattle.std.proofs.Common.{ℕ, Bool, true, false, subst, inl, inr, ◌+◌, ◌≡◌, ◌∷◌, [], ◌++◌, arith, refl, ap, sym, ◌∙◌, Some, rules}
 use Rattle.pagable_world.specs.Plain.{one}
 use Rattle.pagable_world.specs.Kinds.{is_pinning}
 use Rattle.pagable_world.specs.declared.handles.HandleRow.{HandleRow}
 use Rattle.pagable_tables.specs.Live.{live}
 use Rattle.pagable_tables.specs.ByNumber.{counts_at, refs_at}
-use Rattle.pagable_tables.specs.Falling.{pins_in, holds_in}
+use Rattle.pagable_tables.specs.Falling.{pins_in, holds_in, falls_in, has_value, ValueStays}
+use Rattle.pagable_tables.specs.declared.rows.Counts.{Counts}
+use Rattle.std.proofs.lemmas.Bool.{cases_eq}
+use Rattle.std.proofs.lemmas.Bool.Decides.{nat_tests}
 use Rattle.pagable_tables.proofs.Alive.{length-live-le}
 use Rattle.pagable_tables.proofs.Fitting.{pins-le-held}
 use Rattle.pagable_tables.proofs.Coming.{come-fits, come-cells, rows-told, held-few}
@@ -74,3 +77,24 @@ returns-clause-steady c =
     let here = e.here ∙ ap Some made in
     let g = come-fits at at' refs refs' rows t.top x y c.requires.steady.fits is here e.others e.refs c.requires.owner in
     record { sound = c.push.ensures.sound; next = c.in-Ok.ensures.next; fits = rows-told at' refs' (rows ++ x ∷ []) (live c.push.new.handles.places.items) t.top c.in-Ok.ensures.rows g }
+
+-- a handle more takes no value, and brings none where it is
+come-value : (y : Counts) (b : Bool) → has_value (Some y) ≡ true → ValueStays (Some y) (Some (record y { pins = y.pins + one b; holds = y.holds + 1 }))
+come-value y b some falls = (falls, grind (arith, nat_tests))
+
+pub returns-clause-values : goal.returns-clause-values
+returns-clause-values c n some =
+    let m = c.args.node.0 in
+    let y = c.in-Some.counts in
+    let at = counts_at c.args.t.now.nodes in
+    let at' = counts_at c.set_counts.new.nodes in
+    let is : at m ≡ Some y = sym c.counts_of.ensures ∙ c.in-Some.is in
+    let made : c.counts_more-more.result ≡ record y { pins = y.pins + one (is_pinning c.args.mode); holds = y.holds + 1 } =
+    c.counts_more-more.ensures ∙ ap (λ p. record y { pins = y.pins + one p; holds = y.holds + 1 }) c.pins.ensures in
+    let e = c.set_counts.ensures in
+    elim (cases_eq n m) [
+      | inl eq ↦
+          let has : has_value (Some y) ≡ true = sym (ap has_value is) ∙ ap (λ k. has_value (at k)) (sym eq) ∙ some eq in
+          subst (λ k. ValueStays (at k) (at' k)) (sym eq) (subst (λ o. ValueStays o (at' m)) (sym is) (subst (ValueStays (Some y)) (sym (e.here ∙ ap Some made)) (come-value y (is_pinning c.args.mode) has)))
+      | inr ne ↦ λ falls. (ap falls_in (sym (e.others n ne)) ∙ falls, ap has_value (e.others n ne))
+    ]

@@ -1,4 +1,4 @@
-use Rattle.std.proofs.Common.{◌≡◌, ◌∙◌, ap, subst, false, true, inl, inr, arith, rules}
+use Rattle.std.proofs.Common.{◌≡◌, ◌∙◌, ap, subst, false, true, inl, inr, arith, rules, sym, None}
 use Rattle.pagable_world.specs.Kinds.{is_loose}
 use Rattle.pagable_world.specs.Plain.{if_there}
 use Rattle.pagable_world.specs.World.{Alike, is_here}
@@ -9,6 +9,9 @@ use Rattle.pagable_world.specs.declared.rows.Mode.TheVariants as modes
 use Rattle.pagable_tables.specs.Core.{core_of}
 use Rattle.pagable_tables.proofs.Pins.{handle-first, no-fault, spent-late}
 use Rattle.pagable_tables.proofs.Worlds.{still, owner-same}
+use Rattle.pagable_tables.specs.declared.tables.Tables.{Tables}
+use Rattle.pagable_tables.specs.ByNumber.{load_at}
+use Rattle.pagable_tables.proofs.Newer.{pin-newer, later-so}
 use Rattle.pagable_tables.proofs.pinning.pin.Goals as goal
 
 pub returns-in-Err-clause-pinned : goal.returns-in-Err-clause-pinned
@@ -40,3 +43,11 @@ returns-in-Err-pin_here-clause-pinned c stored closed failures =
     let cause : pin_fault w c.args.me c.args.handle ≡ spent w.last.handle =
     ap (λ f. earlier f (where_so (is_handle_here w c.args.handle) (spent w.last.handle))) none ∙ ap (λ b. where_so b (spent w.last.handle)) so in
     record { pins = tt; refused = record { why = elim m.why [ inl a ↦ inl (cause ∙ a) | inr b ↦ inr (b.0, cause ∙ b.1, (so, b.2)) ]; stays = m.stays } }
+
+pub returns-in-Ok-pin_here-clause-later : goal.returns-in-Ok-pin_here-clause-later
+returns-in-Ok-pin_here-clause-later c later =
+    later-so later (pin-newer c.args.me c.args.handle _ (returns-in-Ok-pin_here-clause-pinned c (λ key. None) false 0)) (λ l load is. sym (ap (λ loads. load_at loads l) c.in-Ok-pin_here.ensures.loads) ∙ is)
+
+pub returns-in-Err-pin_here-clause-later : goal.returns-in-Err-pin_here-clause-later
+returns-in-Err-pin_here-clause-later c later =
+    later-so later (pin-newer c.args.me c.args.handle _ (returns-in-Err-pin_here-clause-pinned c (λ key. None) false 0)) (λ l load is. sym (ap (λ loads. load_at loads l) c.in-Err-pin_here.ensures.loads) ∙ is)

@@ -1,4 +1,6 @@
-use Rattle.std.proofs.Common.{◌<◌, ◌≤◌, refl, subst, rules}
+use Rattle.std.proofs.Common.{◌<◌, ◌≤◌, refl, subst, rules, ap, sym, None, false, ◌∙◌}
+use Rattle.pagable_tables.specs.ByNumber.{load_at}
+use Rattle.pagable_tables.proofs.Newer.{newer-alike, later-so}
 use Rattle.pagable_tables.proofs.places.reserve.Goals as goal
 
 pub returns-then-room-more-clause-reserved : goal.returns-then-room-more-clause-reserved
@@ -10,3 +12,9 @@ pub returns-clause-reserved : goal.returns-clause-reserved
 returns-clause-reserved c stored closed failures =
     let enough : c.args.more ≤ c.room.result = search rules in
     record { stays = c.grow.ensures.grown stored closed failures; enough = subst (λ n. c.args.more ≤ n) (c.room.ensures stored closed failures) enough; wanting = tt }
+
+pub returns-then-room-more-clause-later : goal.returns-then-room-more-clause-later
+returns-then-room-more-clause-later c later = later-so later (newer-alike (c.grow.ensures.grown (λ key. None) false 0)) (λ l load is. sym (ap (λ loads. load_at loads l) c.grow.ensures.loads) ∙ is)
+
+pub returns-clause-later : goal.returns-clause-later
+returns-clause-later c later = later-so later (newer-alike (c.grow.ensures.grown (λ key. None) false 0)) (λ l load is. sym (ap (λ loads. load_at loads l) c.grow.ensures.loads) ∙ is)

@@ -7,6 +7,7 @@ use Rattle.pagable_tables.proofs.keeps.FallCalls.{release-whole}
 use Rattle.pagable_tables.proofs.keeps.Placed.{whole-so}
 use Rattle.pagable_tables.proofs.Worlds.{still, owner-same}
 use Rattle.pagable_tables.proofs.Shedding.{sheds-still}
+use Rattle.pagable_tables.proofs.Newer.{release-newer, later-so}
 use Rattle.pagable_tables.proofs.releases.release.Goals as goal
 
 pub returns-in-Err-clause-released : goal.returns-in-Err-clause-released
@@ -39,3 +40,8 @@ returns-clause-whole g c =
 
 pub returns-in-Err-clause-sheds : goal.returns-in-Err-clause-sheds
 returns-in-Err-clause-sheds g c = sheds-still c.args.t.now.holdings _ c.requires.whole.steady
+
+pub returns-clause-later : goal.returns-clause-later
+returns-clause-later g c later =
+    let n = release-newer c.args.me c.args.handle c.give_back.result (returns-clause-released g c (λ key. None) (not c.args.lists) 0 (not-closed c.args.lists)) in
+    later-so later (record { last = n.last; owned = n.owned }) (λ l load is. is)

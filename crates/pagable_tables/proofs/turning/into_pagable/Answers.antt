@@ -1,4 +1,4 @@
-use Rattle.std.proofs.Common.{ap, subst, rules}
+use Rattle.std.proofs.Common.{ap, subst, rules, sym, None, false, ◌∙◌}
 use Rattle.pagable_world.specs.Kinds.{is_pinned, is_shared}
 use Rattle.pagable_world.specs.World.{Alike}
 use Rattle.pagable_world.specs.Calls.{with_mode}
@@ -6,6 +6,9 @@ use Rattle.pagable_world.specs.declared.rows.Mode.TheVariants as modes
 use Rattle.pagable_tables.specs.Core.{core_of}
 use Rattle.pagable_tables.proofs.Worlds.{still, owner-same}
 use Rattle.pagable_tables.proofs.keeps.HandleCalls.{is-pinned, pinned-unlisted}
+use Rattle.pagable_tables.specs.declared.tables.Tables.{Tables}
+use Rattle.pagable_tables.specs.ByNumber.{load_at}
+use Rattle.pagable_tables.proofs.Newer.{loosen-newer, later-so}
 use Rattle.pagable_tables.proofs.turning.into_pagable.Goals as goal
 
 pub returns-in-Err-clause-loosened : goal.returns-in-Err-clause-loosened
@@ -30,3 +33,7 @@ turn-requires-clause-unshared c = ap is_shared (is-pinned c.in-Ok.at.row.mode (s
 
 pub turn-requires-clause-unlisted : goal.turn-requires-clause-unlisted
 turn-requires-clause-unlisted c = pinned-unlisted c.args.handle c.in-Ok.at.row c.requires.core c.in-Ok.ensures.found (search rules)
+
+pub returns-clause-later : goal.returns-clause-later
+returns-clause-later c later =
+    later-so later (loosen-newer c.args.me c.args.handle _ (returns-clause-loosened c (λ key. None) false 0)) (λ l load is. sym (ap (λ (u : Tables). load_at u.loads l) c.turn.ensures.same) ∙ is)

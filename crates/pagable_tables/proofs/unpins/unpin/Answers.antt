@@ -1,4 +1,4 @@
-use Rattle.std.proofs.Common.{not, None, refl, ap, subst, inl, inr}
+use Rattle.std.proofs.Common.{not, None, refl, ap, subst, inl, inr, sym, ◌∙◌}
 use Rattle.pagable_world.specs.Kinds.{is_loose}
 use Rattle.pagable_world.specs.Calls.{with_mode}
 use Rattle.pagable_world.specs.Cascade.{Falls, nobody}
@@ -9,6 +9,8 @@ use Rattle.pagable_tables.proofs.Worlds.{still, owner-same}
 use Rattle.pagable_tables.proofs.keeps.FallCalls.{unpin-whole}
 use Rattle.pagable_tables.proofs.keeps.Placed.{whole-so}
 use Rattle.pagable_tables.proofs.Shedding.{sheds-still}
+use Rattle.pagable_tables.specs.ByNumber.{load_at}
+use Rattle.pagable_tables.proofs.Newer.{unpin-newer, later-so}
 use Rattle.pagable_tables.proofs.unpins.unpin.Goals as goal
 
 pub returns-in-Err-clause-unpinned : goal.returns-in-Err-clause-unpinned
@@ -47,3 +49,8 @@ returns-in-Err-clause-sheds g c = sheds-still c.args.t.now.holdings _ c.requires
 
 pub returns-in-LooseUnpinned-clause-sheds : goal.returns-in-LooseUnpinned-clause-sheds
 returns-in-LooseUnpinned-clause-sheds g c = sheds-still c.args.t.now.holdings _ c.requires.whole.steady
+
+pub returns-in-LoosePinned-clause-later : goal.returns-in-LoosePinned-clause-later
+returns-in-LoosePinned-clause-later g c later =
+    let n = unpin-newer c.args.me c.args.handle c.let_go.result (returns-in-LoosePinned-clause-unpinned g c (λ key. None) (not c.args.lists) 0 (not-closed c.args.lists)) in
+    later-so later (record { last = n.last; owned = n.owned }) (λ l load is. sym (ap (λ loads. load_at loads l) c.let_go.ensures.loads) ∙ is)

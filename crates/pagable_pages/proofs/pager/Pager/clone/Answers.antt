@@ -8,4 +8,4 @@ pub invariant_of-self : goal.invariant_of-self
 invariant_of-self g c =
     let is = c.self.invariant in
     let step = c.clone.ensures.cloned _ _ _ in
-    held _ _ _ is c.clone.new.t c.clone.ensures.whole (clones is.state.whole caller-free c.clone.result step) (clone-whole owners.Caller c.args.handle c.clone.result is.state.whole tt step)
+    held _ _ _ is c.clone.new.t c.clone.ensures.whole (c.clone.ensures.later is.later) (clones is.state.whole caller-free c.clone.result step) (clone-whole owners.Caller c.args.handle c.clone.result is.state.whole tt step)

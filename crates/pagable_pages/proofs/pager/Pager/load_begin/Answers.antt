@@ -8,4 +8,4 @@ pub invariant_of-self : goal.invariant_of-self
 invariant_of-self g c =
     let is = c.self.invariant in
     let step = c.load_begin.ensures.begun _ _ _ in
-    held _ _ _ is c.load_begin.new.t c.load_begin.ensures.whole (begins c.load_begin.result step) (begin-whole owners.Caller c.args.handle c.load_begin.result is.state.whole tt step)
+    held _ _ _ is c.load_begin.new.t c.load_begin.ensures.whole c.load_begin.ensures.later (begins c.load_begin.result step) (begin-whole owners.Caller c.args.handle c.load_begin.result is.state.whole tt step)

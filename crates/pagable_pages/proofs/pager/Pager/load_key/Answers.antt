@@ -8,4 +8,4 @@ pub invariant_of-self : goal.invariant_of-self
 invariant_of-self g c =
     let is = c.self.invariant in
     let step = c.load_key.ensures.begun _ _ _ in
-    held _ _ _ is c.load_key.new.t c.load_key.ensures.whole (begins-key c.load_key.result step) (begin-key-whole owners.Caller c.args.key c.load_key.result is.state.whole tt step)
+    held _ _ _ is c.load_key.new.t c.load_key.ensures.whole c.load_key.ensures.later (begins-key c.load_key.result step) (begin-key-whole owners.Caller c.args.key c.load_key.result is.state.whole tt step)

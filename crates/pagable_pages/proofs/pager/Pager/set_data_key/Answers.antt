@@ -10,7 +10,7 @@ invariant_of-self g c =
     let is = c.self.invariant in
     let e = c.set_data_key.ensures in
     let step = e.set (g.S.PagableStorage.stored c.self.inside.storage) (g.S.PagableStorage.is_closed c.self.inside.storage) (g.S.PagableStorage.failed c.self.inside.storage) (told-open c.has_closed-lists.ensures) in
-    shed _ _ _ is c.set_data_key.new.t c.set_data_key.new.values e.whole e.sheds (λ shut. key-set-bare shut (is.state.whole.shut shut) step) (λ left. key_set is.state left caller-free step)
+    shed _ _ _ is c.set_data_key.new.t c.set_data_key.new.values e.whole (e.later is.later) e.sheds (λ shut. key-set-bare shut (is.state.whole.shut shut) step) (λ left. key_set is.state left caller-free step)
 
 pub returns-clause-step : goal.returns-clause-step
 returns-clause-step g c = rw (← c.self.view_is) (c.set_data_key.ensures.set (g.S.PagableStorage.stored c.self.inside.storage) (g.S.PagableStorage.is_closed c.self.inside.storage) (g.S.PagableStorage.failed c.self.inside.storage) (told-open c.has_closed-lists.ensures))

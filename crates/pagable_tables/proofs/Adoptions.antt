@@ -1,0 +1,158 @@
+-- Why what a load has read can't become a node, and what becomes of it.
+use Rattle.std.proofs.Common.{◌≡◌, ℕ, ◌+◌, ◌<◌, ◌≤◌, ◌==◌, ◌||◌, Bool, true, false, if◌then◌else◌, List, [], ◌∷◌, refl, ap, sym, ◌∙◌, subst, arith, Ok, Err, Option, Some, None, inl, inr}
+use Rattle.std.specs.Prelude.{not, nat_lt, is_some, Result, IfOk, IfErr}
+use Rattle.std.proofs.lemmas.Bool.Decides.{nat_tests}
+use Rattle.pagable_model.specs.declared.error.Error.{Error}
+use Rattle.pagable_model.specs.declared.error.Error.TheVariants as errors
+use Rattle.pagable_model.specs.declared.numbers.ArcRef.{ArcRef}
+use Rattle.pagable_model.specs.declared.numbers.HandleNumber.{HandleNumber}
+use Rattle.pagable_model.specs.declared.numbers.LoadNumber.{LoadNumber}
+use Rattle.pagable_model.specs.declared.numbers.NodeNumber.{NodeNumber}
+use Rattle.pagable_model.specs.declared.numbers.Kind.{Kind}
+use Rattle.pagable_world.specs.declared.handles.HandleRow.{HandleRow}
+use Rattle.pagable_world.specs.declared.handles.Owner.{Owner}
+use Rattle.pagable_world.specs.declared.handles.Owner.TheVariants as owners
+use Rattle.pagable_world.specs.Plain.{is_loose_kind, type_of, if_there, or_else, is_in}
+use Rattle.pagable_world.specs.Kinds.{is_owner, fits_mode, mode_of}
+use Rattle.pagable_world.specs.World.{Core, OpenLoad, greatest, row_at, type_at, usable, Alike}
+use Rattle.pagable_world.specs.Refusals.{rank, earlier, refused_if, spent, is_type, load_fault, reference_fault, references_fault, row_fault, OwnsLoad, Refused, AreHandlesFull}
+use Rattle.pagable_world.specs.Cascade.{FallsAnyhow}
+use Rattle.pagable_world.specs.Calls.{IsNext, with_handle, is_usable, is_named_by, birth_fault}
+use Rattle.pagable_world.specs.LoadCalls.{node_fault, adopt_fault, adopted, first_key, Adopts}
+use Rattle.pagable_tables.specs.Asking.{AdoptOf, early_fault}
+use Rattle.pagable_tables.proofs.Lazily.{node-late, kind-late}
+use Rattle.pagable_tables.proofs.Opened.{load-low}
+use Rattle.pagable_tables.proofs.Worlds.{still, owner-same}
+use Rattle.pagable_world.specs.Pager as pager
+use Rattle.pagable_tables.specs.Core.{ArePlaced}
+use Rattle.pagable_tables.proofs.keeps.AdoptCalls.{adopt-whole}
+use Rattle.pagable_tables.proofs.keeps.Opened.{opened}
+use Rattle.pagable_tables.proofs.keeps.EndCalls.{both-none}
+
+abbrev Early : Option Error → Type 0
+Early a = (e : Error) → a ≡ Some e → rank e ≤ 3
+
+abbrev Late : Option Error → Type 0
+Late n = (e : Error) → n ≡ Some e → 4 ≤ rank e
+
+first : (d n : Option Error) → Early d → Late n → earlier d n ≡ or_else d n
+first None n early late = refl
+first (Some e) None early late = refl
+first (Some e) (Some f) early late = let a = early e refl in let b = late f refl in let h : nat_lt (rank f) (rank e) ≡ false = grind (arith, nat_tests) in rw h refl
+
+next : (c d n : Option Error) → Early c → Late n → earlier c (or_else d n) ≡ or_else (earlier c d) n
+next None d n early late = refl
+next (Some e) None n early late = first (Some e) n early late
+next (Some e) (Some f) n early late = split (nat_lt (rank f) (rank e))
+  where
+    split : (b : Bool) → (if b then Some f else Some e) ≡ or_else (if b then Some f else Some e) n
+    split true = refl
+    split false = refl
+
+last-of : (a b c d n : Option Error) → Early a → Early b → Early c → Early d → Late n → earlier a (earlier b (earlier c (earlier d n))) ≡ or_else (earlier a (earlier b (earlier c d))) n
+last-of a b c d n ea eb ec ed late =
+    ap (λ x. earlier a (earlier b (earlier c x))) (first d n ed late) ∙ ap (λ x. earlier a (earlier b x)) (next c d n ec late) ∙ ap (earlier a) (next b (earlier c d) n eb late) ∙ next a (earlier b (earlier c d)) n ea late
+
+named : (b : Bool) (e f : Error) → refused_if b e ≡ Some f → rank f ≡ rank e
+named true e f is = sym (ap (if_there rank 0) is)
+named false e f is = absurd (cc)
+
+or-early : (a b : Option Error) → Early a → Early b → Early (or_else a b)
+or-early None b ea eb = eb
+or-early (Some x) b ea eb = ea
+
+one-early : (w : Core) (o : Owner) (seen : List ℕ) (r : ArcRef) → Early (reference_fault w o seen r)
+one-early w o seen r e is = split (row_at w r.handle) is
+  where
+    rest : (fits typed : Bool) → Early (if not fits then Some errors.WrongMode else refused_if (not typed) errors.WrongKind)
+    rest false typed e is = let a : rank errors.WrongMode ≡ rank e = ap (if_there rank 0) is in omega arith
+    rest true typed e is = let a = named (not typed) errors.WrongKind e is in omega arith
+
+    of : (at mine : Bool) (more : Option Error) → Early more → Early (if not at then Some errors.NoSuchHandle else or_else (refused_if mine errors.NotYours) more)
+    of false mine more early e is = let a : rank errors.NoSuchHandle ≡ rank e = ap (if_there rank 0) is in omega arith
+    of true mine more early e is = or-early (refused_if mine errors.NotYours) more (λ g s. let a = named mine errors.NotYours g s in omega arith) early e is
+
+    split : (o' : Option HandleRow) → if_there (λ (row : HandleRow). row_fault w r (refused_if (not (is_owner o row.owner) || is_in seen r.handle.0) errors.NotYours) row) (Some errors.NoSuchHandle) o' ≡ Some e → rank e ≤ 3
+    split None is = let a : rank errors.NoSuchHandle ≡ rank e = ap (if_there rank 0) is in omega arith
+    split (Some row) is = of (row.node.0 == r.node.0) (not (is_owner o row.owner) || is_in seen r.handle.0) _ (rest (fits_mode r.kind.0 row.mode) (is_type (type_of r.kind.0) (type_at w r.node.0))) e is
+
+fit-early : (w : Core) (o : Owner) (seen : List ℕ) (refs : List ArcRef) → Early (references_fault w o seen refs)
+unfolding references_fault
+fit-early w o seen [] e is = absurd (cc)
+fit-early w o seen (r ∷ rs) e is = or-early (reference_fault w o seen r) (references_fault w o (r.handle.0 ∷ seen) rs) (one-early w o seen r) (fit-early w o (r.handle.0 ∷ seen) rs) e is
+
+-- the load is an own open one where it has no fault
+owns-then : (w : Core) (me : Owner) (l : LoadNumber) → load_fault w me l ≡ None → (load : OpenLoad) × OwnsLoad w me l load
+owns-then w me l none = split (w.loads l.0) refl none
+  where
+    own : (b : Bool) → refused_if (not b) errors.NotYours ≡ None → b ≡ true
+    own true e = refl
+    own false e = absurd (cc)
+
+    split : (o : Option OpenLoad) → w.loads l.0 ≡ o → if_there (λ (load : OpenLoad). refused_if (not (is_owner me load.owner)) errors.NotYours) (Some errors.NoSuchHandle) o ≡ None → (load : OpenLoad) × OwnsLoad w me l load
+    split None e none = absurd (cc)
+    split (Some load) e none = (load, record { stands_open = e; own = owner-same me load.owner (own (is_owner me load.owner) none) })
+
+not-so : (b : Bool) (e : Error) → refused_if b e ≡ None → b ≡ false
+not-so true e is = absurd (cc)
+not-so false e is = refl
+
+module _ (w : Core) (me : Owner) (l : LoadNumber) (kind : Kind) (key node_type : ℕ) (refs : List ArcRef) where
+  abbrev early : Option Error
+  early = early_fault w me l kind node_type refs
+
+  cause : adopt_fault w me l kind key node_type refs ≡ or_else early (node_fault w kind key)
+  cause =
+      last-of (load_fault w me l) (refused_if (is_loose_kind kind.0) errors.WrongMode) (refused_if (not (node_type == type_of kind.0)) errors.WrongKind) (references_fault w (owners.Load l) [] refs) (node_fault w kind key)
+      (λ e is. let a = load-low w me l e is in omega arith) (λ e is. let a = named (is_loose_kind kind.0) errors.WrongMode e is in omega arith) (λ e is. let a = named (not (node_type == type_of kind.0)) errors.WrongKind e is in omega arith)
+      (fit-early w (owners.Load l) [] refs) (node-late w kind key)
+
+  -- one of the causes that come first
+  pub not-adopted : (e : Error) → early ≡ Some e → AdoptOf w me l kind key node_type refs (Err e) w
+  not-adopted e is = record { adopts = tt; refused = record { why = inl (cause ∙ ap (λ f. or_else f (node_fault w kind key)) is); stays = still w } }
+
+  module _ (good : early ≡ None) where
+    parts : (load_fault w me l ≡ None) × (refused_if (is_loose_kind kind.0) errors.WrongMode ≡ None) × (refused_if (not (node_type == type_of kind.0)) errors.WrongKind ≡ None) × (references_fault w (owners.Load l) [] refs ≡ None)
+    parts =
+        let a = both-none (load_fault w me l) _ good in
+        let b = both-none (refused_if (is_loose_kind kind.0) errors.WrongMode) _ a.1 in
+        let c = both-none (refused_if (not (node_type == type_of kind.0)) errors.WrongKind) _ b.1 in
+        (a.0, b.0, c.0, c.1)
+
+    pub fitting : references_fault w (owners.Load l) [] refs ≡ None
+    fitting = parts.3
+
+    pub eager : is_loose_kind kind.0 ≡ false
+    eager = not-so (is_loose_kind kind.0) errors.WrongMode parts.1
+
+    pub owner-of : (load : OpenLoad) × OwnsLoad w me l load
+    owner-of = owns-then w me l parts.0
+
+    typed : node_type ≡ type_of kind.0
+    typed = let a = not-so (not (node_type == type_of kind.0)) errors.WrongKind parts.2 in grind (arith, nat_tests)
+
+    left : adopt_fault w me l kind key node_type refs ≡ node_fault w kind key
+    left = cause ∙ ap (λ f. or_else f (node_fault w kind key)) good
+
+    -- the cache gives a node
+    pub adopts-known : (node : NodeNumber) (r : Result HandleNumber Error) (w' : Core) → usable w kind.0 key ≡ Some node.0 → IfOk r (λ k. IsNext k w × FallsAnyhow w (with_handle w node (mode_of kind.0) (owners.Load l)) (is_named_by refs) w')
+        → IfErr r (λ e. Refused (spent w.last.handle) (spent w.last.handle) (AreHandlesFull w) w e w') → AdoptOf w me l kind key node_type refs r w'
+    adopts-known node (Ok k) w' is made refused =
+        record { adopts = record { load = owner-of.0; owned = owner-of.1; eager = eager; typed = typed; good = fitting; next = made.0; makes = inl (node.0, is, made.1) }; refused = tt }
+    adopts-known node (Err e) w' is made refused =
+        let known : node_fault w kind key ≡ spent w.last.handle = ap (λ b. if b then spent w.last.handle else birth_fault w) (ap is_some is) in
+        record { adopts = tt; refused = record { why = elim refused.why [ inl a ↦ inl (left ∙ known ∙ a) | inr b ↦ inr (b.0, parts.0, tt) ]; stays = refused.stays } }
+
+    -- it gives none
+    pub adopts-new : (r : Result HandleNumber Error) (w' : Core) → usable w kind.0 key ≡ None → IfOk r (λ k. (w.last.node < greatest) × IsNext k w) → IfOk r (λ k. Alike (adopted w l kind key (first_key kind.0 key) refs) w')
+        → IfErr r (λ e. Refused (birth_fault w) None (Unit {0}) w e w') → AdoptOf w me l kind key node_type refs r w'
+    adopts-new (Ok k) w' none next made refused =
+        record { adopts = record { load = owner-of.0; owned = owner-of.1; eager = eager; typed = typed; good = fitting; next = next.1; makes = inr (none, next.0, made) }; refused = tt }
+    adopts-new (Err e) w' none next made refused =
+        let fresh : node_fault w kind key ≡ birth_fault w = ap (λ b. if b then spent w.last.handle else birth_fault w) (ap is_some none) in
+        record { adopts = tt; refused = record { why = elim refused.why [ inl a ↦ inl (left ∙ fresh ∙ a) | inr b ↦ inr (b.0, parts.0, tt) ]; stays = refused.stays } }
+
+-- it keeps the world whole
+pub adopt-of-whole : {w w' : Core} (me : Owner) (l : LoadNumber) (kind : Kind) (key node_type : ℕ) (refs : List ArcRef) (r : Result HandleNumber Error) → pager.IsWhole (opened w) → AdoptOf w me l kind key node_type refs r w' → ArePlaced (opened w') → pager.IsWhole (opened w')
+adopt-of-whole {w} {w'} me l kind key node_type refs (Ok k) whole call placed = adopt-whole {N = Unit {0}} me l kind key tt node_type refs (Ok k) whole (record { adopts = call.adopts; refused = tt }) placed
+adopt-of-whole {w} {w'} me l kind key node_type refs (Err e) whole call placed = adopt-whole {N = Unit {0}} me l kind key tt node_type refs (Err (e, tt)) whole (record { adopts = tt; refused = (refl, call.refused) }) placed

@@ -1,0 +1,212 @@
+-- A handle that comes and pins stays, while others that are given go with all that follows.
+use Rattle.std.proofs.Common.{◌≡◌, ℕ, ◌+◌, ◌<◌, ◌≤◌, ◌==◌, ◌&&◌, ◌||◌, ◌++◌, Bool, true, false, not, if◌then◌else◌, List, [], ◌∷◌, sum_by, refl, ap, sym, ◌∙◌, subst, arith, inl, inr, None}
+use Rattle.std.specs.Prelude.{◌⊎◌, ◌≢◌, nat_eq, Result, Ok, Err, IfErr}
+use Rattle.std.specs.List.{AllPairs}
+use Rattle.std.proofs.lemmas.Bool.Decides.{nat_tests}
+use Rattle.std.proofs.lemmas.Bool.{cases_eq}
+use Rattle.std.proofs.lemmas.List.Sums.{sum_by-le-sum_by, sum_by_push, sum_by-append}
+use Rattle.pagable_model.specs.declared.error.Error.{Error}
+use Rattle.pagable_model.specs.declared.error.Error.TheVariants as errors
+use Rattle.pagable_model.specs.declared.numbers.NodeNumber.{NodeNumber}
+use Rattle.pagable_world.specs.declared.handles.HandleRow.{HandleRow}
+use Rattle.pagable_world.specs.declared.handles.Owner.{Owner}
+use Rattle.pagable_world.specs.declared.rows.Mode.{Mode}
+use Rattle.pagable_world.specs.Plain.{Among, if_there, one, times, is_loose_kind, is_shared_kind}
+use Rattle.pagable_world.specs.Kinds.{is_handle, is_owner, mode_of, is_at, is_pin, is_share, is_pinning, is_owned_by, owner_value, held, pins, sharing}
+use Rattle.pagable_world.specs.World.{Core, Places, HasRoom, Alike}
+use Rattle.pagable_world.specs.Pager.{IsHandleBefore, HandlesAreWhole}
+use Rattle.pagable_world.specs.Refusals.{references_fault}
+use Rattle.pagable_world.specs.LoadCalls.{is_owned_in}
+use Rattle.pagable_model.specs.declared.numbers.ArcRef.{ArcRef}
+use Rattle.pagable_world.specs.Cascade.{IsLeast, IsWithin, IsClosed, loses_value, pins_outside, held_outside, owned_outside, is_outside, is_keyed, left_rows, MustList, TellsListing, IsPlaceWanting, IsListRefusal, Falls}
+use Rattle.pagable_world.specs.Calls.{with_handle, row_of, is_named_by}
+use Rattle.pagable_tables.specs.Falling.{is_valued}
+use Rattle.pagable_tables.proofs.Coming.{no-value}
+use Rattle.pagable_model.specs.declared.numbers.LoadNumber.{LoadNumber}
+use Rattle.pagable_world.specs.declared.handles.Owner.TheVariants as owners
+use Rattle.pagable_world.specs.declared.rows.Mode.TheVariants as modes
+use Rattle.pagable_tables.proofs.Regiven.{loaded, loaded-here, loaded-none}
+use Rattle.pagable_tables.proofs.Left.{times-left}
+use Rattle.pagable_tables.proofs.Next.{within-less}
+use Rattle.pagable_tables.proofs.Dropped.{owned-given}
+use Rattle.pagable_tables.proofs.Opened.{same-owner}
+use Rattle.pagable_tables.proofs.keeps.BirthCalls.{named-mine}
+use Rattle.pagable_tables.proofs.keeps.Rows.{counted, at-most-sum, once, among-last}
+
+zero-or : (n : ℕ) → (n ≡ 0) ⊎ (0 < n)
+zero-or n = elim (cases_eq n 0) [ inl e ↦ inl e | inr e ↦ inr (omega arith) ]
+
+-- what isn't given and isn't a value's isn't in the least set
+module _ (rows : List HandleRow) (keyed : ℕ → Bool) (entries : List HandleRow) (given s : ℕ → Bool) (least : IsLeast rows keyed entries given s) (ordered : AllPairs IsHandleBefore rows)
+    (x : HandleRow) (there : Among rows x) (plain : is_valued x.owner ≡ false) (kept : given x.number.0 ≡ false) where
+  abbrev less : ℕ → Bool
+  less q = s q && not (q == x.number.0)
+
+  given-less : IsWithin rows given less
+  given-less = within-less given less given s rows (λ r. split r (r == x.number.0) refl) least.holds
+    where
+      split : (r : ℕ) (b : Bool) → (r == x.number.0) ≡ b → one (given r && not (less r)) ≤ one (given r && not (s r))
+      split r true e = let n : r ≡ x.number.0 = grind (arith, nat_tests) in let g : given r ≡ false = ap given n ∙ kept in grind (arith, nat_tests)
+      split r false e = grind (arith, nat_tests)
+
+  fewer : (f : HandleRow → Bool) → times (λ h. f h && is_outside s h) rows ≤ times (λ h. f h && is_outside less h) rows
+  fewer f = sum_by-le-sum_by (λ h. one (f h && is_outside s h)) (λ h. one (f h && is_outside less h)) rows (λ h. bits (f h) (s h.number.0) (h.number.0 == x.number.0))
+    where
+      bits : (f s e : Bool) → one (f && not s) ≤ one (f && not (s && not e))
+      bits f s e = grind (arith, nat_tests)
+
+  loses : (n : ℕ) → loses_value rows keyed entries less n ≡ true → loses_value rows keyed entries s n ≡ true
+  loses n e = split (keyed n) e
+    where
+      split : (b : Bool) → (if b then nat_eq (pins_outside rows less n) 0 else nat_eq (held n entries) 0 && nat_eq (held_outside rows less n) 0) ≡ true → (if b then nat_eq (pins_outside rows s n) 0 else nat_eq (held n entries) 0 && nat_eq (held_outside rows s n) 0) ≡ true
+      split true e = let a = fewer (is_pin n) in grind (arith, nat_tests)
+      split false e = let a = fewer (is_at n) in grind (arith, nat_tests)
+
+  closed-less : IsClosed rows keyed entries less
+  closed-less n e = elim (zero-or (owned_outside rows less n)) [
+    | inl none ↦ none
+    | inr some ↦ absurd (
+        let (h, among, counts) = counted (λ h. one (is_owned_by (owner_value n) h && is_outside less h)) rows some in
+        let none = least.closed n (loses n e) in
+        let l = at-most-sum (λ h. one (is_owned_by (owner_value n) h && is_outside s h)) rows h among in
+        split h among (h.number.0 == x.number.0) refl counts (omega arith))
+  ]
+    where
+      split : (h : HandleRow) → Among rows h → (b : Bool) → (h.number.0 == x.number.0) ≡ b → 0 < one (is_owned_by (owner_value n) h && is_outside less h) → one (is_owned_by (owner_value n) h && is_outside s h) ≡ 0 → ⊥
+      split h among true e some none =
+          let same : h.number.0 ≡ x.number.0 = grind (arith, nat_tests) in
+          let o : is_owned_by (owner_value n) h ≡ false = ap (is_owned_by (owner_value n)) (once rows ordered h x among there same) ∙ no-value n x.owner plain in
+          absurd (grind (arith, nat_tests))
+      split h among false e some none = absurd (grind (arith, nat_tests))
+
+  pub not-least : s x.number.0 ≡ false
+  not-least =
+      let a = least.least less given-less closed-less in
+      let l = at-most-sum (λ h. one (s h.number.0 && not (less h.number.0))) rows x there in
+      let e : (x.number.0 == x.number.0) ≡ true = grind (arith, nat_tests) in
+      bits (s x.number.0) (x.number.0 == x.number.0) e (omega arith)
+    where
+      bits : (s e : Bool) → e ≡ true → one (s && not (s && not e)) ≡ 0 → s ≡ false
+      bits s e is none = grind (arith, nat_tests)
+
+wanting : (u w' : Core) (places : Places) → HasRoom u.places places → IsPlaceWanting (record u { places = places }) w' → IsPlaceWanting u w'
+wanting u w' places more (inl full) = inl (let m = more.handles in omega arith)
+wanting u w' places more (inr full) = inr (let m = more.entries in omega arith)
+
+refusal : (u w' : Core) (places : Places) → HasRoom u.places places → (e : Error) → IsListRefusal (record u { places = places }) w' e → IsListRefusal u w' e
+refusal u w' places more errors.NumbersSpent r = r
+refusal u w' places more errors.OutOfMemory r = (wanting u w' places more r.0, r.1)
+refusal u w' places more _ r = absurd r
+
+-- why a cell must be listed, seen from another world before
+module _ {b w u w' : Core} {given : ℕ → Bool} {r : Result (Unit {0}) Error} (places : Places) (more : HasRoom u.places places)
+    (to : (n : ℕ) → pins n w'.rows ≡ 0 → (pins n b.rows ≡ pins n w.rows) × (sharing n b.rows ≡ sharing n w.rows)) (falls : Falls b (record u { places = places }) given r w') where
+  there : (n : ℕ) → MustList b (record u { places = places }) w' n → MustList w u w' n
+  there n m = let e = to n m.unpinned in record { pinned = (let a = m.pinned in let d = e.0 in omega arith); unpinned = m.unpinned; unkeyed = m.unkeyed; unshared = sym e.1 ∙ m.unshared; stands_open = m.stands_open }
+
+  back : (n : ℕ) → MustList w u w' n → MustList b (record u { places = places }) w' n
+  back n m = let e = to n m.unpinned in record { pinned = (let a = m.pinned in let d = e.0 in omega arith); unpinned = m.unpinned; unkeyed = m.unkeyed; unshared = e.1 ∙ m.unshared; stands_open = m.stands_open }
+
+  telling : (r : Result (Unit {0}) Error) → TellsListing b (record u { places = places }) falls.entries r w' → TellsListing w u falls.entries r w'
+  telling (Ok k) t = record { all = λ n m. t.all n (back n m); not_all = tt }
+  telling (Err e) t = let n = t.not_all in record { all = tt; not_all = (n.0, there n.0 n.1, n.2, refusal u w' places more e n.3) }
+
+  pub seen-before : Falls w u given r w'
+  seen-before =
+      let a = falls.leaves in
+      record {
+        gone = falls.gone;
+        entries = falls.entries;
+        set = falls.set;
+        new = falls.new;
+        only = λ n some. let o = falls.only n some in (there n o.0, o.1);
+        each = λ n m. elim (falls.each n (back n m)) [ inl one ↦ inl one | inr cannot ↦ inr (elim cannot [ inl spent ↦ inl spent | inr full ↦ inr (wanting u w' places more full) ]) ];
+        tells = telling r falls.tells;
+        within = falls.within;
+        leaves = record {
+          rows = a.rows;
+          cells = a.cells;
+          list = a.list;
+          cache = record { gives = a.cache.gives; only = a.cache.only };
+          stored = a.stored;
+          closed = a.closed;
+          failures = a.failures;
+          loads = a.loads;
+          workers = a.workers;
+          last = a.last;
+          places = record { handles = (let m = more.handles in let p = a.places.handles in omega arith); entries = (let m = more.entries in let p = a.places.entries in omega arith) };
+        };
+      }
+
+-- where a handle of w has come that pins and stays, pins go to 0 just where they would have
+pub stays-pinned : (w u w' : Core) (given : ℕ → Bool) (r : Result (Unit {0}) Error) (x : HandleRow) → u.rows ≡ w.rows ++ x ∷ [] → AllPairs IsHandleBefore u.rows → is_valued x.owner ≡ false → is_pinning x.mode ≡ true → given x.number.0 ≡ false → Falls u u given r w'
+    → (n : ℕ) → pins n w'.rows ≡ 0 → (pins n u.rows ≡ pins n w.rows) × (sharing n u.rows ≡ sharing n w.rows)
+stays-pinned w u w' given r x rows ordered plain pinning kept falls n none = split (x.node.0 == n) refl
+  where
+    among : Among u.rows x
+    among = subst (λ l. Among l x) (sym rows) (among-last w.rows x)
+
+    stands : falls.gone x.number.0 ≡ false
+    stands = not-least u.rows (is_keyed u) falls.entries given falls.gone falls.set ordered x among plain kept
+
+    split : (b : Bool) → (x.node.0 == n) ≡ b → (pins n u.rows ≡ pins n w.rows) × (sharing n u.rows ≡ sharing n w.rows)
+    split true e =
+        let a = at-most-sum (λ h. one (is_pin n h && not (falls.gone h.number.0))) u.rows x among in
+        let b = times-left (is_pin n) falls.gone u.rows in
+        let c = ap (pins n) falls.leaves.rows in
+        let d = sum_by-append (λ h. one (is_pin n h)) (left_rows falls.gone u.rows) falls.entries in
+        let kept : falls.gone x.number.0 ≡ false = stands in
+        let here : one (is_pin n x && not (falls.gone x.number.0)) ≡ 1 = grind (arith, nat_tests) in
+        absurd (omega arith)
+    split false e =
+        let a = ap (pins n) rows ∙ sum_by_push (λ h. one (is_pin n h)) w.rows x in
+        let b = ap (sharing n) rows ∙ sum_by_push (λ h. one (is_share n h)) w.rows x in
+        let c : one (is_pin n x) ≡ 0 = grind (arith, nat_tests) in
+        let d : one (is_share n x) ≡ 0 = grind (arith, nat_tests) in
+        (omega arith, omega arith)
+
+-- a world that is told alike, with the same cache, has but more room
+pub retold : (u b : Core) → Alike u b → b.cache ≡ u.cache → b ≡ record u { places = b.places }
+retold u b a cache =
+    λ i. record {
+      rows = a.rows i;
+      cells = λ n. a.cells n i;
+      list = a.list i;
+      cache = cache i;
+      stored = λ q. a.stored q i;
+      closed = a.closed i;
+      failures = a.failures i;
+      loads = λ l. a.loads l i;
+      workers = λ v. a.workers v i;
+      last = a.last i;
+      places = b.places;
+    }
+
+pub eager-pins : (kind : ℕ) → is_loose_kind kind ≡ false → is_pinning (mode_of kind) ≡ true
+eager-pins kind eager = split (is_shared_kind kind) (is_loose_kind kind) eager
+  where
+    split : (s l : Bool) → l ≡ false → is_pinning (if s then modes.Shared else if l then modes.LooseUnpinned else modes.Pinned) ≡ true
+    split true l e = refl
+    split false false e = refl
+    split false true e = absurd (cc)
+
+pub loaded-append : (l : LoadNumber) (q : ℕ) (rows more : List HandleRow) → loaded l q rows ≡ true → loaded l q (rows ++ more) ≡ true
+loaded-append l q [] more own = absurd (let a = loaded-none l q in cc)
+loaded-append l q (x ∷ xs) more own = loaded-here l q x (xs ++ more) ∙ split (is_handle q x) (sym (loaded-here l q x xs) ∙ own) (loaded-append l q xs more)
+  where
+    split : (b : Bool) → (if b then is_owner (owners.Load l) x.owner else loaded l q xs) ≡ true → (loaded l q xs ≡ true → loaded l q (xs ++ more) ≡ true) → (if b then is_owner (owners.Load l) x.owner else loaded l q (xs ++ more)) ≡ true
+    split true own rest = own
+    split false own rest = rest own
+
+-- what references name that are good is the load's, and was given
+pub named-loaded : (w : Core) (l : LoadNumber) (refs : List ArcRef) → references_fault w (owners.Load l) [] refs ≡ None → (q : ℕ) → is_named_by refs q ≡ true → is_owned_in w (owners.Load l) q ≡ true
+named-loaded w l refs good q named =
+    let m = named-mine w (owners.Load l) [] refs good q named in
+    ap (if_there (is_owned_by (owners.Load l)) false) m.live ∙ ap (is_owner (owners.Load l)) m.own ∙ same-owner (owners.Load l)
+
+pub not-named : (w : Core) (l : LoadNumber) (refs : List ArcRef) → HandlesAreWhole w → references_fault w (owners.Load l) [] refs ≡ None → (q : ℕ) → w.last.handle < q → is_named_by refs q ≡ false
+not-named w l refs whole good q above = split (is_named_by refs q) refl
+  where
+    split : (b : Bool) → is_named_by refs q ≡ b → b ≡ false
+    split false e = refl
+    split true e = absurd (let g = owned-given w (owners.Load l) q whole (named-loaded w l refs good q e) in omega arith)
