@@ -5,10 +5,9 @@ use Rattle.std.proofs.lemmas.Bool.Decides.{nat_tests}
 use Rattle.std.specs.Option.{option_map}
 use Rattle.std.specs.Arc.{arc_value}
 use Rattle.std.specs.HashMap.{get}
-use Rattle.pagable_world.specs.Kinds.{has_key, is_in_memory, pins}
+use Rattle.pagable_world.specs.Kinds.{has_key, pins}
 use Rattle.pagable_world.specs.Plain.{Blob}
 use Rattle.pagable_world.specs.World.{Core, is_here}
-use Rattle.pagable_world.specs.Cascade.{Falls, MustList}
 use Rattle.pagable_world.specs.Pager as pager
 use Rattle.pagable_world.specs.Pager.{WellFormed}
 use Rattle.pagable_steps.proofs.Keeping.{Leaves}
