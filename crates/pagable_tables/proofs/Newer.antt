@@ -25,7 +25,8 @@ use Rattle.pagable_world.specs.Kinds.{is_handle, is_owner, is_owned_by, owner_va
 use Rattle.pagable_world.specs.World.{Core, Last, Alike}
 use Rattle.pagable_world.specs.Pager as pager
 use Rattle.pagable_world.specs.Cascade.{Falls}
-use Rattle.pagable_world.specs.Calls.{with_handle, with_node, next_node, with_cached, with_cached_if_open, is_named_by, moved, with_mode, RecallCall, LoosenCall, PinCall, UnpinCall, ReleaseCall, SetKeyCall}
+use Rattle.pagable_world.specs.Calls.{with_handle, with_node, next_node, with_cached, with_cached_if_open, is_named_by, moved, with_mode, RecallCall, LoosenCall, PinCall, UnpinCall, ReleaseCall, SetKeyCall, ScheduleCall, TakeCall, OfferCall}
+use Rattle.pagable_world.specs.Cascade.{only_handle}
 use Rattle.pagable_world.specs.LoadCalls.{is_owned_in, numbers_of, adopted, first_key, DropCall, HandOverCall, BeginCall, LazyCall}
 use Rattle.pagable_tables.specs.declared.rows.LoadRow.{LoadRow}
 use Rattle.pagable_tables.specs.declared.tables.Tables.{Tables}
@@ -226,3 +227,22 @@ adopt-newer {w} me l kind key node_type refs (Ok k) call = elim call.adopts.make
   | inr (none, left, leaves) ↦ newer-then (newer-adopted w l kind key (first_key kind.0 key) refs) (newer-alike leaves)
 ]
 adopt-newer me l kind key node_type refs (Err e) call = newer-alike call.refused.stays
+
+pub schedule-newer : {w w' : Core} (me : Owner) (h : HandleNumber) (r : Result (Unit {0}) Error) → ScheduleCall w me h r w' → OnlyNewer w w'
+schedule-newer {w} me h (Ok u) call = elim call.moves.2 [
+  | inl (stands_open, leaves) ↦ (let n = newer-alike leaves in newer-then (newer-moved w (only_handle h) owners.List (λ l. refl)) (record { last = n.last; owned = n.owned }))
+  | inr (shut, falls) ↦ newer-falls falls.falls
+]
+schedule-newer me h (Err e) call = newer-alike call.refused.stays
+
+pub take-pending-newer : {w w' : Core} (me : Owner) (i : ℕ) (found : Option HandleNumber) → ((m : LoadNumber) → is_owner (owners.Load m) me ≡ false) → TakeCall w me i found w' → OnlyNewer w w'
+take-pending-newer {w} me i (Some h) other call = let n = newer-alike call.1 in newer-then (newer-moved w (only_handle h) me other) (record { last = n.last; owned = n.owned })
+take-pending-newer me i None other call = newer-alike call.1
+
+pub offer-newer : {w w' : Core} (me : Owner) (kind : Kind) (key : ℕ) (h : HandleNumber) (r : Result (Option HandleNumber) Error) → OfferCall w me kind key h r w' → OnlyNewer w w'
+offer-newer {w} me kind key h (Ok None) call = let n = newer-alike call.answers.3.2 in record { last = n.last; owned = n.owned }
+offer-newer {w} me kind key h (Ok (Some k)) call = elim call.answers.3 [
+  | inl (shut, same, leaves) ↦ newer-alike leaves
+  | inr (stands_open, (n, is, next, falls)) ↦ newer-then (newer-handle w (record { 0 = n }) (mode_of kind.0) me) (newer-falls falls.falls)
+]
+offer-newer me kind key h (Err e) call = newer-alike call.refused.stays

@@ -82,11 +82,11 @@ module _ (w : Core) (node : NodeNumber) (mode : Mode) (me : Owner) (numbered : (
     closed n lost =
         let none = f.set.closed n (lost-more n (is_keyed u n) lost) in
         sum-none (λ h. one (is_owned_by (owner_value n) h && not (without h.number.0))) u.rows (λ h among.
-            let a = at-most-sum (λ h. one (is_owned_by (owner_value n) h && not (f.gone h.number.0))) u.rows h among in
-            elim (among-both w.rows (x ∷ []) h among) [
-              | inl was ↦ let m = numbered h was in old (h.number.0 == k) (is_owned_by (owner_value n) h) (f.gone h.number.0) (let e : (h.number.0 == k) ≡ false = grind (arith, nat_tests) in e) (omega arith)
-              | inr new ↦ ap (λ (h : HandleRow). one (is_owned_by (owner_value n) h && not (without h.number.0))) (among-one x h new) ∙ ap (λ b. one (b && not (without k))) (no-value n me plain)
-            ])
+        let a = at-most-sum (λ h. one (is_owned_by (owner_value n) h && not (f.gone h.number.0))) u.rows h among in
+        elim (among-both w.rows (x ∷ []) h among) [
+          | inl was ↦ let m = numbered h was in old (h.number.0 == k) (is_owned_by (owner_value n) h) (f.gone h.number.0) (let e : (h.number.0 == k) ≡ false = grind (arith, nat_tests) in e) (omega arith)
+          | inr new ↦ ap (λ (h : HandleRow). one (is_owned_by (owner_value n) h && not (without h.number.0))) (among-one x h new) ∙ ap (λ b. one (b && not (without k))) (no-value n me plain)
+        ])
       where
         old : (e o g : Bool) → e ≡ false → one (o && not g) ≡ 0 → one (o && not (g && not e)) ≡ 0
         old e o g is zero = grind (arith, nat_tests)
@@ -180,13 +180,12 @@ same-value (Some c) (Some c') b cell pinned there = by b pinned there
 -- where rows and cells stay no value comes or goes
 pub values-still : (t new : Tables) → IsWhole t → IsWhole new → live new.holdings.handles.places.items ≡ live t.holdings.handles.places.items
     → ((n : ℕ) → cell_in (counts_at new.holdings.nodes n) ≡ cell_in (counts_at t.holdings.nodes n)) → (n : ℕ) → ValueStays (counts_at t.holdings.nodes n) (counts_at new.holdings.nodes n)
-values-still t new was after rows cells n falls =
-    (
-      none-falls-in t.holdings was.steady n,
-      same-value (counts_at t.holdings.nodes n) (counts_at new.holdings.nodes n) false (cells n)
+values-still t new was after rows cells n falls = (
+  none-falls-in t.holdings was.steady n,
+  same-value (counts_at t.holdings.nodes n) (counts_at new.holdings.nodes n) false (cells n)
       (let p = was.steady.fits.pinned n in let q = after.steady.fits.pinned n in let s = ap (pins n) rows in omega arith)
       (λ e. absurd (cc)),
-    )
+)
 
 module _ (t new : Tables) (stored : ℕ → Option Blob) (failures : ℕ) (node : NodeNumber) (mode : Mode) (me : Owner) (after : IsWhole new)
     (a : Alike (with_handle (core_of t stored false failures) node mode me) (core_of new stored false failures)) where
@@ -211,13 +210,12 @@ module _ (t new : Tables) (stored : ℕ → Option Blob) (failures : ℕ) (node 
 
   -- and no value came or went
   pub values-made : IsWhole t → (is_pinning mode ≡ true → has_value (counts_at t.holdings.nodes node.0) ≡ true) → (n : ℕ) → ValueStays (counts_at t.holdings.nodes n) (counts_at new.holdings.nodes n)
-  values-made was there n falls =
-      (
-        none-falls-in t.holdings was.steady n,
-        same-value (counts_at t.holdings.nodes n) (counts_at new.holdings.nodes n) (is_pin n (row_of (t.holdings.last_handle + 1) node mode me)) (a.cells n)
+  values-made was there n falls = (
+    none-falls-in t.holdings was.steady n,
+    same-value (counts_at t.holdings.nodes n) (counts_at new.holdings.nodes n) (is_pin n (row_of (t.holdings.last_handle + 1) node mode me)) (a.cells n)
         (let p = was.steady.fits.pinned n in let q = after.steady.fits.pinned n in let s = ap (pins n) a.rows in let c = sum_by_push (λ h. one (is_pin n h)) (live t.holdings.handles.places.items) (row_of (t.holdings.last_handle + 1) node mode me) in omega arith)
         (λ is. at (node.0 == n) is refl),
-      )
+  )
     where
       at : (b : Bool) → (b && is_pinning mode) ≡ true → (node.0 == n) ≡ b → has_value (counts_at t.holdings.nodes n) ≡ true
       at true is e = let m : node.0 ≡ n = grind (arith, nat_tests) in subst (λ i. has_value (counts_at t.holdings.nodes i) ≡ true) m (there is)

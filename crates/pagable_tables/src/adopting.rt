@@ -201,6 +201,8 @@ pub fn load_adopt<N: Drop>(
     ensures adopts { (stored : ℕ → Option Blob) (closed : Bool) (failures : ℕ) → lists ≡ not closed → AdoptOf (core_of t.old stored closed failures) me load kind key node_type references.items result (core_of t.new stored closed failures) }
     ensures whole { IsWhole t.new }
     ensures later { AreLater t.new }
+    ensures sheds { (n : ℕ) → usable (plain_of t.old) kind.0 key ≡ Some n → Sheds (counts_at t.old.holdings.nodes) (get nat_eq values.old) (counts_at t.new.holdings.nodes) (get nat_eq values.new) }
+    ensures kept { usable (plain_of t.old) kind.0 key ≡ None → values.new ≡ values.old }
 {
     if let Some(e) = adopt_fault(t, me, load, kind, node_type, &references) {
         return Err(e);

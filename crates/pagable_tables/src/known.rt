@@ -93,6 +93,7 @@ pub fn cache_put(
     requires holder { MayHold (plain_of t.old) me }
     ensures offered { (stored : ℕ → Option Blob) (failures : ℕ) → Offered (core_of t.old stored false failures) me kind key handle result (core_of t.new stored false failures) }
     ensures known { IfOk result (λ found. IfSome found (λ k. t.new ≡ record t.old { holdings = t.new.holdings })) }
+    ensures loads { t.new.loads ≡ t.old.loads }
     ensures whole { IsWhole t.new }
 {
     let row = match offered(t, me, kind, handle) {

@@ -1,11 +1,15 @@
 //! The list of cells that wait for page-out: entries come and are taken.
 
-ghost use Rattle.std.specs.Prelude.{◌≡◌, ℕ, Bool, Option, length, nat_eq, not};
+ghost use Rattle.std.specs.Prelude.{◌≡◌, ℕ, Bool, Option, length, nat_eq, not, false};
 ghost use Rattle.pagable_world.specs.Plain.{Blob};
 ghost use Rattle.pagable_world.specs.Calls.{ScheduleCall, TakeCall};
 ghost use Rattle.indexmap.specs.IndexMap.{get};
 ghost use Rattle.pagable_tables.specs.ByNumber.{counts_at};
 ghost use Rattle.pagable_tables.specs.Falling.{Sheds};
+ghost use Rattle.pagable_model.specs.declared.numbers.LoadNumber.{LoadNumber};
+ghost use Rattle.pagable_world.specs.declared.handles.Owner.TheVariants as owners;
+ghost use Rattle.pagable_world.specs.Kinds.{is_owner};
+ghost use Rattle.pagable_tables.specs.Later.{AreLater};
 ghost use Rattle.pagable_tables.specs.Core.{core_of, plain_of, IsWhole, MayHold};
 
 use crate::handles;
@@ -42,6 +46,7 @@ pub fn schedule_for_paging<N: Drop>(
         → ScheduleCall (core_of t.old stored closed failures) me handle result (core_of t.new stored closed failures) }
     ensures whole { IsWhole t.new }
     ensures sheds { Sheds (counts_at t.old.holdings.nodes) (get nat_eq values.old) (counts_at t.new.holdings.nodes) (get nat_eq values.new) }
+    ensures later { AreLater t.old → AreLater t.new }
 {
     let at = match own(t, me, handle) {
         Ok(at) => at,
@@ -68,6 +73,7 @@ pub fn take_pending(t: &mut Tables, me: Owner, place: usize) -> Option<HandleNum
     requires holder { MayHold (plain_of t.old) me }
     ensures taken { (stored : ℕ → Option Blob) (closed : Bool) (failures : ℕ) → TakeCall (core_of t.old stored closed failures) me place result (core_of t.new stored closed failures) }
     ensures whole { IsWhole t.new }
+    ensures later { ((m : LoadNumber) → is_owner (owners.Load m) me ≡ false) → AreLater t.old → AreLater t.new }
 {
     if place >= t.holdings.list.len() {
         return None;

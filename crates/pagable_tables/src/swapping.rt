@@ -13,6 +13,7 @@ ghost use Rattle.indexmap.specs.IndexMap.{get};
 ghost use Rattle.pagable_tables.specs.ByNumber.{counts_at};
 ghost use Rattle.pagable_tables.specs.Falling.{IsFalling, has_value, is_valued, owns_nothing, Sheds};
 ghost use Rattle.pagable_tables.specs.Onward.{with_tables, SoFar};
+ghost use Rattle.pagable_tables.specs.Later.{AreLater};
 ghost use Rattle.pagable_tables.specs.Core.{core_of, plain_of, IsWhole, MayHold};
 
 use crate::handles;
@@ -26,11 +27,7 @@ use pagable_world::handles::Owner;
 use std::sync::Arc;
 
 /// The live handle of this number is given up, with all that goes with it.
-fn give_number<N: Drop>(
-    t: &mut Holdings,
-    values: &mut IndexMap<u64, Arc<N>>,
-    handle: HandleNumber,
-)
+fn give_number<N: Drop>(t: &mut Holdings, values: &mut IndexMap<u64, Arc<N>>, handle: HandleNumber)
     requires steady { IsFalling t.old [] owns_nothing }
     requires there { (row : HandleRow) × (find_row handle.0 (live t.old.handles.places.items) ≡ Some row) × (is_valued row.owner ≡ false) × (is_owner owners.List row.owner ≡ false) }
     ensures steady { IsFalling t.new [] owns_nothing }
@@ -62,6 +59,7 @@ pub fn offer<N: Drop>(
     ensures whole { IsWhole t.new }
     ensures sheds { ((n : ℕ) → usable (plain_of t.old) kind.0 key ≡ Some n → is_pinning (mode_of kind.0) ≡ true → has_value (counts_at t.old.holdings.nodes n) ≡ true)
         → Sheds (counts_at t.old.holdings.nodes) (get nat_eq values.old) (counts_at t.new.holdings.nodes) (get nat_eq values.new) }
+    ensures later { AreLater t.old → AreLater t.new }
 {
     if !lists {
         return match offered(t, me, kind, handle) {

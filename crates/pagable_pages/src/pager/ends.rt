@@ -23,7 +23,13 @@ where
         ensures only { OnlyLess self.old self.new }
     {
         let lists = !self.storage.has_closed();
-        ending::load_drop(&mut self.tables, &mut self.values, Owner::Caller, load, lists)
+        ending::load_drop(
+            &mut self.tables,
+            &mut self.values,
+            Owner::Caller,
+            load,
+            lists,
+        )
     }
 
     /// A load of a key hands the named handles over to the caller, gives up the rest and is closed. Refused with NoSuchHandle, NotYours where another began the load
@@ -33,6 +39,13 @@ where
         ensures only { OnlyLess self.old self.new }
     {
         let lists = !self.storage.has_closed();
-        ending::load_take(&mut self.tables, &mut self.values, Owner::Caller, load, named, lists)
+        ending::load_take(
+            &mut self.tables,
+            &mut self.values,
+            Owner::Caller,
+            load,
+            named,
+            lists,
+        )
     }
 }

@@ -38,6 +38,14 @@ where
         ensures only { OnlyLess self.old self.new }
     {
         let lists = !self.storage.has_closed();
-        swapping::offer(&mut self.tables, &mut self.values, Owner::Caller, kind, key, handle, lists)
+        swapping::offer(
+            &mut self.tables,
+            &mut self.values,
+            Owner::Caller,
+            kind,
+            key,
+            handle,
+            lists,
+        )
     }
 }

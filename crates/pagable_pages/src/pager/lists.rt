@@ -31,6 +31,12 @@ where
         ensures only { OnlyLess self.old self.new }
     {
         let lists = !self.storage.has_closed();
-        listing::schedule_for_paging(&mut self.tables, &mut self.values, Owner::Caller, handle, lists)
+        listing::schedule_for_paging(
+            &mut self.tables,
+            &mut self.values,
+            Owner::Caller,
+            handle,
+            lists,
+        )
     }
 }

@@ -11,8 +11,8 @@ ghost use Rattle.pagable_tables.specs.Asking.{AsksKnown};
 ghost use Rattle.pagable_pages.specs.View.{core_in, telling, given_as, OnlyTables, OnlyStorage, SameValues};
 
 use crate::pager::Pager;
-use pagable_codec::{Env, NodeSet};
 use either::Either;
+use pagable_codec::{Env, NodeSet};
 use pagable_core::{PagableData, PagableStorage};
 use pagable_model::{DataKey, Error, HandleNumber, Kind, LoadNumber};
 use pagable_tables::{adopting, begins, loading};
@@ -130,6 +130,14 @@ where
         ensures only { OnlyTables self.old self.new }
     {
         let lists = !self.storage.has_closed();
-        adopting::load_lazy(&mut self.tables, Owner::Caller, load, kind, key, lists, alloc)
+        adopting::load_lazy(
+            &mut self.tables,
+            Owner::Caller,
+            load,
+            kind,
+            key,
+            lists,
+            alloc,
+        )
     }
 }

@@ -15,7 +15,8 @@ use Rattle.pagable_tables.specs.Core.{core_of, plain_of, Suits}
 use Rattle.pagable_tables.proofs.Adoptions.{not-adopted, adopts-known, adopts-new, fitting, eager, owner-of, adopt-of-whole}
 use Rattle.pagable_tables.proofs.Begun.{not-closed}
 use Rattle.pagable_tables.proofs.Newer.{adopt-newer, later-so}
-use Rattle.pagable_tables.proofs.Recalled.{usable-suits}
+use Rattle.pagable_tables.proofs.keeps.CacheCalls.{known-suits}
+use Rattle.pagable_tables.proofs.Shedding.{sheds-still}
 use Rattle.pagable_tables.proofs.keeps.Placed.{whole-so}
 use Rattle.pagable_tables.proofs.adopting.load_adopt.Goals as goal
 
@@ -25,7 +26,7 @@ returns-in-Some-clause-adopts g c stored closed failures e =
     not-adopted w c.args.me c.args.load c.args.kind c.args.key c.args.node_type c.args.references.items c.in-Some.e (sym (c.adopt_fault.ensures stored closed failures ∙ ap (early_fault w c.args.me c.args.load c.args.kind c.args.node_type) c.deref.ensures.value) ∙ c.in-Some.is)
 
 pub adopt_known-requires-clause-suits : goal.adopt_known-requires-clause-suits
-adopt_known-requires-clause-suits g c = usable-suits c.args.kind c.args.key c.in-Some-usable_of.node c.requires.whole.core (sym (c.in-Some-usable_of.ensures (λ key. None) false 0))
+adopt_known-requires-clause-suits g c = known-suits c.requires.whole.core c.args.kind.0 c.args.key c.in-Some-usable_of.node.0 (sym (c.in-Some-usable_of.ensures (λ key. None) false 0))
 
 pub adopt_known-requires-clause-holder : goal.adopt_known-requires-clause-holder
 adopt_known-requires-clause-holder g c =
@@ -96,3 +97,15 @@ adopt_known-requires-clause-valued g c =
     let p = plain_of c.args.t.now in
     let good : early_fault p c.args.me c.args.load c.args.kind c.args.node_type c.args.references.items ≡ None = sym (c.adopt_fault.ensures (λ key. None) false 0 ∙ ap (early_fault p c.args.me c.args.load c.args.kind c.args.node_type) c.deref.ensures.value) ∙ c.in_default.is in
     c.requires.valued c.in-Some-usable_of.node.0 (sym (c.in-Some-usable_of.ensures (λ key. None) false 0)) (eager p c.args.me c.args.load c.args.kind c.args.key c.args.node_type c.args.references.items good)
+
+pub returns-in-Some-clause-sheds : goal.returns-in-Some-clause-sheds
+returns-in-Some-clause-sheds g c n known = sheds-still c.args.t.now.holdings _ c.requires.whole.steady
+
+pub returns-in-Some-usable_of-clause-sheds : goal.returns-in-Some-usable_of-clause-sheds
+returns-in-Some-usable_of-clause-sheds g c n known = c.adopt_known.ensures.sheds
+
+pub returns-in-Some-usable_of-clause-kept : goal.returns-in-Some-usable_of-clause-kept
+returns-in-Some-usable_of-clause-kept g c none = absurd (let e : Some c.in-Some-usable_of.node.0 ≡ None = c.in-Some-usable_of.ensures (λ key. None) false 0 ∙ none in cc)
+
+pub returns-clause-sheds : goal.returns-clause-sheds
+returns-clause-sheds g c n known = absurd (let e : None ≡ Some n = c.in_default-usable_of.ensures (λ key. None) false 0 ∙ known in cc)

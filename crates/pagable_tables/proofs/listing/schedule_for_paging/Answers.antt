@@ -18,6 +18,7 @@ use Rattle.pagable_tables.proofs.Begun.{begun-whole, not-closed, shut-then, open
 use Rattle.pagable_tables.proofs.Listed.{alike-listed}
 use Rattle.pagable_tables.proofs.Worlds.{still, owner-same}
 use Rattle.pagable_tables.proofs.Shedding.{sheds-still}
+use Rattle.pagable_tables.proofs.Newer.{later-so, schedule-newer}
 use Rattle.pagable_tables.proofs.listing.schedule_for_paging.Goals as goal
 
 pub returns-in-Err-clause-scheduled : goal.returns-in-Err-clause-scheduled
@@ -80,3 +81,13 @@ returns-in_default-clause-whole g c =
 
 pub returns-clause-sheds : goal.returns-clause-sheds
 returns-clause-sheds g c = sheds-still c.args.t.now.holdings _ c.requires.whole.steady
+
+pub returns-then-not-lists-clause-later : goal.returns-then-not-lists-clause-later
+returns-then-not-lists-clause-later g c later =
+    let n = schedule-newer c.args.me c.args.handle (Ok tt) (returns-then-not-lists-clause-scheduled g c (λ key. None) (not c.args.lists) 0 (not-closed c.args.lists)) in
+    later-so later (record { last = n.last; owned = n.owned }) (λ l load is. is)
+
+pub returns-clause-later : goal.returns-clause-later
+returns-clause-later g c later =
+    let n = schedule-newer c.args.me c.args.handle (Ok tt) (returns-clause-scheduled g c (λ key. None) (not c.args.lists) 0 (not-closed c.args.lists)) in
+    later-so later (record { last = n.last; owned = n.owned }) (λ l load is. is)

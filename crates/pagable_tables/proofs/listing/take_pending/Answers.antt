@@ -9,6 +9,7 @@ use Rattle.pagable_tables.proofs.keeps.ListCalls.{take-whole}
 use Rattle.pagable_tables.proofs.keeps.Placed.{whole-so}
 use Rattle.pagable_tables.proofs.Listed.{alike-listed}
 use Rattle.pagable_tables.proofs.Owned.{entry-lives, entry-unvalued}
+use Rattle.pagable_tables.proofs.Newer.{later-so, take-pending-newer}
 use Rattle.pagable_tables.proofs.listing.take_pending.Goals as goal
 
 pub unreachable-requires : goal.unreachable-requires
@@ -38,3 +39,8 @@ returns-clause-whole c =
     let into = not-a-value (plain_of u) c.args.me c.requires.holder in
     let steady = c.hand_over.ensures.stands (record t { list = c.remove-handle.new.self }) unvalued into (record { sound = w.sound; next = w.next; fits = w.fits }) in
     whole-so steady (take-whole c.args.me c.args.place (Some c.remove-handle.result) c.requires.whole.core c.requires.holder (returns-clause-taken c (λ key. None) false 0))
+
+pub returns-clause-later : goal.returns-clause-later
+returns-clause-later c other later =
+    let n = take-pending-newer c.args.me c.args.place (Some c.remove-handle.result) other (returns-clause-taken c (λ key. None) false 0) in
+    later-so later (record { last = n.last; owned = n.owned }) (λ l load is. is)

@@ -1,4 +1,4 @@
-use Rattle.std.proofs.Common.{◌≡◌, ◌+◌, ◌∙◌, false, None, Ok, Err, Some, inr, refl, ap, sym, subst, arith}
+use Rattle.std.proofs.Common.{not, ◌≡◌, ◌+◌, ◌∙◌, false, None, Ok, Err, Some, inr, refl, ap, sym, subst, arith}
 use Rattle.std.specs.Prelude.{IfSome, length}
 use Rattle.std.proofs.lemmas.Bool.Decides.{nat_tests}
 use Rattle.pagable_world.specs.declared.handles.Owner.TheVariants as owners
@@ -17,13 +17,15 @@ use Rattle.pagable_tables.proofs.keeps.CacheCalls.{offer-whole}
 use Rattle.pagable_tables.proofs.keeps.Comes.{not-a-value, not-list}
 use Rattle.pagable_tables.proofs.keeps.Placed.{whole-so}
 use Rattle.pagable_tables.proofs.keeps.Rows.{found-among}
+use Rattle.pagable_tables.specs.ByNumber.{load_at}
+use Rattle.pagable_tables.proofs.Begun.{not-closed}
+use Rattle.pagable_tables.proofs.Newer.{later-so, offer-newer}
 use Rattle.pagable_tables.proofs.swapping.offer.Goals as goal
 
 pub give_number-requires-clause-there : goal.give_number-requires-clause-there
 give_number-requires-clause-there g c =
     let (row, owns, typed, (n, known, next, alike)) = (subst (λ f. Offered (core_of c.args.t.now (λ key. None) false 0) c.args.me c.args.kind c.args.key c.args.handle (Ok f) (core_of c.cache_put.new.t (λ key. None) false 0)) c.in-Ok-Some.field-0-is (c.in-Ok-Some.ensures.offered (λ key. None) 0)).answers in
-    let w = plain_of c.args.t.now in
-    (
+    let w = plain_of c.args.t.now in (
       row,
       found-again c.args.handle.0 _ _ _ row _ owns.live alike.rows refl,
       ap is_valued owns.own ∙ not-a-value w c.args.me c.requires.holder,
@@ -44,7 +46,7 @@ returns-in-Ok-Some-clause-offered g c stored closed failures e =
     let spared : only_handle c.args.handle (w.last.handle + 1) ≡ false = let a = (numbered row given.0).1 in let b = given.1 in grind (arith, nat_tests) in
     let falls = swapped w (record { 0 = n }) (mode_of c.args.kind.0) c.args.me (λ h among. (numbered h among).1) (not-a-value (plain_of t) c.args.me c.requires.holder) fell.falls spared in
     let anew : Falls w u (only_handle c.args.handle) fell.told (core_of (record t1 { holdings = c.give_number.new.t }) stored false failures) =
-        subst (λ (z : Tables). Falls w u (only_handle c.args.handle) fell.told (core_of (record z { holdings = c.give_number.new.t }) stored false failures)) (sym (subst (λ f. IfSome f (λ k. t1 ≡ record t { holdings = t1.holdings })) c.in-Ok-Some.field-0-is c.in-Ok-Some.ensures.known)) falls in
+    subst (λ (z : Tables). Falls w u (only_handle c.args.handle) fell.told (core_of (record z { holdings = c.give_number.new.t }) stored false failures)) (sym (subst (λ f. IfSome f (λ k. t1 ≡ record t { holdings = t1.holdings })) c.in-Ok-Some.field-0-is c.in-Ok-Some.ensures.known)) falls in
     subst (λ b. OfferCall (core_of t stored b failures) c.args.me c.args.kind c.args.key c.args.handle (Ok (Some c.in-Ok-Some.known)) (core_of (record t1 { holdings = c.give_number.new.t }) stored b failures))
     (sym (open-then c.args.lists closed c.if-not-lists.false e))
     (record { answers = (row, owns, typed, inr (refl, (n, known, next, record { told = fell.told; falls = anew }))); refused = tt })
@@ -73,3 +75,18 @@ pub returns-in-Err-cache_put-clause-offered : goal.returns-in-Err-cache_put-clau
 returns-in-Err-cache_put-clause-offered g c stored closed failures e =
     subst (λ b. OfferCall (core_of c.args.t.now stored b failures) c.args.me c.args.kind c.args.key c.args.handle (Err c.in-Err-cache_put.e) (core_of c.cache_put.new.t stored b failures))
     (sym (open-then c.args.lists closed c.if-not-lists.false e)) (record { answers = tt; refused = (c.in-Err-cache_put.ensures.offered stored failures).refused })
+
+pub returns-in-Ok-Some-clause-later : goal.returns-in-Ok-Some-clause-later
+returns-in-Ok-Some-clause-later g c later =
+    let n = offer-newer c.args.me c.args.kind c.args.key c.args.handle _ (returns-in-Ok-Some-clause-offered g c (λ key. None) (not c.args.lists) 0 (not-closed c.args.lists)) in
+    later-so later (record { last = n.last; owned = n.owned }) (λ l load is. sym (ap (λ m. load_at m l) c.cache_put.ensures.loads) ∙ is)
+
+pub returns-in-Ok-None-clause-later : goal.returns-in-Ok-None-clause-later
+returns-in-Ok-None-clause-later g c later =
+    let n = offer-newer c.args.me c.args.kind c.args.key c.args.handle _ (returns-in-Ok-None-clause-offered g c (λ key. None) (not c.args.lists) 0 (not-closed c.args.lists)) in
+    later-so later (record { last = n.last; owned = n.owned }) (λ l load is. sym (ap (λ m. load_at m l) c.cache_put.ensures.loads) ∙ is)
+
+pub returns-in-Err-cache_put-clause-later : goal.returns-in-Err-cache_put-clause-later
+returns-in-Err-cache_put-clause-later g c later =
+    let n = offer-newer c.args.me c.args.kind c.args.key c.args.handle _ (returns-in-Err-cache_put-clause-offered g c (λ key. None) (not c.args.lists) 0 (not-closed c.args.lists)) in
+    later-so later (record { last = n.last; owned = n.owned }) (λ l load is. sym (ap (λ m. load_at m l) c.cache_put.ensures.loads) ∙ is)

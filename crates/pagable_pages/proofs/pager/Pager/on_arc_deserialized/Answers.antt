@@ -11,7 +11,7 @@ invariant_of-self g c =
     let e = c.offer.ensures in
     let step = e.offered (g.S.PagableStorage.stored c.self.inside.storage) (g.S.PagableStorage.is_closed c.self.inside.storage) (g.S.PagableStorage.failed c.self.inside.storage) (told-open c.has_closed-lists.ensures) in
     let sheds = e.sheds (λ n known pinning. known-valued _ _ _ is c.args.kind.0 c.args.key n known pinning) in
-    shed _ _ _ is c.offer.new.t c.offer.new.values e.whole sheds (λ shut. offered-bare shut (is.state.whole.shut shut) c.offer.result step) (λ left. offered is.state left caller-free c.offer.result step)
+    shed _ _ _ is c.offer.new.t c.offer.new.values e.whole (e.later is.later) sheds (λ shut. offered-bare shut (is.state.whole.shut shut) c.offer.result step) (λ left. offered is.state left caller-free c.offer.result step)
 
 pub returns-clause-step : goal.returns-clause-step
 returns-clause-step g c = rw (← c.self.view_is) (c.offer.ensures.offered (g.S.PagableStorage.stored c.self.inside.storage) (g.S.PagableStorage.is_closed c.self.inside.storage) (g.S.PagableStorage.failed c.self.inside.storage) (told-open c.has_closed-lists.ensures))
