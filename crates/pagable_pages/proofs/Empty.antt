@@ -1,14 +1,11 @@
 -- A pager of nothing is a new one.
-use Rattle.std.proofs.Common.{◌≡◌, ℕ, Bool, true, false, [], refl, ap, sym, subst, ◌∙◌, Some, None, nat_eq}
-use Rattle.std.specs.Prelude.{Option, is_some}
+use Rattle.std.proofs.Common.{◌≡◌, ℕ, false, [], refl, ap, ◌∙◌, None, nat_eq}
 use Rattle.std.specs.Option.{option_map}
 use Rattle.std.specs.Arc.{arc_value}
 use Rattle.std.specs.HashMap.{get}
 use Rattle.pagable_model.specs.declared.numbers.NodeNumber.{NodeNumber}
-use Rattle.pagable_world.specs.declared.handles.HandleRow.{HandleRow}
 use Rattle.pagable_world.specs.Plain.{is_in}
 use Rattle.pagable_world.specs.Pager.{IsNew}
-use Rattle.pagable_tables.specs.declared.tables.Tables.{Tables}
 use Rattle.pagable_tables.specs.Live.{live}
 use Rattle.pagable_tables.specs.ByNumber.{counts_at, load_at, known_at}
 use Rattle.pagable_tables.specs.Falling.{cell_in, pins_in}

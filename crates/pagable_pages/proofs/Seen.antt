@@ -1,16 +1,13 @@
 -- What a handle lends.
-use Rattle.std.proofs.Common.{◌≡◌, ℕ, ◌<◌, ◌&&◌, Bool, true, false, refl, ap, sym, ◌∙◌, arith, Ok, Err, Some, None, if◌then◌else◌, nat_eq}
-use Rattle.std.specs.Prelude.{Option, Result, is_some, nat_lt}
-use Rattle.std.specs.Option.{option_map}
-use Rattle.std.specs.Arc.{arc_value}
-use Rattle.std.specs.HashMap.{get}
+use Rattle.std.proofs.Common.{◌≡◌, ◌&&◌, Bool, true, false, refl, ap, sym, ◌∙◌, arith, Ok, Some, None, if◌then◌else◌}
+use Rattle.std.specs.Prelude.{Option, is_some, nat_lt}
 use Rattle.std.proofs.lemmas.Bool.Decides.{nat_tests}
 use Rattle.pagable_world.specs.declared.handles.HandleRow.{HandleRow}
-use Rattle.pagable_world.specs.Plain.{Error, HandleNumber, NodeNumber}
+use Rattle.pagable_world.specs.Plain.{HandleNumber, NodeNumber}
 use Rattle.pagable_world.specs.Kinds.{is_pinning, held}
 use Rattle.pagable_world.specs.World.{Values, row_at, is_here}
 use Rattle.pagable_world.specs.Calls.{Looks}
-use Rattle.pagable_world.specs.Pager.{PagerState, WellFormed, Lends, ValueCall}
+use Rattle.pagable_world.specs.Pager.{PagerState, WellFormed, ValueCall}
 use Rattle.pagable_laws.proofs.Taking.{row-held, row-pins}
 use Rattle.pagable_steps.proofs.SparedHandles.{pinned-here}
 

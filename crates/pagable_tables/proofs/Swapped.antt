@@ -1,5 +1,5 @@
 -- A handle comes, and then another is given up: the new one stays, so that cells are listed as of the world before it came.
-use Rattle.std.proofs.Common.{◌≡◌, ℕ, ◌+◌, ◌<◌, ◌≤◌, ◌==◌, ◌&&◌, Bool, true, false, List, [], ◌∷◌, refl, ap, sym, ◌∙◌, subst, arith, Ok, Err, Option, Some, None, inl, inr, if◌then◌else◌}
+use Rattle.std.proofs.Common.{◌≡◌, ℕ, ◌+◌, ◌<◌, ◌≤◌, ◌==◌, ◌&&◌, Bool, true, false, [], ◌∷◌, refl, ap, sym, ◌∙◌, subst, arith, Ok, Err, Option, Some, None, inl, inr, if◌then◌else◌}
 use Rattle.std.specs.Prelude.{Result, not, nat_lt, nat_eq}
 use Rattle.std.proofs.lemmas.Bool.Decides.{nat_tests}
 use Rattle.std.proofs.lemmas.List.Sums.{sum_by_push, sum_by-append, sum_by-le-sum_by}

@@ -5,7 +5,7 @@ use Rattle.pagable_world.specs.declared.handles.Owner.TheVariants as owners
 use Rattle.pagable_world.specs.Calls.{moved}
 use Rattle.pagable_world.specs.Cascade.{only_handle, Falls}
 use Rattle.pagable_tables.specs.Live.{live}
-use Rattle.pagable_tables.specs.Falling.{is_valued, owns_nothing}
+use Rattle.pagable_tables.specs.Falling.{is_valued}
 use Rattle.pagable_tables.specs.Core.{plain_of, core_of}
 use Rattle.pagable_tables.proofs.keeps.Comes.{not-a-value, not-list}
 use Rattle.pagable_tables.proofs.keeps.Fallen.{may-fall}

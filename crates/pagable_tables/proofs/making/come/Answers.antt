@@ -1,4 +1,4 @@
-use Rattle.std.proofs.Common.{ℕ, Bool, true, false, subst, inl, inr, ◌+◌, ◌≡◌, ◌∷◌, [], ◌++◌, arith, refl, ap, sym, ◌∙◌, Some, rules}
+use Rattle.std.proofs.Common.{Bool, true, subst, inl, inr, ◌+◌, ◌≡◌, ◌∷◌, [], ◌++◌, arith, refl, ap, sym, ◌∙◌, Some, rules}
 use Rattle.pagable_world.specs.Plain.{one}
 use Rattle.pagable_world.specs.Kinds.{is_pinning}
 use Rattle.pagable_world.specs.declared.handles.HandleRow.{HandleRow}

@@ -9,7 +9,6 @@ use Rattle.pagable_world.specs.declared.rows.Mode.TheVariants as modes
 use Rattle.pagable_tables.specs.Core.{core_of}
 use Rattle.pagable_tables.proofs.Pins.{handle-first, no-fault, spent-late}
 use Rattle.pagable_tables.proofs.Worlds.{still, owner-same}
-use Rattle.pagable_tables.specs.declared.tables.Tables.{Tables}
 use Rattle.pagable_tables.specs.ByNumber.{load_at}
 use Rattle.pagable_tables.proofs.Newer.{pin-newer, later-so}
 use Rattle.pagable_tables.proofs.pinning.pin.Goals as goal
