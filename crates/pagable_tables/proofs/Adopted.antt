@@ -1,7 +1,6 @@
 -- A node that the cache knows from now on.
 use Rattle.std.proofs.Common.{◌≡◌, ℕ, ◌==◌, ◌&&◌, Bool, true, false, if◌then◌else◌, List, refl, ap, sym, ◌∙◌, arith, Option, Some, None, inl, inr}
-use Rattle.std.specs.Prelude.{◌≢◌, ◌⊎◌, not}
-use Rattle.std.specs.Option.{option_map}
+use Rattle.std.specs.Prelude.{◌≢◌, ◌⊎◌}
 use Rattle.std.proofs.lemmas.Bool.Decides.{nat_tests}
 use Rattle.std.proofs.lemmas.Bool.{cases_eq}
 use Rattle.pagable_model.specs.declared.numbers.Kind.{Kind}

@@ -1,5 +1,5 @@
 -- Why what a load has read can't become a node, and what becomes of it.
-use Rattle.std.proofs.Common.{◌≡◌, ℕ, ◌+◌, ◌<◌, ◌≤◌, ◌==◌, ◌||◌, Bool, true, false, if◌then◌else◌, List, [], ◌∷◌, refl, ap, sym, ◌∙◌, subst, arith, Ok, Err, Option, Some, None, inl, inr}
+use Rattle.std.proofs.Common.{◌≡◌, ℕ, ◌<◌, ◌≤◌, ◌==◌, ◌||◌, Bool, true, false, if◌then◌else◌, List, [], ◌∷◌, refl, ap, sym, ◌∙◌, arith, Ok, Err, Option, Some, None, inl, inr}
 use Rattle.std.specs.Prelude.{not, nat_lt, is_some, Result, IfOk, IfErr}
 use Rattle.std.proofs.lemmas.Bool.Decides.{nat_tests}
 use Rattle.pagable_model.specs.declared.error.Error.{Error}
@@ -17,10 +17,10 @@ use Rattle.pagable_world.specs.Kinds.{is_owner, fits_mode, mode_of}
 use Rattle.pagable_world.specs.World.{Core, OpenLoad, greatest, row_at, type_at, usable, Alike}
 use Rattle.pagable_world.specs.Refusals.{rank, earlier, refused_if, spent, is_type, load_fault, reference_fault, references_fault, row_fault, OwnsLoad, Refused, AreHandlesFull}
 use Rattle.pagable_world.specs.Cascade.{FallsAnyhow}
-use Rattle.pagable_world.specs.Calls.{IsNext, with_handle, is_usable, is_named_by, birth_fault}
-use Rattle.pagable_world.specs.LoadCalls.{node_fault, adopt_fault, adopted, first_key, Adopts}
+use Rattle.pagable_world.specs.Calls.{IsNext, with_handle, is_named_by, birth_fault}
+use Rattle.pagable_world.specs.LoadCalls.{node_fault, adopt_fault, adopted, first_key}
 use Rattle.pagable_tables.specs.Asking.{AdoptOf, early_fault}
-use Rattle.pagable_tables.proofs.Lazily.{node-late, kind-late}
+use Rattle.pagable_tables.proofs.Lazily.{node-late}
 use Rattle.pagable_tables.proofs.Opened.{load-low}
 use Rattle.pagable_tables.proofs.Worlds.{still, owner-same}
 use Rattle.pagable_world.specs.Pager as pager

@@ -1,5 +1,5 @@
 -- What a load asks of the tables.
-use Rattle.std.proofs.Common.{◌≡◌, ℕ, true, ap, sym, subst, arith, Ok, Err, Option, Some, None, inl, inr}
+use Rattle.std.proofs.Common.{◌≡◌, ℕ, true, ap, sym, subst, arith, Ok, Err, Option, Some, inl}
 use Rattle.std.specs.Prelude.{Result}
 use Rattle.pagable_model.specs.declared.error.Error.{Error}
 use Rattle.pagable_model.specs.declared.numbers.HandleNumber.{HandleNumber}

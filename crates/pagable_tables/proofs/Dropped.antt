@@ -1,5 +1,5 @@
 -- A load is closed, and what it still owns is given up.
-use Rattle.std.proofs.Common.{◌≡◌, ℕ, ◌≤◌, ◌==◌, Bool, true, false, not, List, refl, ap, sym, ◌∙◌, subst, arith, Option, Some, None, inl, inr}
+use Rattle.std.proofs.Common.{◌≡◌, ℕ, ◌≤◌, ◌==◌, Bool, true, false, not, refl, ap, sym, ◌∙◌, subst, arith, Option, Some, None, inl, inr}
 use Rattle.std.specs.Prelude.{◌≢◌, Result}
 use Rattle.std.specs.Option.{option_map}
 use Rattle.std.proofs.lemmas.Bool.Decides.{nat_tests}
@@ -10,14 +10,13 @@ use Rattle.pagable_world.specs.declared.handles.HandleRow.{HandleRow}
 use Rattle.pagable_world.specs.declared.handles.Owner.{Owner}
 use Rattle.pagable_world.specs.Plain.{Blob, updated, if_there}
 use Rattle.pagable_world.specs.Kinds.{is_owned_by, find_row}
-use Rattle.pagable_world.specs.World.{Core, OpenLoad, HasRoom}
+use Rattle.pagable_world.specs.World.{Core, OpenLoad}
 use Rattle.pagable_world.specs.Pager as pager
 use Rattle.pagable_world.specs.Cascade.{Falls, nobody}
 use Rattle.pagable_world.specs.LoadCalls.{is_owned_in, without_load}
 use Rattle.pagable_tables.specs.declared.rows.LoadRow.{LoadRow}
 use Rattle.pagable_tables.specs.declared.tables.Tables.{Tables}
-use Rattle.pagable_tables.specs.declared.holdings.Holdings.{Holdings}
-use Rattle.pagable_tables.specs.Onward.{with_tables, SoFar}
+use Rattle.pagable_tables.specs.Onward.{SoFar}
 use Rattle.pagable_tables.specs.Core.{core_of, load_in, IsWhole}
 use Rattle.pagable_tables.proofs.Begun.{begins, begun}
 use Rattle.pagable_tables.proofs.keeps.Rows.{found-among}

@@ -1,10 +1,10 @@
 -- Handles are no more after one is given up.
-use Rattle.std.proofs.Common.{◌≡◌, ℕ, ◌+◌, ◌≤◌, Bool, true, false, if◌then◌else◌, List, length, ap, arith, inl, inr, Option}
+use Rattle.std.proofs.Common.{ℕ, ◌≤◌, Bool, true, false, if◌then◌else◌, List, length, ap, arith, inl, inr, Option}
 use Rattle.pagable_model.specs.declared.numbers.NodeNumber.{NodeNumber}
 use Rattle.pagable_world.specs.declared.handles.HandleRow.{HandleRow}
 use Rattle.pagable_tables.specs.declared.holdings.Holdings.{Holdings}
 use Rattle.pagable_tables.specs.Live.{live}
-use Rattle.pagable_tables.specs.Falling.{is_listing, GivesUp, Steps}
+use Rattle.pagable_tables.specs.Falling.{GivesUp, Steps}
 use Rattle.pagable_tables.proofs.Leaving.{leaves-sums}
 use Rattle.pagable_tables.proofs.Going.{ones}
 

@@ -1,11 +1,11 @@
 -- Handles that are named come to another owner, one after the other.
-use Rattle.std.proofs.Common.{◌≡◌, ℕ, ◌+◌, ◌<◌, ◌≤◌, ◌==◌, ◌||◌, Bool, true, false, if◌then◌else◌, List, [], ◌∷◌, length, get_or, drop, map, refl, ap, sym, ◌∙◌, arith, suc, zero, Some, None}
+use Rattle.std.proofs.Common.{◌≡◌, ℕ, ◌+◌, ◌≤◌, ◌==◌, ◌||◌, Bool, true, false, if◌then◌else◌, List, [], ◌∷◌, length, get_or, drop, map, refl, ap, sym, ◌∙◌, arith, suc, zero, Some}
 use Rattle.std.proofs.lemmas.Bool.Decides.{nat_tests}
 use Rattle.std.proofs.lemmas.List.{at_drop_more, at_drop_all}
 use Rattle.pagable_model.specs.declared.numbers.HandleNumber.{HandleNumber}
 use Rattle.pagable_world.specs.declared.handles.HandleRow.{HandleRow}
 use Rattle.pagable_world.specs.declared.handles.Owner.{Owner}
-use Rattle.pagable_world.specs.Plain.{is_in, changed}
+use Rattle.pagable_world.specs.Plain.{is_in}
 use Rattle.pagable_world.specs.Kinds.{is_handle, find_row}
 use Rattle.pagable_world.specs.Cascade.{only_handle}
 use Rattle.pagable_world.specs.Calls.{moved}
@@ -13,7 +13,6 @@ use Rattle.pagable_world.specs.LoadCalls.{numbers_of}
 use Rattle.pagable_tables.specs.Falling.{is_valued}
 use Rattle.pagable_tables.specs.Named.{seen, named_at, IsNamed}
 use Rattle.pagable_tables.proofs.Seen.{in-none, in-more}
-use Rattle.pagable_tables.proofs.keeps.Rows.{found-map}
 
 -- the set is told by another test
 pub moved-same : (s s' : ℕ → Bool) (o : Owner) (rows : List HandleRow) → ((q : ℕ) → s q ≡ s' q) → moved s o rows ≡ moved s' o rows

@@ -14,9 +14,9 @@ use Rattle.pagable_world.specs.declared.rows.Mode.{Mode}
 use Rattle.pagable_world.specs.Plain.{is_loose_kind, if_there}
 use Rattle.pagable_world.specs.Kinds.{mode_of}
 use Rattle.pagable_world.specs.World.{Core, OpenLoad, greatest, usable, Alike}
-use Rattle.pagable_world.specs.Refusals.{rank, earlier, refused_if, spent, load_fault, OwnsLoad, Refused, AreHandlesFull}
+use Rattle.pagable_world.specs.Refusals.{rank, earlier, refused_if, spent, load_fault, OwnsLoad, Refused}
 use Rattle.pagable_world.specs.Calls.{with_handle, is_usable, birth_fault, IsNext}
-use Rattle.pagable_world.specs.LoadCalls.{node_fault, lazy_fault, adopted, GetsKnown, LazyCall}
+use Rattle.pagable_world.specs.LoadCalls.{node_fault, lazy_fault, adopted, LazyCall}
 use Rattle.pagable_model.specs.declared.data_key.OptionalDataKey.TheVariants as optional
 use Rattle.pagable_tables.specs.Falling.{key_in}
 use Rattle.pagable_tables.specs.Core.{Makes}

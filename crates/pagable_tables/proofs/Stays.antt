@@ -1,16 +1,13 @@
 -- A handle that comes and pins stays, while others that are given go with all that follows.
-use Rattle.std.proofs.Common.{◌≡◌, ℕ, ◌+◌, ◌<◌, ◌≤◌, ◌==◌, ◌&&◌, ◌||◌, ◌++◌, Bool, true, false, not, if◌then◌else◌, List, [], ◌∷◌, sum_by, refl, ap, sym, ◌∙◌, subst, arith, inl, inr, None}
-use Rattle.std.specs.Prelude.{◌⊎◌, ◌≢◌, nat_eq, Result, Ok, Err, IfErr}
+use Rattle.std.proofs.Common.{◌≡◌, ℕ, ◌<◌, ◌≤◌, ◌==◌, ◌&&◌, ◌++◌, Bool, true, false, not, if◌then◌else◌, List, [], ◌∷◌, refl, ap, sym, ◌∙◌, subst, arith, inl, inr, None}
+use Rattle.std.specs.Prelude.{◌⊎◌, nat_eq, Result, Ok, Err}
 use Rattle.std.specs.List.{AllPairs}
 use Rattle.std.proofs.lemmas.Bool.Decides.{nat_tests}
 use Rattle.std.proofs.lemmas.Bool.{cases_eq}
 use Rattle.std.proofs.lemmas.List.Sums.{sum_by-le-sum_by, sum_by_push, sum_by-append}
 use Rattle.pagable_model.specs.declared.error.Error.{Error}
 use Rattle.pagable_model.specs.declared.error.Error.TheVariants as errors
-use Rattle.pagable_model.specs.declared.numbers.NodeNumber.{NodeNumber}
 use Rattle.pagable_world.specs.declared.handles.HandleRow.{HandleRow}
-use Rattle.pagable_world.specs.declared.handles.Owner.{Owner}
-use Rattle.pagable_world.specs.declared.rows.Mode.{Mode}
 use Rattle.pagable_world.specs.Plain.{Among, if_there, one, times, is_loose_kind, is_shared_kind}
 use Rattle.pagable_world.specs.Kinds.{is_handle, is_owner, mode_of, is_at, is_pin, is_share, is_pinning, is_owned_by, owner_value, held, pins, sharing}
 use Rattle.pagable_world.specs.World.{Core, Places, HasRoom, Alike}
@@ -19,7 +16,7 @@ use Rattle.pagable_world.specs.Refusals.{references_fault}
 use Rattle.pagable_world.specs.LoadCalls.{is_owned_in}
 use Rattle.pagable_model.specs.declared.numbers.ArcRef.{ArcRef}
 use Rattle.pagable_world.specs.Cascade.{IsLeast, IsWithin, IsClosed, loses_value, pins_outside, held_outside, owned_outside, is_outside, is_keyed, left_rows, MustList, TellsListing, IsPlaceWanting, IsListRefusal, Falls}
-use Rattle.pagable_world.specs.Calls.{with_handle, row_of, is_named_by}
+use Rattle.pagable_world.specs.Calls.{is_named_by}
 use Rattle.pagable_tables.specs.Falling.{is_valued}
 use Rattle.pagable_tables.proofs.Coming.{no-value}
 use Rattle.pagable_model.specs.declared.numbers.LoadNumber.{LoadNumber}

@@ -1,5 +1,5 @@
 -- A load hands handles over, and gives up the rest.
-use Rattle.std.proofs.Common.{sum_by, ◌≡◌, ℕ, ◌<◌, ◌≤◌, ◌+◌, ◌==◌, ◌&&◌, Bool, true, false, not, if◌then◌else◌, List, [], ◌∷◌, length, refl, ap, sym, ◌∙◌, subst, arith, Option, Some, None, inl, inr}
+use Rattle.std.proofs.Common.{◌≡◌, ℕ, ◌<◌, ◌==◌, ◌&&◌, Bool, true, false, not, if◌then◌else◌, List, [], ◌∷◌, length, refl, ap, sym, ◌∙◌, subst, arith, Option, Some, None, inl, inr}
 use Rattle.std.proofs.lemmas.Bool.Decides.{nat_tests}
 use Rattle.std.proofs.lemmas.List.Sums.{sum_by-cons}
 use Rattle.pagable_model.specs.declared.numbers.HandleNumber.{HandleNumber}
@@ -8,19 +8,19 @@ use Rattle.pagable_world.specs.declared.handles.HandleRow.{HandleRow}
 use Rattle.pagable_world.specs.declared.handles.Owner.{Owner}
 use Rattle.pagable_world.specs.declared.handles.Owner.TheVariants as owners
 use Rattle.pagable_world.specs.Plain.{Blob, Among, one, times, if_there, is_in}
-use Rattle.pagable_world.specs.Kinds.{is_handle, is_owner, is_owned_by, is_pin, is_share, find_row, pins, sharing}
+use Rattle.pagable_world.specs.Kinds.{is_handle, is_owner, is_owned_by, is_pin, is_share, find_row, pins}
 use Rattle.pagable_world.specs.World.{Core, OpenLoad, HasRoom}
 use Rattle.pagable_world.specs.Pager as pager
 use Rattle.pagable_world.specs.Pager.{MayOwnLoad}
 use Rattle.pagable_world.specs.Refusals.{earlier, load_fault, named_fault}
 use Rattle.pagable_world.specs.Cascade.{nobody}
 use Rattle.pagable_world.specs.Calls.{moved}
-use Rattle.pagable_world.specs.LoadCalls.{is_owned_in, without_load, numbers_of, cell_fault, hand_over_fault}
+use Rattle.pagable_world.specs.LoadCalls.{without_load, numbers_of, cell_fault, hand_over_fault}
 use Rattle.pagable_tables.specs.declared.tables.Tables.{Tables}
 use Rattle.pagable_tables.specs.declared.holdings.Holdings.{Holdings}
 use Rattle.pagable_tables.specs.Live.{live}
 use Rattle.pagable_tables.specs.Falling.{is_valued}
-use Rattle.pagable_tables.specs.Onward.{with_tables, is_plain_pin, Begins, SoFar}
+use Rattle.pagable_tables.specs.Onward.{with_tables, is_plain_pin, SoFar}
 use Rattle.pagable_tables.specs.Core.{core_of, IsWhole}
 use Rattle.pagable_tables.specs.Named.{named_at, IsNamed}
 use Rattle.pagable_tables.proofs.Begun.{begins, begun}

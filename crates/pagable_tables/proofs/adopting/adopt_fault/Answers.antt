@@ -1,8 +1,7 @@
-use Rattle.std.proofs.Common.{◌≡◌, ◌==◌, ap, ◌∙◌, Some}
+use Rattle.std.proofs.Common.{◌==◌, ap, ◌∙◌, Some}
 use Rattle.std.specs.Prelude.{not}
 use Rattle.std.specs.Option.{option_map}
 use Rattle.pagable_model.specs.declared.error.Error.TheVariants as errors
-use Rattle.pagable_world.specs.declared.handles.Owner.TheVariants as owners
 use Rattle.pagable_world.specs.Plain.{if_there, is_loose_kind, type_of}
 use Rattle.pagable_world.specs.Kinds.{is_owner}
 use Rattle.pagable_world.specs.World.{OpenLoad}

@@ -1,13 +1,13 @@
-use Rattle.std.proofs.Common.{◌≡◌, ℕ, ◌+◌, ◌∙◌, sym, ap, subst, refl, arith, true, false, None, [], ◌∷◌}
+use Rattle.std.proofs.Common.{◌≡◌, ℕ, ◌+◌, ◌∙◌, ap, subst, refl, arith, true, [], ◌∷◌}
 use Rattle.pagable_world.specs.declared.handles.HandleRow.{HandleRow}
 use Rattle.pagable_world.specs.declared.handles.Owner.TheVariants as owners
 use Rattle.pagable_world.specs.declared.rows.Mode.{Mode}
 use Rattle.pagable_world.specs.Kinds.{mode_of}
 use Rattle.pagable_world.specs.World.{Core, Alike}
 use Rattle.pagable_world.specs.Calls.{with_handle, row_of, is_named_by}
-use Rattle.pagable_world.specs.Cascade.{FallsAnyhow, Falls}
+use Rattle.pagable_world.specs.Cascade.{Falls}
 use Rattle.pagable_world.specs.LoadCalls.{is_owned_in}
-use Rattle.pagable_tables.specs.Core.{core_of, plain_of, Makes}
+use Rattle.pagable_tables.specs.Core.{core_of, plain_of}
 use Rattle.pagable_tables.specs.declared.tables.Tables.{Tables}
 use Rattle.pagable_tables.proofs.Begun.{begun-whole}
 use Rattle.pagable_tables.proofs.Stays.{stays-pinned, seen-before, retold, eager-pins, loaded-append, named-loaded, not-named}

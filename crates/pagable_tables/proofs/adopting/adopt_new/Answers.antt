@@ -1,4 +1,4 @@
-use Rattle.std.proofs.Common.{◌≡◌, ℕ, ◌+◌, ◌<◌, ◌/◌, arith, refl, ap, sym, ◌∙◌, subst, true, false, Some, Option, None}
+use Rattle.std.proofs.Common.{◌≡◌, ℕ, ◌+◌, ◌/◌, arith, refl, ap, sym, ◌∙◌, subst, Some, Option}
 use Rattle.std.specs.Prelude.{not}
 use Rattle.std.specs.Option.{option_map}
 use Rattle.indexmap.specs.IndexMap.{IndexMap}
@@ -6,13 +6,12 @@ use Rattle.pagable_tables.specs.declared.rows.Counts.{Counts}
 use Rattle.pagable_world.specs.declared.rows.Mode.{Mode}
 use Rattle.std.specs.HashMap.{spare}
 use Rattle.pagable_model.specs.declared.numbers.NodeNumber.{NodeNumber}
-use Rattle.pagable_world.specs.World.{Core, Last, Alike}
+use Rattle.pagable_world.specs.World.{Last, Alike}
 use Rattle.pagable_world.specs.declared.handles.Owner.TheVariants as owners
 use Rattle.pagable_world.specs.Kinds.{mode_of}
 use Rattle.pagable_world.specs.Calls.{with_handle, with_node, next_node}
-use Rattle.pagable_tables.specs.ByNumber.{known_at}
 use Rattle.pagable_tables.specs.Falling.{key_in}
-use Rattle.pagable_tables.specs.Core.{core_of, plain_of}
+use Rattle.pagable_tables.specs.Core.{core_of}
 use Rattle.pagable_tables.specs.declared.tables.Tables.{Tables}
 use Rattle.pagable_tables.proofs.Adopted.{learned, if-open}
 use Rattle.pagable_tables.proofs.keeps.Placed.{whole-so}

@@ -1,4 +1,4 @@
-use Rattle.std.proofs.Common.{ℕ, ◌≤◌, ◌&&◌, [], take, length, None}
+use Rattle.std.proofs.Common.{◌≤◌, ◌&&◌, [], take, length, None}
 use Rattle.pagable_world.specs.declared.handles.Owner.TheVariants as owners
 use Rattle.pagable_world.specs.World.{Core}
 use Rattle.pagable_world.specs.Cascade.{nobody}

@@ -1,4 +1,4 @@
-use Rattle.std.proofs.Common.{◌≡◌, ℕ, [], ap, sym, ◌∙◌, subst, false, not, None, Some, Option}
+use Rattle.std.proofs.Common.{◌≡◌, ℕ, [], ap, sym, ◌∙◌, subst, false, not, None}
 use Rattle.std.specs.Prelude.{IfOk, is_some}
 use Rattle.indexmap.specs.IndexMap.{IndexMap}
 use Rattle.pagable_world.specs.declared.handles.Owner.TheVariants as owners
@@ -11,7 +11,7 @@ use Rattle.pagable_world.specs.LoadCalls.{adopted}
 use Rattle.pagable_tables.specs.Asking.{early_fault}
 use Rattle.pagable_tables.specs.ByNumber.{load_at}
 use Rattle.pagable_tables.specs.declared.rows.LoadRow.{LoadRow}
-use Rattle.pagable_tables.specs.Core.{core_of, plain_of, Suits}
+use Rattle.pagable_tables.specs.Core.{core_of, plain_of}
 use Rattle.pagable_tables.proofs.Adoptions.{not-adopted, adopts-known, adopts-new, fitting, eager, owner-of, adopt-of-whole}
 use Rattle.pagable_tables.proofs.Begun.{not-closed}
 use Rattle.pagable_tables.proofs.Newer.{adopt-newer, later-so}

@@ -1,4 +1,4 @@
-use Rattle.std.proofs.Common.{◌≡◌, ℕ, not, [], arith, ap, sym, ◌∙◌, subst, false, None, inl, inr, rules}
+use Rattle.std.proofs.Common.{ℕ, not, [], arith, ap, sym, ◌∙◌, subst, false, None, inl, inr, rules}
 use Rattle.std.specs.Prelude.{IfOk}
 use Rattle.pagable_world.specs.World.{Alike}
 use Rattle.pagable_world.specs.declared.handles.Owner.TheVariants as owners

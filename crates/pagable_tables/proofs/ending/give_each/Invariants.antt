@@ -1,4 +1,4 @@
-use Rattle.std.proofs.Common.{ℕ, ◌+◌, ◌≤◌, [], length}
+use Rattle.std.proofs.Common.{◌≤◌, [], length}
 use Rattle.pagable_world.specs.World.{Core}
 use Rattle.pagable_world.specs.Cascade.{nobody}
 use Rattle.pagable_tables.specs.Live.{live}

@@ -1,9 +1,8 @@
-use Rattle.std.proofs.Common.{◌≡◌, [], false, true, refl, ap, sym, ◌∙◌, subst, arith}
+use Rattle.std.proofs.Common.{◌≡◌, [], false, ap, sym, ◌∙◌, subst, arith}
 use Rattle.pagable_world.specs.Plain.{if_there}
 use Rattle.pagable_model.specs.declared.numbers.HandleNumber.{HandleNumber}
 use Rattle.pagable_world.specs.Kinds.{is_owner, is_owned_by}
 use Rattle.pagable_world.specs.declared.handles.Owner.TheVariants as owners
-use Rattle.pagable_tables.specs.Live.{live}
 use Rattle.pagable_tables.specs.Falling.{GivesUp, is_valued}
 use Rattle.pagable_tables.specs.Onward.{SoFar}
 use Rattle.pagable_tables.proofs.Begun.{unowned}

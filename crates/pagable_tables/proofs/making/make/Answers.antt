@@ -1,4 +1,4 @@
-use Rattle.std.proofs.Common.{arith, None, false}
+use Rattle.std.proofs.Common.{arith}
 use Rattle.pagable_tables.specs.ByNumber.{counts_at}
 use Rattle.pagable_tables.specs.Core.{core_of, plain_of}
 use Rattle.pagable_tables.proofs.Coming.{some-held}
