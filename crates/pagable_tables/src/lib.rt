@@ -12,6 +12,7 @@ pub mod ending;
 pub mod handing;
 pub mod handles;
 pub mod holdings;
+pub mod installing;
 pub mod keys;
 pub mod kinds;
 pub mod known;
