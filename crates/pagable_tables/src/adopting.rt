@@ -47,8 +47,10 @@ fn adopt_new(
     requires fit { references_fault (plain_of t.old) (owners.Load load) [] references.items ≡ None }
     requires bare { (own_key ≡ 0) ⊎ (references.items ≡ []) ⊎ (is_pinning (mode_of kind.0) ≡ true) }
     ensures next { (stored : ℕ → Option Blob) (closed : Bool) (failures : ℕ) → IfOk result (λ k. (t.old.last_node < greatest) × IsNext k (core_of t.old stored closed failures)) }
-    ensures adopted { (stored : ℕ → Option Blob) (closed : Bool) (failures : ℕ) → lists ≡ not closed → IfOk result (λ k. Alike (adopted (core_of t.old stored closed failures) load kind key (key_in own_key) references.items) (core_of t.new stored closed failures)) }
-    ensures refused { (stored : ℕ → Option Blob) (closed : Bool) (failures : ℕ) → IfErr result (λ e. Refused (birth_fault (core_of t.old stored closed failures)) None (Unit {0}) (core_of t.old stored closed failures) e (core_of t.new stored closed failures)) }
+    ensures adopted { (stored : ℕ → Option Blob) (closed : Bool) (failures : ℕ) → lists ≡ not closed
+        → IfOk result (λ k. Alike (adopted (core_of t.old stored closed failures) load kind key (key_in own_key) references.items) (core_of t.new stored closed failures)) }
+    ensures refused { (stored : ℕ → Option Blob) (closed : Bool) (failures : ℕ)
+        → IfErr result (λ e. Refused (birth_fault (core_of t.old stored closed failures)) None (Unit {0}) (core_of t.old stored closed failures) e (core_of t.new stored closed failures)) }
     ensures steady { IsFalling t.new.holdings [] owns_nothing }
     ensures loads { t.new.loads ≡ t.old.loads }
 {
@@ -79,7 +81,8 @@ pub fn load_lazy(
 ) -> Result<HandleNumber, Error>
     requires whole { IsWhole t.old }
     requires later { AreLater t.old }
-    ensures lazily { (stored : ℕ → Option Blob) (closed : Bool) (failures : ℕ) → lists ≡ not closed → LazyCall (core_of t.old stored closed failures) me load kind key result (core_of t.new stored closed failures) }
+    ensures lazily { (stored : ℕ → Option Blob) (closed : Bool) (failures : ℕ) → lists ≡ not closed
+        → LazyCall (core_of t.old stored closed failures) me load kind key result (core_of t.new stored closed failures) }
     ensures whole { IsWhole t.new }
     ensures later { AreLater t.new }
 {
@@ -122,7 +125,8 @@ fn adopt_fault(
 fn give_named(t: &mut Holdings, load: LoadNumber, references: &[ArcRef], lists: bool)
     requires { IsFalling t.old [] owns_nothing }
     ensures steady { IsFalling t.new [] owns_nothing }
-    ensures falls { (before w : Core) → SoFar before w nobody lists (record t.old { unlisted = None }) → length (live t.old.handles.places.items) ≤ length w.rows → ((q : ℕ) → is_named_by references.now q ≡ true → is_owned_in w (owners.Load load) q ≡ true) → FallsAnyhow before w (is_named_by references.now) (with_tables w t.new) }
+    ensures falls { (before w : Core) → SoFar before w nobody lists (record t.old { unlisted = None }) → length (live t.old.handles.places.items) ≤ length w.rows → ((q : ℕ)
+        → is_named_by references.now q ≡ true → is_owned_in w (owners.Load load) q ≡ true) → FallsAnyhow before w (is_named_by references.now) (with_tables w t.new) }
 {
     t.unlisted = None;
     for reference in references {
@@ -145,8 +149,10 @@ fn adopt_known(
     requires holder { MayHold (plain_of t.old) (owners.Load load) }
     requires eager { is_loose_kind kind.0 ≡ false }
     requires fit { references_fault (plain_of t.old) (owners.Load load) [] references.now ≡ None }
-    ensures known { (stored : ℕ → Option Blob) (closed : Bool) (failures : ℕ) → lists ≡ not closed → IfOk result (λ k. IsNext k (core_of t.old stored closed failures) × FallsAnyhow (core_of t.old stored closed failures) (with_handle (core_of t.old stored closed failures) node (mode_of kind.0) (owners.Load load)) (is_named_by references.now) (core_of t.new stored closed failures)) }
-    ensures refused { (stored : ℕ → Option Blob) (closed : Bool) (failures : ℕ) → IfErr result (λ e. Refused (spent t.old.holdings.last_handle) (spent t.old.holdings.last_handle) (AreHandlesFull (core_of t.old stored closed failures)) (core_of t.old stored closed failures) e (core_of t.new stored closed failures)) }
+    ensures known { (stored : ℕ → Option Blob) (closed : Bool) (failures : ℕ) → lists ≡ not closed → IfOk result (λ k. IsNext k (core_of t.old stored closed failures)
+        × FallsAnyhow (core_of t.old stored closed failures) (with_handle (core_of t.old stored closed failures) node (mode_of kind.0) (owners.Load load)) (is_named_by references.now) (core_of t.new stored closed failures)) }
+    ensures refused { (stored : ℕ → Option Blob) (closed : Bool) (failures : ℕ)
+        → IfErr result (λ e. Refused (spent t.old.holdings.last_handle) (spent t.old.holdings.last_handle) (AreHandlesFull (core_of t.old stored closed failures)) (core_of t.old stored closed failures) e (core_of t.new stored closed failures)) }
     ensures steady { IsFalling t.new.holdings [] owns_nothing }
     ensures loads { t.new.loads ≡ t.old.loads }
 {
@@ -182,7 +188,8 @@ pub fn load_adopt(
 ) -> Result<HandleNumber, Error>
     requires whole { IsWhole t.old }
     requires later { AreLater t.old }
-    ensures adopts { (stored : ℕ → Option Blob) (closed : Bool) (failures : ℕ) → lists ≡ not closed → AdoptOf (core_of t.old stored closed failures) me load kind key node_type references.items result (core_of t.new stored closed failures) }
+    ensures adopts { (stored : ℕ → Option Blob) (closed : Bool) (failures : ℕ) → lists ≡ not closed
+        → AdoptOf (core_of t.old stored closed failures) me load kind key node_type references.items result (core_of t.new stored closed failures) }
     ensures whole { IsWhole t.new }
     ensures later { AreLater t.new }
 {

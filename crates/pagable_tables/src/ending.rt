@@ -28,7 +28,8 @@ pub fn give_next(t: &mut Holdings, load: LoadNumber, handle: HandleNumber, lists
     requires { IsFalling t.old [] owns_nothing }
     ensures steady { IsFalling t.new [] owns_nothing }
     ensures fewer { length (live t.new.handles.places.items) ≤ length (live t.old.handles.places.items) }
-    ensures so_far { (before w : Core) (given : ℕ → Bool) → SoFar before w given lists t.old → length (live t.old.handles.places.items) ≤ length w.rows → SoFar before w (λ q. given q || (q == handle.0 && is_owned_in w (owners.Load load) q)) lists t.new }
+    ensures so_far { (before w : Core) (given : ℕ → Bool) → SoFar before w given lists t.old → length (live t.old.handles.places.items) ≤ length w.rows
+        → SoFar before w (λ q. given q || (q == handle.0 && is_owned_in w (owners.Load load) q)) lists t.new }
 {
     let Some(at) = handles::look(&t.handles, handle) else {
         return;
@@ -44,7 +45,8 @@ pub fn give_next(t: &mut Holdings, load: LoadNumber, handle: HandleNumber, lists
 fn give_each(t: &mut Holdings, load: LoadNumber, since: u64, lists: bool)
     requires { IsFalling t.old [] owns_nothing }
     ensures steady { IsFalling t.new [] owns_nothing }
-    ensures so_far { (before w : Core) → SoFar before w nobody lists t.old → length (live t.old.handles.places.items) ≤ length w.rows → ((q : ℕ) → is_owned_in w (owners.Load load) q ≡ true → (since < q) × (q ≤ t.old.last_handle)) → SoFar before w (is_owned_in w (owners.Load load)) lists t.new }
+    ensures so_far { (before w : Core) → SoFar before w nobody lists t.old → length (live t.old.handles.places.items) ≤ length w.rows → ((q : ℕ)
+        → is_owned_in w (owners.Load load) q ≡ true → (since < q) × (q ≤ t.old.last_handle)) → SoFar before w (is_owned_in w (owners.Load load)) lists t.new }
 {
     for past in since..t.last_handle {
         give_next(t, load, HandleNumber(past + 1), lists);
@@ -60,7 +62,8 @@ pub fn give_up_load(
 ) -> Result<(), Error>
     requires { IsFalling t.old [] owns_nothing }
     ensures steady { IsFalling t.new [] owns_nothing }
-    ensures falls { (before w : Core) → SoFar before w nobody lists (record t.old { unlisted = None }) → length (live t.old.handles.places.items) ≤ length w.rows → ((q : ℕ) → is_owned_in w (owners.Load load) q ≡ true → (since < q) × (q ≤ t.old.last_handle)) → Falls before w (is_owned_in w (owners.Load load)) result (with_tables w t.new) }
+    ensures falls { (before w : Core) → SoFar before w nobody lists (record t.old { unlisted = None }) → length (live t.old.handles.places.items) ≤ length w.rows → ((q : ℕ)
+        → is_owned_in w (owners.Load load) q ≡ true → (since < q) × (q ≤ t.old.last_handle)) → Falls before w (is_owned_in w (owners.Load load)) result (with_tables w t.new) }
 {
     t.unlisted = None;
     give_each(t, load, since, lists);
@@ -72,7 +75,8 @@ pub fn give_up_load(
 pub fn load_drop(t: &mut Tables, me: Owner, load: LoadNumber, lists: bool) -> Result<(), Error>
     requires whole { IsWhole t.old }
     requires later { AreLater t.old }
-    ensures dropped { (stored : ℕ → Option Blob) (closed : Bool) (failures : ℕ) → lists ≡ not closed → DropCall (core_of t.old stored closed failures) me load result (core_of t.new stored closed failures) }
+    ensures dropped { (stored : ℕ → Option Blob) (closed : Bool) (failures : ℕ) → lists ≡ not closed
+        → DropCall (core_of t.old stored closed failures) me load result (core_of t.new stored closed failures) }
     ensures whole { IsWhole t.new }
     ensures later { AreLater t.new }
 {
@@ -106,7 +110,8 @@ pub fn load_take(
 ) -> Result<(), Error>
     requires whole { IsWhole t.old }
     requires later { AreLater t.old }
-    ensures taken { (stored : ℕ → Option Blob) (closed : Bool) (failures : ℕ) → lists ≡ not closed → HandOverCall (core_of t.old stored closed failures) me load named.now result (core_of t.new stored closed failures) }
+    ensures taken { (stored : ℕ → Option Blob) (closed : Bool) (failures : ℕ) → lists ≡ not closed
+        → HandOverCall (core_of t.old stored closed failures) me load named.now result (core_of t.new stored closed failures) }
     ensures whole { IsWhole t.new }
     ensures later { AreLater t.new }
 {

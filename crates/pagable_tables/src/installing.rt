@@ -8,12 +8,11 @@ ghost use Rattle.pagable_world.specs.Refusals.{where_so, spent};
 ghost use Rattle.pagable_tables.specs.Core.{core_of, IsWhole};
 
 use crate::causes::{earlier, load_fault, refused_if};
-use crate::handles;
-use crate::loads;
 use crate::references::references_fault;
 use crate::rows::LoadRoot;
 use crate::tables::Tables;
 use crate::turning::is_owner;
+use crate::{handles, loads};
 use pagable_model::{ArcRef, Error, HandleNumber, LoadNumber};
 use pagable_world::handles::Owner;
 

@@ -71,7 +71,8 @@ fn open_cell(
     requires load { t.old.last_load < greatest }
     requires handle { t.old.holdings.last_handle < greatest }
     ensures next { IfOk result (λ l. (stored : ℕ → Option Blob) (closed : Bool) (failures : ℕ) → IsNextLoad l (core_of t.old stored closed failures)) }
-    ensures opened { IfOk result (λ l. (stored : ℕ → Option Blob) (closed : Bool) (failures : ℕ) → Alike (with_load (with_handle (core_of t.old stored closed failures) at.row.node modes.LooseUnpinned (owners.Load l)) key (of_cell at.row.node node_type at.row.number) me) (core_of t.new stored closed failures)) }
+    ensures opened { IfOk result (λ l. (stored : ℕ → Option Blob) (closed : Bool) (failures : ℕ)
+        → Alike (with_load (with_handle (core_of t.old stored closed failures) at.row.node modes.LooseUnpinned (owners.Load l)) key (of_cell at.row.node node_type at.row.number) me) (core_of t.new stored closed failures)) }
     ensures refused { IfErr result (λ e. e ≡ errors.OutOfMemory) }
     ensures stays { IfErr result (λ e. (stored : ℕ → Option Blob) (closed : Bool) (failures : ℕ) → Alike (core_of t.old stored closed failures) (core_of t.new stored closed failures)) }
     ensures steady { IsFalling t.new.holdings [] owns_nothing }

@@ -1,4 +1,4 @@
-use Rattle.std.proofs.Common.{◌≡◌, ap, ◌∙◌, Some, None}
+use Rattle.std.proofs.Common.{ap, ◌∙◌, Some, None}
 use Rattle.std.specs.Prelude.{not}
 use Rattle.std.specs.Option.{option_map}
 use Rattle.pagable_model.specs.declared.error.Error.TheVariants as errors
@@ -19,4 +19,4 @@ returns c stored closed failures =
     let fit = c.references_fault-fit.ensures stored closed failures in
     c.earlier-2.ensures ∙ ap (λ x. earlier x c.earlier.result) own
     ∙ ap (earlier (load_fault w me c.args.load))
-        (c.earlier.ensures ∙ ap (λ x. earlier x c.references_fault-fit.result) root ∙ ap (earlier (if_there (λ (load : OpenLoad). root_fault w me c.args.node_type load.root) None (w.loads c.args.load.0))) fit)
+    (c.earlier.ensures ∙ ap (λ x. earlier x c.references_fault-fit.result) root ∙ ap (earlier (if_there (λ (load : OpenLoad). root_fault w me c.args.node_type load.root) None (w.loads c.args.load.0))) fit)
