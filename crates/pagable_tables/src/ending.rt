@@ -1,11 +1,13 @@
 //! Loads that end: what they still own is given up.
 
-ghost use Rattle.std.specs.Prelude.{◌≡◌, ℕ, ◌<◌, ◌≤◌, ◌==◌, ◌&&◌, ◌||◌, [], length, Bool, true, None, Option, not};
+ghost use Rattle.std.specs.Prelude.{◌≡◌, ℕ, ◌<◌, ◌≤◌, ◌==◌, ◌&&◌, ◌||◌, [], length, Bool, true, None, Some, Option, not};
 ghost use Rattle.pagable_world.specs.declared.handles.Owner.TheVariants as owners;
 ghost use Rattle.pagable_world.specs.Plain.{Blob};
 ghost use Rattle.pagable_world.specs.World.{Core};
 ghost use Rattle.pagable_world.specs.Cascade.{Falls, nobody};
-ghost use Rattle.pagable_world.specs.LoadCalls.{is_owned_in, hand_over_fault, DropCall, HandOverCall};
+ghost use Rattle.pagable_world.specs.LoadCalls.{is_owned_in, hand_over_fault, LoadCloses, DropCall, HandOverCall};
+ghost use Rattle.pagable_tables.specs.ByNumber.{load_at};
+ghost use Rattle.pagable_tables.specs.declared.rows.LoadRow.{LoadRow};
 ghost use Rattle.pagable_tables.specs.Live.{live};
 ghost use Rattle.pagable_tables.specs.Falling.{IsFalling, owns_nothing};
 ghost use Rattle.pagable_tables.specs.Onward.{with_tables, SoFar};
@@ -17,6 +19,7 @@ use crate::causes::{cell_fault, earlier, load_fault};
 use crate::handing::{hand_each, named_fault};
 use crate::holdings::Holdings;
 use crate::loading::load_row;
+use crate::rows::LoadRow;
 use crate::tables::Tables;
 use crate::turning::is_owner;
 use crate::{handles, holdings, loads};
@@ -70,6 +73,20 @@ pub fn give_up_load(
     fall(t, lists)
 }
 
+/// The open load of this row is closed, and gives up what it still owns. NumbersSpent or OutOfMemory where a cell that had to be listed isn't.
+pub fn close_load(t: &mut Tables, load: LoadNumber, row: LoadRow, lists: bool) -> Result<(), Error>
+    requires whole { IsWhole t.old }
+    requires later { AreLater t.old }
+    requires row { load_at t.old.loads load.0 ≡ Some row }
+    ensures closes { (stored : ℕ → Option Blob) (closed : Bool) (failures : ℕ) → lists ≡ not closed
+        → LoadCloses (core_of t.old stored closed failures) load result (core_of t.new stored closed failures) }
+    ensures steady { IsFalling t.new.holdings [] owns_nothing }
+    ensures loads { (l : ℕ) (other : LoadRow) → load_at t.new.loads l ≡ Some other → load_at t.old.loads l ≡ Some other }
+{
+    loads::close(&mut t.loads, load.0);
+    give_up_load(&mut t.holdings, load, row.since, lists)
+}
+
 /// An open load is given up, with all that it owns. NoSuchHandle where none is open, NotYours where another began it. NumbersSpent or OutOfMemory where a cell that
 /// had to be listed isn't.
 pub fn load_drop(t: &mut Tables, me: Owner, load: LoadNumber, lists: bool) -> Result<(), Error>
@@ -84,8 +101,7 @@ pub fn load_drop(t: &mut Tables, me: Owner, load: LoadNumber, lists: bool) -> Re
         Ok(row) => row,
         Err(e) => return Err(e),
     };
-    loads::close(&mut t.loads, load.0);
-    give_up_load(&mut t.holdings, load, row.since, lists)
+    close_load(t, load, row, lists)
 }
 
 /// Why a load of a key can't hand over the handles that are named, if it can't.

@@ -1,42 +1,23 @@
-use Rattle.std.proofs.Common.{arith, refl, inl, inr, None, not}
-use Rattle.pagable_world.specs.declared.handles.Owner.TheVariants as owners
-use Rattle.pagable_world.specs.LoadCalls.{is_owned_in, without_load}
-use Rattle.pagable_tables.specs.ByNumber.{load_at}
-use Rattle.pagable_tables.specs.Core.{core_of, plain_of, load_in}
-use Rattle.pagable_tables.specs.Onward.{with_tables}
-use Rattle.pagable_tables.proofs.Dropped.{load-closed, begun-less, owned-given, loads-anew}
-use Rattle.pagable_tables.proofs.Worlds.{still}
+use Rattle.std.proofs.Common.{refl, inl, inr, None, not}
+use Rattle.pagable_tables.specs.Core.{load_in}
 use Rattle.pagable_tables.proofs.Begun.{not-closed}
+use Rattle.pagable_tables.proofs.Newer.{drop-newer, later-so}
+use Rattle.pagable_tables.proofs.Worlds.{still}
 use Rattle.pagable_tables.proofs.keeps.EndCalls.{drop-whole}
 use Rattle.pagable_tables.proofs.keeps.Placed.{whole-so}
-use Rattle.pagable_tables.proofs.Newer.{drop-newer, later-so, closed-still}
 use Rattle.pagable_tables.proofs.ending.load_drop.Goals as goal
 
 pub returns-in-Err-clause-dropped : goal.returns-in-Err-clause-dropped
 returns-in-Err-clause-dropped c stored closed failures e = record { does = inl (record { e = c.in-Err.e; why = c.in-Err.ensures.fault stored closed failures; told = refl; stays = still _ }) }
 
 pub returns-clause-dropped : goal.returns-clause-dropped
-returns-clause-dropped c stored closed failures e =
-    let t = c.args.t.now in
-    let l = c.args.load in
-    let w = core_of t stored closed failures in
-    let w' = core_of (record t { holdings = c.give_up_load.new.t; loads = c.close.new.loads }) stored closed failures in
-    let u = without_load w l in
-    let falls = c.give_up_load.ensures.falls w u (begun-less t l stored closed c.args.lists failures c.requires.whole e) (omega arith)
-    (λ q own. (c.requires.later.since l.0 c.in-Ok.row q c.in-Ok.ensures.row own, owned-given (plain_of t) (owners.Load l) q c.requires.whole.core.handles own)) in
-    record {
-      does = inr (
-        load_in c.in-Ok.row,
-        c.in-Ok.ensures.own stored closed failures,
-        loads-anew w u (with_tables u c.give_up_load.new.t) (is_owned_in w (owners.Load l)) c.give_up_load.result w'.loads (load-closed (load_at t.loads) (load_at c.close.new.loads) l.0 c.close.ensures.gone c.close.ensures.others) falls,
-      );
-    }
+returns-clause-dropped c stored closed failures e = record { does = inr (load_in c.in-Ok.row, c.in-Ok.ensures.own stored closed failures, c.close_load.ensures.closes stored closed failures e) }
 
 pub returns-clause-whole : goal.returns-clause-whole
-returns-clause-whole c = whole-so c.give_up_load.ensures.steady (drop-whole c.args.me c.args.load c.give_up_load.result c.requires.whole.core (returns-clause-dropped c (λ key. None) (not c.args.lists) 0 (not-closed c.args.lists)))
+returns-clause-whole c =
+    whole-so c.close_load.ensures.steady (drop-whole c.args.me c.args.load c.close_load.result c.requires.whole.core (returns-clause-dropped c (λ key. None) (not c.args.lists) 0 (not-closed c.args.lists)))
 
 pub returns-clause-later : goal.returns-clause-later
 returns-clause-later c =
-    let t = c.args.t.now in
-    let n = drop-newer c.args.me c.args.load c.give_up_load.result (returns-clause-dropped c (λ key. None) (not c.args.lists) 0 (not-closed c.args.lists)) in
-    later-so c.requires.later (record { last = n.last; owned = n.owned }) (closed-still (load_at t.loads) (load_at c.close.new.loads) c.args.load.0 c.close.ensures.gone c.close.ensures.others)
+    let n = drop-newer c.args.me c.args.load c.close_load.result (returns-clause-dropped c (λ key. None) (not c.args.lists) 0 (not-closed c.args.lists)) in
+    later-so c.requires.later (record { last = n.last; owned = n.owned }) c.close_load.ensures.loads
