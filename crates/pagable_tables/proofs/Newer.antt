@@ -12,8 +12,6 @@ use Rattle.pagable_world.specs.declared.handles.Owner.{Owner}
 use Rattle.pagable_world.specs.declared.handles.Owner.TheVariants as owners
 use Rattle.pagable_world.specs.declared.rows.Mode.{Mode}
 use Rattle.pagable_world.specs.declared.rows.Mode.TheVariants as modes
-use Rattle.pagable_world.specs.declared.answers.Beginning.{Beginning}
-use Rattle.pagable_world.specs.declared.answers.Beginning.TheVariants as beginnings
 use Rattle.pagable_world.specs.declared.answers.Pinning.{Pinning}
 use Rattle.pagable_world.specs.declared.answers.Pinning.TheVariants as pinnings
 use Rattle.pagable_model.specs.declared.numbers.Kind.{Kind}
@@ -25,9 +23,9 @@ use Rattle.pagable_world.specs.Kinds.{is_handle, is_owner, is_owned_by, owner_va
 use Rattle.pagable_world.specs.World.{Core, Last, Alike}
 use Rattle.pagable_world.specs.Pager as pager
 use Rattle.pagable_world.specs.Cascade.{Falls}
-use Rattle.pagable_world.specs.Calls.{with_handle, with_node, next_node, with_cached, with_cached_if_open, is_named_by, moved, with_mode, RecallCall, LoosenCall, PinCall, UnpinCall, ReleaseCall, SetKeyCall, ScheduleCall, TakeCall, OfferCall}
+use Rattle.pagable_world.specs.Calls.{with_handle, with_node, next_node, with_cached, with_cached_if_open, is_named_by, moved, with_mode, LoosenCall, PinCall, UnpinCall, ReleaseCall, SetKeyCall, ScheduleCall, TakeCall, OfferCall}
 use Rattle.pagable_world.specs.Cascade.{only_handle}
-use Rattle.pagable_world.specs.LoadCalls.{is_owned_in, numbers_of, adopted, first_key, DropCall, HandOverCall, BeginCall, LazyCall}
+use Rattle.pagable_world.specs.LoadCalls.{is_owned_in, numbers_of, adopted, first_key, DropCall, HandOverCall, LazyCall}
 use Rattle.pagable_tables.specs.declared.rows.LoadRow.{LoadRow}
 use Rattle.pagable_tables.specs.declared.tables.Tables.{Tables}
 use Rattle.pagable_tables.specs.ByNumber.{load_at}
@@ -151,19 +149,6 @@ take-newer {w} me l hs (Ok u) other call =
     let m = newer-moved w (is_in (numbers_of hs)) me other in
     newer-then m (record { last = n.last; owned = n.owned })
 take-newer me l hs (Err e) other call = newer-alike call.refused.1
-
-pub begin-newer : {w w' : Core} (me : Owner) (h : HandleNumber) (r : Result Beginning Error) → BeginCall w me h r w' → OnlyNewer w w'
-begin-newer me h (Ok beginnings.InMemory) call = newer-alike call.begins.2.1
-begin-newer {w} me h (Ok (beginnings.Load l key)) call =
-    let (row, own, begins) = call.begins in
-    let n = newer-alike begins.4.2 in
-    newer-then (newer-handle w row.node modes.LooseUnpinned (owners.Load l)) (record { last = n.last; owned = n.owned })
-begin-newer me h (Err e) call = newer-alike call.refused.stays
-
-pub recall-newer : {w w' : Core} (me : Owner) (kind : Kind) (key : ℕ) (r : Result (Option HandleNumber) Error) → RecallCall w me kind key r w' → OnlyNewer w w'
-recall-newer {w} me kind key (Ok (Some k)) call = let (n, is, next, leaves) = call.answers in newer-then (newer-handle w (record { 0 = n }) (mode_of kind.0) me) (newer-alike leaves)
-recall-newer me kind key (Ok None) call = newer-alike call.answers.1
-recall-newer me kind key (Err e) call = newer-alike call.refused.stays
 
 pub makes-newer : {w w' : Core} (node : NodeNumber) (mode : Mode) (owner : Owner) (r : Result HandleNumber Error) → Makes w node mode owner r w' → OnlyNewer w w'
 makes-newer {w} node mode owner (Ok k) m = newer-then (newer-handle w node mode owner) (newer-alike m.made.1)

@@ -57,7 +57,3 @@ rises-set f xs i x y ordered at same j k d less within =
     let b = number-set f xs i x y k d at same lt in
     let c = ordered j k d less lt in
     omega arith
-
-pub greater-from-row : {A : Type 0} (f : A → ℕ) (xs : List A) (m q : ℕ) (x : A) → AllPairs (λ a b. f a < f b) xs → m < length xs → x ≡ get_or xs m x → q ≤ f x → (f x ≡ q → ⊥)
-    → (k : ℕ) (d : A) → m ≤ k → k < length xs → q < f (get_or xs k d)
-greater-from-row f xs m q x ordered lt e more other = let is = ap f e in greater-from f xs m q x ordered lt (omega arith) (λ s. other (is ∙ s))

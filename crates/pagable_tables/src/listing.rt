@@ -24,13 +24,6 @@ use pagable_model::{Error, HandleNumber};
 use pagable_world::handles::Owner;
 use std::sync::Arc;
 
-/// How many cells wait for page-out.
-pub fn pending_len(t: &Tables) -> usize
-    ensures { result ≡ length t.now.holdings.list.items }
-{
-    t.holdings.list.len()
-}
-
 /// A loose unpinned handle moves to the list's end, while cells are listed; otherwise it is given up, with all that goes with it. It is refused where it isn't an
 /// own handle of that mode, or the list has no place.
 pub fn schedule_for_paging<N: Drop>(

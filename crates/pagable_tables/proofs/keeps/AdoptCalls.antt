@@ -9,8 +9,6 @@ use Rattle.pagable_model.specs.declared.numbers.ArcRef.{ArcRef}
 use Rattle.pagable_model.specs.declared.numbers.HandleNumber.{HandleNumber}
 use Rattle.pagable_model.specs.declared.numbers.Kind.{Kind}
 use Rattle.pagable_model.specs.declared.numbers.LoadNumber.{LoadNumber}
-use Rattle.pagable_world.specs.declared.calls.Want.{Want}
-use Rattle.pagable_world.specs.declared.calls.Want.TheVariants as wants
 use Rattle.pagable_world.specs.declared.handles.Owner.{Owner}
 use Rattle.pagable_world.specs.declared.handles.Owner.TheVariants as owners
 use Rattle.pagable_world.specs.Plain.{Blob, type_of, is_loose_kind}
@@ -18,7 +16,7 @@ use Rattle.pagable_world.specs.Kinds.{is_shared, mode_of, has_key}
 use Rattle.pagable_world.specs.World.{Core, greatest}
 use Rattle.pagable_world.specs.Refusals.{references_fault, OwnsLoad}
 use Rattle.pagable_world.specs.Calls.{row_of, next_node, with_handle, with_node, with_cached, FetchCall, is_named_by}
-use Rattle.pagable_world.specs.LoadCalls.{AskCall, Given, from_cache, from_store, GetsKnown, adopted, first_key, LazyCall, AdoptCall}
+use Rattle.pagable_world.specs.LoadCalls.{GetsKnown, adopted, first_key, LazyCall, AdoptCall}
 use Rattle.pagable_world.specs.Pager.{IsWhole, IsEntryWhole}
 use Rattle.pagable_tables.specs.Core.{ArePlaced, MayHold}
 use Rattle.pagable_tables.proofs.keeps.Rows.{among-last}
@@ -39,22 +37,6 @@ fetch-whole key r whole call placed = let a = call.asked.leaves in told-whole wh
 gets-whole : {w w' : Core} (l : LoadNumber) (kind : Kind) (key : ℕ) (k : HandleNumber) → IsWhole (opened w) → MayHold w (owners.Load l) → GetsKnown w l kind key k w' → ArePlaced (opened w')
     → IsWhole (opened w')
 gets-whole l kind key k whole holder gets placed = settles (known-whole kind key gets.n (owners.Load l) whole gets.known holder gets.next.is_left) (alike-opened gets.leaves) placed
-
-pub ask-whole : {w w' : Core} (me : Owner) (l : LoadNumber) (want : Want) (r : Result Given Error) → IsWhole (opened w) → AskCall w me l want r w' → ArePlaced (opened w') → IsWhole (opened w')
-ask-whole me l wants.Root (Ok (from_store blob)) whole call placed = let (load, owns, asks) = call.gives in fetch-whole load.key (Ok blob) whole asks placed
-ask-whole me l wants.Root (Ok (from_cache k)) whole call placed = absurd call.gives.2
-ask-whole me l (wants.Nested kind key) (Ok (from_cache k)) whole call placed = let (load, owns, asks) = call.gives in gets-whole l kind key k whole (load-holds load owns) asks placed
-ask-whole me l (wants.Nested kind key) (Ok (from_store blob)) whole call placed = let (load, owns, asks) = call.gives in fetch-whole key (Ok blob) whole asks.1 placed
-ask-whole me l wants.Root (Err e) whole call placed = elim call.refused [
-  | inl refused ↦ alike-whole whole (alike-opened refused.stays) placed
-  | inr (load, owns, asks) ↦ fetch-whole load.key
-      (Err e) whole asks placed
-]
-ask-whole me l (wants.Nested kind key) (Err e) whole call placed = elim call.refused [
-  | inl refused ↦ alike-whole whole (alike-opened refused.stays) placed
-  | inr (load, owns, asks) ↦ fetch-whole key
-      (Err e) whole asks.1 placed
-]
 
 -- ---- a node that was read
 
