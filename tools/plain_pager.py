@@ -225,7 +225,7 @@ class Tables:
     """Cells, handles, the list, the cache and open loads by their numbers, and the steps that calls share."""
 
     def __init__(self, storage):
-        self.storage, self.closed = storage, False
+        self.storage, self.closed = storage, storage.closed
         self.cells, self.handles, self.loads, self.cache, self.list = {}, {}, {}, {}, []
         self.last_node = self.last_handle = self.last_load = 0
 
@@ -312,7 +312,8 @@ class Tables:
             self.drop(self.cells.pop(handle.node).value)
 
     def drop(self, value):
-        for _, number in value.references if value else []:
+        """What a value refers to falls, the last first. The order is open: it tells alone in which order cells are listed."""
+        for _, number in reversed(value.references if value else []):
             self.fall(number)
 
     def settle(self, node):
@@ -353,12 +354,12 @@ class Loads(Tables):
         """The type of the root is known to a machine alone."""
         self.last_load += 1
         self.loads[self.last_load] = Load(None, None, key, node_type)
-        return self.last_load
+        return Begun(self.last_load, key)
 
     def load_fetch(self, load, kind=None, key=None):
         """The root's blob, if no kind is told. Else a handle of what the cache has, or the blob under the key."""
         row = self.open(load)
-        node = None if kind is None or is_lazy(kind) else self.usable(kind, key)
+        node = None if kind is None else self.usable(kind, key)
         if node is not None:
             return self.give(node, mode_of(kind), ("load", load))
         return self.storage.fetch(row.key if kind is None else key)
@@ -495,8 +496,13 @@ class Pager(Loads):
         return None if handle.mode == LOOSE_UNPINNED else self.cells[handle.node].value
 
     def schedule_for_paging(self, number):
-        self.own(number, LOOSE_UNPINNED).owner = LIST
-        self.list.append(number)
+        """Once the pager is closed the handle falls."""
+        handle = self.own(number, LOOSE_UNPINNED)
+        if self.closed:
+            self.fall(number)
+        else:
+            handle.owner = LIST
+            self.list.append(number)
 
     def pending(self):
         return len(self.list)
@@ -513,8 +519,10 @@ class Pager(Loads):
         return "none" if node is None else self.give(node, mode_of(kind))
 
     def on_arc_deserialized(self, kind, key, number):
-        """None, and the node is recorded; or a handle of what the cache has, and then the other falls."""
+        """None, and the node is recorded; or a handle of what the cache has, and then the other falls. Once the pager is closed, the handle itself."""
         refuse_first([self.cause(number, CALLER, modes_of(kind), type_of(kind))])
+        if self.closed:
+            return number
         node = self.usable(kind, key)
         if node is None:
             self.record(kind, key, number)

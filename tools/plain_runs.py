@@ -188,7 +188,7 @@ class Run:
         return {"value": None if value is None else RunTypes.told(value, self.pager)}
 
     def do_read(self, step, names):
-        value = self.machine.finish(self.machine.load_key(int(step["key"]), step["type"]))
+        value = self.machine.finish(self.machine.load_key(int(step["key"]), step["type"]).load)
         given = [number for _, number in value.references]
         self.numbers.update(zip(names or [], given))
         return {"value": RunTypes.told(value, self.pager), "as": names if len(names or []) == len(given) else given}

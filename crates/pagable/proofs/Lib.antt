@@ -1,3 +1,4 @@
+pub mod Alone
 pub mod Carrying
 pub use Rattle.pagable_codec.proofs.Adding
 pub use Rattle.pagable_codec.proofs.Reading

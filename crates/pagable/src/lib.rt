@@ -6,6 +6,7 @@
 #![tactic(auto)]
 
 pub mod laws;
+pub mod paging;
 
 /// The numbers of cells and handles, and the references that values hold.
 pub mod arc_erase {
@@ -36,19 +37,14 @@ pub mod impls {
     pub use pagable_traits::{PathText, Thin, serialize_slice, serialize_str};
 }
 
-/// The pager, and the machine that drives it by events.
+/// The pager, and the machine that takes lists of its calls.
 pub mod pagable_arc {
-    pub use pagable_machine::{
-        EventReply, Found, LoadAnswer, LoadReply, Machine, MachineCall, MachineEvent, Reply,
-        read_value,
-    };
+    pub use crate::paging::read_value;
+    pub use pagable_machine::Machine;
     pub use pagable_model::{LoadNumber, WorkerNumber};
-    pub use pagable_pager::{Beginning, Mode, Owner, Pager, Pinning, Want};
-}
-
-/// Pinning and page-out by the pure calls of the pager, one after the other, for values without references.
-pub mod paging {
-    pub use pagable_machine::paging::{page_out_pending, pin};
+    pub use pagable_pager::{ArcCell, DeserializedArcCache, Pager};
+    pub use pagable_world::handles::Owner;
+    pub use pagable_world::{Beginning, Call, Found, Mode, Pinning, Reply, Want};
 }
 
 /// The parts of which the bodies of a caller's own types are made.
@@ -109,13 +105,11 @@ pub use pagable_core::{
     Sha256Key, WeighHash,
 };
 pub use pagable_flavors::{DataKey, Error, OptionalDataKey, PagableSlice, PagableVecFlavor};
-pub use pagable_machine::{
-    EventReply, Found, LoadAnswer, LoadReply, Machine, MachineCall, MachineEvent, Reply, read_value,
-};
+pub use pagable_machine::Machine;
 pub use pagable_model::{
     ArcRef, HandleNumber, Identity, Kind, LoadNumber, NodeNumber, PagableCursor, WorkerNumber,
 };
-pub use pagable_pager::{Beginning, Mode, Owner, Pager, Pinning, Want};
+pub use pagable_pager::{ArcCell, DeserializedArcCache, Pager};
 pub use pagable_patterns::SavedRegex;
 pub use pagable_registries::{
     ForTag, HasStaticValueRegistry, HasTypetagRegistry, PagableRegisteredFor, PagableTagged,
@@ -129,3 +123,6 @@ pub use pagable_traits::{
     PagableSerializer, PathText, ReadBack, Reader, SessionContext, SessionMap, SessionValue, Thin,
     serialize_slice, serialize_str,
 };
+pub use pagable_world::handles::Owner;
+pub use pagable_world::{Beginning, Call, Found, Mode, Pinning, Reply, Want};
+pub use paging::read_value;

@@ -1,6 +1,8 @@
 -- No key is answered of what leads down too long a path, or to a value that has no form; and why a claim is too deep.
-use Rattle.std.proofs.Common.{◌≡◌, ℕ, ◌⊎◌, List, [], ◌∷◌, Some, Ok, Err, sym, subst, ◌∙◌}
+use Rattle.std.proofs.Common.{◌≡◌, ℕ, ◌⊎◌, inl, inr, List, [], ◌∷◌, Some, Ok, Err, sym, subst, ap, ◌∙◌}
 use Rattle.pagable_world.specs.Plain.{Identity, Tree}
+use Rattle.pagable_world.specs.declared.events.WorkerAnswer.{WorkerAnswer}
+use Rattle.pagable_world.specs.declared.events.WorkerAnswer.TheVariants as finals
 use Rattle.pagable_world.specs.declared.events.Event.{Event}
 use Rattle.pagable_world.specs.declared.events.Event.TheVariants as events
 use Rattle.pagable_world.specs.declared.events.EventReply.{EventReply}
@@ -8,17 +10,19 @@ use Rattle.pagable_world.specs.declared.events.EventReply.TheVariants as answers
 use Rattle.pagable_model.specs.declared.error.Error.TheVariants as errors
 use Rattle.pagable_world.specs.declared.events.Took.TheVariants as took
 use Rattle.pagable_world.specs.declared.events.Took.{Took}
-use Rattle.pagable_world.specs.World.{Todo, to_start, Walking, Seen, IsLawful}
+use Rattle.pagable_world.specs.World.{Shelf, Todo, to_start, Walking, Seen, IsLawful}
 use Rattle.pagable_world.specs.Workers.{Site, Does}
 use Rattle.pagable_world.specs.Events.{Happens}
+use Rattle.pagable_world.specs.Headline.{IsMetFailure}
 use Rattle.pagable_world.specs.Pager.{MachineState, world_of, IsMachineWhole, IsIdle, StandsFor}
 use Rattle.pagable_world.specs.Runs.{ReadsItsTypes, HoldsSettled, Moment, AreMoments, Fact, TreesAlong}
 use Rattle.pagable_world.specs.OneWorker.{IsTooDeepTask, IsFormlessTask, KeyIsShallow}
-use Rattle.pagable_laws.specs.DeepLaws.{ShallowLaw, WaitsForAsker, ClaimIsDeep, DeepClaimLaw}
+use Rattle.pagable_laws.specs.DeepLaws.{ShallowLaw, MetDepthAlone, DepthIsTold, ToldDepthLaw, WaitsForAsker, ClaimIsDeep, DeepClaimLaw}
 use Rattle.pagable_laws.specs.PageOutLaws.{ground_of, Walks, WorkFits}
 use Rattle.pagable_laws.proofs.Trees.{same_some}
-use Rattle.pagable_laws.proofs.Coming.{StandsIn, event-turns}
+use Rattle.pagable_laws.proofs.Coming.{StandsIn, event-turns, updated-at}
 use Rattle.pagable_laws.proofs.Answering.{answered}
+use Rattle.pagable_laws.proofs.Arriving.{headline_law}
 use Rattle.pagable_laws.proofs.Chains.{IsGoingOn, idle-goes, goes}
 use Rattle.pagable_laws.proofs.Standing.{AllStand, Covers}
 use Rattle.pagable_laws.proofs.Heights.{TodoLow}
@@ -49,6 +53,35 @@ module _ {N B W E : Type 0} (m : Seen N B W) (s s' : MachineState N E) (trees tr
   key-is-shallow events.TableNew reply is = tt
   key-is-shallow (events.WorkerItem t item) reply is = tt
   key-is-shallow (events.WorkerListed t i) reply is = tt
+
+-- what a worker answers that leads down so, and met no other refusal
+module _ {N B W E : Type 0} (m : Seen N B W) (s s' : MachineState N E) (trees trees' : ℕ → Tree) where
+  depth-is-told : (event : Event N B W) (reply : EventReply N B W) → Happens m (world_of s) event reply (world_of s') → KeyIsShallow m.values s trees event reply s' trees' → DepthIsTold m s trees event reply s' trees'
+  depth-is-told (events.WorkerStep n) (answers.WorkerMoved (Ok reply)) is shallow = λ start moments walking answer whole idle chain ends there e alone deep.
+      let w = is.moves in
+      let now : Walking = record w.walking { todo = w.after.todo; steps = reply.steps; answer = reply.answer } in
+      let at : s'.work.walkings n.0 ≡ Some now = w.work.same_walkings n.0 ∙ updated-at n.0 (Some now) s.work.walkings in
+      let right = headline_law E m start moments whole idle chain in
+      let met = (right.work.workers n.0 now (ap (λ (x : MachineState N E). x.work.walkings n.0) ends ∙ at)).met answer e in
+      of _ _ answer alone e met (not-key walking there deep)
+    where
+      not-key : (walking : Walking) → s.work.walkings n.0 ≡ Some walking → IsTooDeepTask trees walking.task ⊎ IsFormlessTask m.values.types trees walking.task → (key : ℕ) → ¬ (reply.answer ≡ Some (finals.Key key))
+      not-key walking there (inl long) key e = (shallow walking key there e).0 long
+      not-key walking there (inr formless) key e = (shallow walking key there e).1 formless
+
+      of : (shelf : Shelf) (steps : List (Took W)) (answer : WorkerAnswer) → MetDepthAlone steps → reply.answer ≡ Some answer → IsMetFailure shelf n.0 steps answer → ((key : ℕ) → ¬ (reply.answer ≡ Some (finals.Key key))) → answer ≡ finals.Failed errors.TooDeep
+      of shelf steps (finals.Key key) alone e met none = absurd (none key e)
+      of shelf steps (finals.Failed f) alone e (step, among, is) none = ap finals.Failed (alone.0 step f among is)
+      of shelf steps finals.AlreadyFailed alone e (i, among, elsewhere) none = absurd (alone.1 i among)
+  depth-is-told (events.WorkerStep n) (answers.WorkerMoved (Err e)) is shallow = tt
+  depth-is-told (events.WorkerStep n) reply is shallow = absurd is
+  depth-is-told (events.Call call) reply is shallow = tt
+  depth-is-told (events.LoadStart h) reply is shallow = tt
+  depth-is-told (events.LoadKey key t) reply is shallow = tt
+  depth-is-told (events.LoadStep l) reply is shallow = tt
+  depth-is-told events.TableNew reply is shallow = tt
+  depth-is-told (events.WorkerItem t item) reply is shallow = tt
+  depth-is-told (events.WorkerListed t i) reply is shallow = tt
 
 -- a claim that is refused as too deep
 module _ {N B W E : Type 0} (m : Seen N B W) (s s' : MachineState N E) (trees trees' : ℕ → Tree) (fit : WorkFits m.values s trees) (low : HeightsIn (world_of s)) (work : StandsIn (world_of s)) where
@@ -111,6 +144,11 @@ pub shallow_law : {N B W : Type 0} (E : Type 0) (m : Seen N B W) → ShallowLaw 
 shallow_law E m start moments trees whole idle chain stands lawful readable settled =
     along-first m lawful readable (KeyIsShallow m.values)
     (λ s s' trees trees' event reply on low is. key-is-shallow m s s' trees trees' on.fits low event reply is) start moments trees whole idle chain stands settled
+
+pub told_depth_law : {N B W : Type 0} (E : Type 0) (m : Seen N B W) → ToldDepthLaw E m
+told_depth_law E m start moments trees whole idle chain stands lawful readable settled =
+    along-first m lawful readable (DepthIsTold m)
+    (λ s s' trees trees' event reply on low is. depth-is-told m s s' trees trees' event reply is (key-is-shallow m s s' trees trees' on.fits low event reply is)) start moments trees whole idle chain stands settled
 
 pub deep_claim_law : {N B W : Type 0} (E : Type 0) (m : Seen N B W) → DeepClaimLaw E m
 deep_claim_law E m start moments trees whole idle chain stands lawful readable settled =

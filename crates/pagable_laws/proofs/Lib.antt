@@ -13,7 +13,7 @@ mod Merkle
 mod Tame
 mod Local
 mod Related
-mod Natural
+pub mod Natural
 mod Paths
 mod AnyOrder
 mod JsonNumbers
@@ -54,7 +54,7 @@ mod Bounded
 mod Failing
 mod Histories
 mod ClaimsMade
-mod Arriving
+pub mod Arriving
 mod Decoding
 mod Fitting
 mod Following

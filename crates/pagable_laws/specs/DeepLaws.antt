@@ -1,22 +1,26 @@
 -- The laws of paths that are too long and of values that have no form.
 use Rattle.std.specs.Prelude.{ℕ, ◌≡◌, ◌≢◌, ◌⊎◌, List, ◌∷◌, Some, Ok, Err}
+use Rattle.pagable_world.specs.declared.events.Claim.TheVariants as claims
+use Rattle.pagable_world.specs.declared.events.WorkerAnswer.TheVariants as finals
 use Rattle.pagable_model.specs.declared.error.Error.TheVariants as errors
 use Rattle.pagable_world.specs.declared.events.Event.TheVariants as events
 use Rattle.pagable_world.specs.declared.events.EventReply.TheVariants as answers
 use Rattle.pagable_world.specs.declared.events.LoadAnswer.TheVariants as ends
 use Rattle.pagable_world.specs.declared.events.Took.TheVariants as took
-use Rattle.pagable_world.specs.Plain.{Error, ArcRef, HandleNumber, Identity, Tree}
+use Rattle.pagable_world.specs.Plain.{Error, ArcRef, HandleNumber, Identity, Tree, Among}
+use Rattle.pagable_world.specs.declared.events.Took.{Took}
+use Rattle.pagable_world.specs.declared.events.WorkerAnswer.{WorkerAnswer}
 use Rattle.pagable_world.specs.World.{Shelf, Slot, Reading, Todo, to_load, Walking, OpenLoad, Values, Seen, IsLawful}
 use Rattle.pagable_world.specs.Events.{reading_at}
-use Rattle.pagable_world.specs.Order.{ReadsTooDeep}
+use Rattle.pagable_world.specs.Order.{ReadsTooDeep, MetError, steps_of}
 use Rattle.pagable_world.specs.Workers.{IsOpenSlot, ComesBack}
 use Rattle.pagable_world.specs.Pager.{MachineState, world_of, IsMachineWhole, IsIdle, StandsFor}
-use Rattle.pagable_world.specs.Runs.{ReadsItsTypes, HoldsSettled, Moment, AreMoments, Fact, TreesAlong}
-use Rattle.pagable_world.specs.OneWorker.{IsTooDeepTask, KeyIsShallow, IsOfChance, IsLoadOfPagedOut}
+use Rattle.pagable_world.specs.Runs.{ReadsItsTypes, HoldsSettled, Moment, AreMoments, state_after, events_of, replies_of, Fact, TreesAlong}
+use Rattle.pagable_world.specs.OneWorker.{IsTooDeepTask, IsFormlessTask, KeyIsShallow, IsOfChance, IsLoadOfPagedOut}
 
--- A worker answers no key of an item or cell that leads down too long a path or to a value that has no form, however loads and workers take turns.
-abbrev pub ShallowLaw : {N B W : Type 0} → (E : Type 0) → Seen N B W → Type 0
-ShallowLaw {N} {B} {W} E m =
+-- The fact holds of each event along every chain that begins at a whole machine for which nobody works yet.
+abbrev pub HoldsAlong : {N B W : Type 0} → (E : Type 0) → (m : Seen N B W) → Fact N E B W → Type 0
+HoldsAlong {N} {B} {W} E m P =
     (start : MachineState N E) (moments : List (Moment N E B W)) (trees : ℕ → Tree)
     → IsMachineWhole m.values start
     → IsIdle start
@@ -25,7 +29,11 @@ ShallowLaw {N} {B} {W} E m =
     → IsLawful m.values
     → ReadsItsTypes m.values.types
     → HoldsSettled m.values start.pager
-    → TreesAlong m (KeyIsShallow m.values) start trees moments
+    → TreesAlong m P start trees moments
+
+-- A worker answers no key of an item or cell that leads down too long a path or to a value that has no form, however loads and workers take turns.
+abbrev pub ShallowLaw : {N B W : Type 0} → (E : Type 0) → Seen N B W → Type 0
+ShallowLaw E m = HoldsAlong E m (KeyIsShallow m.values)
 
 -- another worker is at the identity, and waits for the worker
 pub record WaitsForAsker (shelf : Shelf) (n : ℕ) (i : Identity) : Type 0 where
@@ -45,16 +53,7 @@ ClaimIsDeep s trees event reply s' trees' = Unit {0}
 
 -- So it is along every chain, however loads and workers take turns.
 abbrev pub DeepClaimLaw : {N B W : Type 0} → (E : Type 0) → Seen N B W → Type 0
-DeepClaimLaw {N} {B} {W} E m =
-    (start : MachineState N E) (moments : List (Moment N E B W)) (trees : ℕ → Tree)
-    → IsMachineWhole m.values start
-    → IsIdle start
-    → AreMoments m start moments
-    → StandsFor m.values start trees
-    → IsLawful m.values
-    → ReadsItsTypes m.values.types
-    → HoldsSettled m.values start.pager
-    → TreesAlong m ClaimIsDeep start trees moments
+DeepClaimLaw E m = HoldsAlong E m ClaimIsDeep
 
 -- what is told of a handle: it is gone, another's, or of another mode or type
 abbrev pub IsOfHandles : Error → Type 0
@@ -72,16 +71,7 @@ LoadIsFaultless s trees event reply s' trees' = Unit {0}
 
 -- So it is along every chain, however loads and workers take turns.
 abbrev pub FaultlessLaw : {N B W : Type 0} → (E : Type 0) → Seen N B W → Type 0
-FaultlessLaw {N} {B} {W} E m =
-    (start : MachineState N E) (moments : List (Moment N E B W)) (trees : ℕ → Tree)
-    → IsMachineWhole m.values start
-    → IsIdle start
-    → AreMoments m start moments
-    → StandsFor m.values start trees
-    → IsLawful m.values
-    → ReadsItsTypes m.values.types
-    → HoldsSettled m.values start.pager
-    → TreesAlong m LoadIsFaultless start trees moments
+FaultlessLaw E m = HoldsAlong E m LoadIsFaultless
 
 -- A load of the caller's or of a worker's is refused as too deep only where the reading of its key comes to a blob that lies too deep, or to one that enters a level too many.
 abbrev pub LoadIsDeep : {N E B W : Type 0} → Values N → Fact N E B W
@@ -102,13 +92,29 @@ LoadIsDeep v s trees event reply s' trees' = Unit {0}
 
 -- So it is along every chain, however loads and workers take turns.
 abbrev pub DeepLoadLaw : {N B W : Type 0} → (E : Type 0) → Seen N B W → Type 0
-DeepLoadLaw {N} {B} {W} E m =
-    (start : MachineState N E) (moments : List (Moment N E B W)) (trees : ℕ → Tree)
+DeepLoadLaw E m = HoldsAlong E m (LoadIsDeep m.values)
+
+-- the worker was refused nothing but for depth, and nobody had failed where it came
+abbrev pub MetDepthAlone : {W : Type 0} → List (Took W) → Type 0
+MetDepthAlone {W} steps =
+    ((step : Took W) (e : Error) → Among steps step → MetError step e → e ≡ errors.TooDeep)
+    × ((i : Identity) → ¬ Among steps (took.Claim i (Ok claims.AlreadyFailed)))
+
+-- A worker whose item or cell leads down too long a path, or to a value that has no form, answers TooDeep, if it met no other refusal on its way, by whatever chain the machine came there.
+abbrev pub DepthIsTold : {N E B W : Type 0} → Seen N B W → Fact N E B W
+DepthIsTold {N} {E} {B} {W} m s trees (events.WorkerStep n) (answers.WorkerMoved (Ok reply)) s' trees' =
+    (start : MachineState N E) (moments : List (Moment N E B W)) (walking : Walking) (answer : WorkerAnswer)
     → IsMachineWhole m.values start
     → IsIdle start
     → AreMoments m start moments
-    → StandsFor m.values start trees
-    → IsLawful m.values
-    → ReadsItsTypes m.values.types
-    → HoldsSettled m.values start.pager
-    → TreesAlong m (LoadIsDeep m.values) start trees moments
+    → state_after start moments ≡ s'
+    → s.work.walkings n.0 ≡ Some walking
+    → reply.answer ≡ Some answer
+    → MetDepthAlone (steps_of n.0 (events_of moments) (replies_of moments))
+    → IsTooDeepTask trees walking.task ⊎ IsFormlessTask m.values.types trees walking.task
+    → answer ≡ finals.Failed errors.TooDeep
+DepthIsTold m s trees event reply s' trees' = Unit {0}
+
+-- So it is along every chain, however loads and workers take turns.
+abbrev pub ToldDepthLaw : {N B W : Type 0} → (E : Type 0) → Seen N B W → Type 0
+ToldDepthLaw E m = HoldsAlong E m (DepthIsTold m)

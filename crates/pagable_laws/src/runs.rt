@@ -2,7 +2,7 @@
 
 ghost use Rattle.pagable_world.specs.Headline.{HeadlineLaw};
 ghost use Rattle.pagable_world.specs.OneWorker.{OneIdentityLaw};
-ghost use Rattle.pagable_laws.specs.DeepLaws.{ShallowLaw, DeepClaimLaw, DeepLoadLaw, FaultlessLaw};
+ghost use Rattle.pagable_laws.specs.DeepLaws.{ShallowLaw, ToldDepthLaw, DeepClaimLaw, DeepLoadLaw, FaultlessLaw};
 ghost use Rattle.pagable_laws.specs.LoadLaws.{SoundLaw};
 
 use crate::world::SeenAs;
@@ -16,6 +16,12 @@ pub fn headline<N: SeenAs<B, W>, B, W, E>()
 #[tactic(auto, using(crate::proofs::Deeply::shallow_law))]
 pub fn keys_are_shallow<N: SeenAs<B, W>, B, W, E>()
     ensures { ShallowLaw E N.seen }
+{}
+
+/// A worker answers TooDeep of what leads down a path that is too long, or to a value that has no form, where it meets no other refusal on its way.
+#[tactic(auto, using(crate::proofs::Deeply::told_depth_law))]
+pub fn depth_is_told<N: SeenAs<B, W>, B, W, E>()
+    ensures { ToldDepthLaw E N.seen }
 {}
 
 /// A claim is refused as too deep only where its task leads down a path that is too long, or another worker is at it and waits for this one.

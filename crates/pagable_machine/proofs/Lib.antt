@@ -1,9 +1,2 @@
-pub mod Leading
-pub mod Alone
-pub mod Loads
-pub mod Closing
-pub mod Ending
-pub mod Fits
-pub mod Moving
+pub mod Nobody
 pub mod Running
-pub mod Pins

@@ -1,5 +1,2 @@
-pub mod Laws
-pub mod Reading
-pub mod Rows
-pub mod Moves
-pub mod Sights
+pub mod Serving
+pub mod Driving

@@ -1,18 +1,14 @@
 //! The machine: a pager that is driven by lists of events, each of them a step of the plain world.
 #![tactic(auto)]
 
+mod births;
+mod calls;
 mod events;
-mod fetched;
-pub mod laws;
+mod handles;
 mod list;
+mod loads;
+mod looks;
 pub mod machine;
-pub mod paging;
-pub mod reading;
-mod single;
-mod steps;
+mod stores;
 
 pub use machine::Machine;
-pub use pagable_world::{
-    EventReply, Found, LoadAnswer, LoadReply, MachineCall, MachineEvent, Reply,
-};
-pub use reading::read_value;

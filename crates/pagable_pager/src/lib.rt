@@ -1,8 +1,8 @@
-//! The pager: it keeps values in memory while a handle pins them, lists those that have no key, and opens the loads that
-//! bring the others back.
+//! The pager over the tables: values in memory while a handle pins them, in step with tables of who holds them, over a storage of blobs.
 #![tactic(auto)]
 
-pub mod pagable_arc;
+pub mod cache;
+pub mod pager;
 
-pub use pagable_arc::pager::{Pager, Want};
-pub use pagable_world::{Beginning, Mode, Owner, Pinning};
+pub use cache::{ArcCell, DeserializedArcCache};
+pub use pager::Pager;

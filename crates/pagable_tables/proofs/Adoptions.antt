@@ -1,6 +1,6 @@
 -- Why what a load has read can't become a node, and what becomes of it.
-use Rattle.std.proofs.Common.{◌≡◌, ℕ, ◌<◌, ◌≤◌, ◌==◌, ◌||◌, Bool, true, false, if◌then◌else◌, List, [], ◌∷◌, refl, ap, sym, ◌∙◌, arith, Ok, Err, Option, Some, None, inl, inr}
-use Rattle.std.specs.Prelude.{not, nat_lt, is_some, Result, IfOk, IfErr}
+use Rattle.std.proofs.Common.{◌≡◌, ℕ, ◌<◌, ◌≤◌, ◌==◌, ◌||◌, Bool, true, false, if◌then◌else◌, List, [], ◌∷◌, refl, ap, sym, ◌∙◌, arith, Ok, Option, Some, None, inl, inr}
+use Rattle.std.specs.Prelude.{not, nat_lt, is_some}
 use Rattle.std.proofs.lemmas.Bool.Decides.{nat_tests}
 use Rattle.pagable_model.specs.declared.error.Error.{Error}
 use Rattle.pagable_model.specs.declared.error.Error.TheVariants as errors
@@ -12,19 +12,22 @@ use Rattle.pagable_model.specs.declared.numbers.Kind.{Kind}
 use Rattle.pagable_world.specs.declared.handles.HandleRow.{HandleRow}
 use Rattle.pagable_world.specs.declared.handles.Owner.{Owner}
 use Rattle.pagable_world.specs.declared.handles.Owner.TheVariants as owners
-use Rattle.pagable_world.specs.Plain.{is_loose_kind, type_of, if_there, or_else, is_in}
+use Rattle.pagable_world.specs.Plain.{Blob, is_loose_kind, type_of, if_there, or_else, is_in}
 use Rattle.pagable_world.specs.Kinds.{is_owner, fits_mode, mode_of}
 use Rattle.pagable_world.specs.World.{Core, OpenLoad, greatest, row_at, type_at, usable, Alike}
 use Rattle.pagable_world.specs.Refusals.{rank, earlier, refused_if, spent, is_type, load_fault, reference_fault, references_fault, row_fault, OwnsLoad, Refused, AreHandlesFull}
 use Rattle.pagable_world.specs.Cascade.{FallsAnyhow}
 use Rattle.pagable_world.specs.Calls.{IsNext, with_handle, is_named_by, birth_fault}
-use Rattle.pagable_world.specs.LoadCalls.{node_fault, adopt_fault, adopted, first_key}
-use Rattle.pagable_tables.specs.Asking.{AdoptOf, early_fault}
+use Rattle.pagable_world.specs.LoadCalls.{node_fault, adopt_fault, adopted, first_key, Adopts}
+use Rattle.pagable_tables.specs.Asking.{early_fault}
+use Rattle.pagable_tables.specs.Bearing.{OnlyRoom}
 use Rattle.pagable_tables.proofs.Lazily.{node-late}
+use Rattle.pagable_tables.proofs.Readied.{fault-by, room-alike}
 use Rattle.pagable_tables.proofs.Opened.{load-low}
 use Rattle.pagable_tables.proofs.Worlds.{still, owner-same}
 use Rattle.pagable_world.specs.Pager as pager
-use Rattle.pagable_tables.specs.Core.{ArePlaced}
+use Rattle.pagable_tables.specs.declared.tables.Tables.{Tables}
+use Rattle.pagable_tables.specs.Core.{ArePlaced, core_of, plain_of}
 use Rattle.pagable_tables.proofs.keeps.AdoptCalls.{adopt-whole}
 use Rattle.pagable_tables.proofs.keeps.Opened.{opened}
 use Rattle.pagable_tables.proofs.keeps.EndCalls.{both-none}
@@ -108,8 +111,8 @@ module _ (w : Core) (me : Owner) (l : LoadNumber) (kind : Kind) (key node_type :
       (fit-early w (owners.Load l) [] refs) (node-late w kind key)
 
   -- one of the causes that come first
-  pub not-adopted : (e : Error) → early ≡ Some e → AdoptOf w me l kind key node_type refs (Err e) w
-  not-adopted e is = record { adopts = tt; refused = record { why = inl (cause ∙ ap (λ f. or_else f (node_fault w kind key)) is); stays = still w } }
+  pub not-adopted : (e : Error) → early ≡ Some e → Refused (adopt_fault w me l kind key node_type refs) (load_fault w me l) (Unit {0}) w e w
+  not-adopted e is = record { why = inl (cause ∙ ap (λ f. or_else f (node_fault w kind key)) is); stays = still w }
 
   module _ (good : early ≡ None) where
     parts : (load_fault w me l ≡ None) × (refused_if (is_loose_kind kind.0) errors.WrongMode ≡ None) × (refused_if (not (node_type == type_of kind.0)) errors.WrongKind ≡ None) × (references_fault w (owners.Load l) [] refs ≡ None)
@@ -128,6 +131,10 @@ module _ (w : Core) (me : Owner) (l : LoadNumber) (kind : Kind) (key node_type :
     pub owner-of : (load : OpenLoad) × OwnsLoad w me l load
     owner-of = owns-then w me l parts.0
 
+    -- memory is wanting
+    pub refused-memory : {w' : Core} → OnlyRoom w w' → Refused (adopt_fault w me l kind key node_type refs) (load_fault w me l) (Unit {0}) w errors.OutOfMemory w'
+    refused-memory room = record { why = inr (refl, parts.0, tt); stays = room-alike room }
+
     typed : node_type ≡ type_of kind.0
     typed = let a = not-so (not (node_type == type_of kind.0)) errors.WrongKind parts.2 in grind (arith, nat_tests)
 
@@ -135,24 +142,40 @@ module _ (w : Core) (me : Owner) (l : LoadNumber) (kind : Kind) (key node_type :
     left = cause ∙ ap (λ f. or_else f (node_fault w kind key)) good
 
     -- the cache gives a node
-    pub adopts-known : (node : NodeNumber) (r : Result HandleNumber Error) (w' : Core) → usable w kind.0 key ≡ Some node.0 → IfOk r (λ k. IsNext k w × FallsAnyhow w (with_handle w node (mode_of kind.0) (owners.Load l)) (is_named_by refs) w')
-        → IfErr r (λ e. Refused (spent w.last.handle) (spent w.last.handle) (AreHandlesFull w) w e w') → AdoptOf w me l kind key node_type refs r w'
-    adopts-known node (Ok k) w' is made refused =
-        record { adopts = record { load = owner-of.0; owned = owner-of.1; eager = eager; typed = typed; good = fitting; next = made.0; makes = inl (node.0, is, made.1) }; refused = tt }
-    adopts-known node (Err e) w' is made refused =
+    pub adopts-known : (node : NodeNumber) (k : HandleNumber) {w' : Core} → usable w kind.0 key ≡ Some node.0 → IsNext k w → FallsAnyhow w (with_handle w node (mode_of kind.0) (owners.Load l)) (is_named_by refs) w'
+        → Adopts w me l kind key node_type refs k w'
+    adopts-known node k is next falls = record { load = owner-of.0; owned = owner-of.1; eager = eager; typed = typed; good = fitting; next = next; makes = inl (node.0, is, falls) }
+
+    pub refused-known : (n : ℕ) {e : Error} {w' : Core} → usable w kind.0 key ≡ Some n → Refused (spent w.last.handle) (spent w.last.handle) (AreHandlesFull w) w e w'
+        → Refused (adopt_fault w me l kind key node_type refs) (load_fault w me l) (Unit {0}) w e w'
+    refused-known n is refused =
         let known : node_fault w kind key ≡ spent w.last.handle = ap (λ b. if b then spent w.last.handle else birth_fault w) (ap is_some is) in
-        record { adopts = tt; refused = record { why = elim refused.why [ inl a ↦ inl (left ∙ known ∙ a) | inr b ↦ inr (b.0, parts.0, tt) ]; stays = refused.stays } }
+        record { why = elim refused.why [ inl a ↦ inl (left ∙ known ∙ a) | inr b ↦ inr (b.0, parts.0, tt) ]; stays = refused.stays }
 
     -- it gives none
-    pub adopts-new : (r : Result HandleNumber Error) (w' : Core) → usable w kind.0 key ≡ None → IfOk r (λ k. (w.last.node < greatest) × IsNext k w) → IfOk r (λ k. Alike (adopted w l kind key (first_key kind.0 key) refs) w')
-        → IfErr r (λ e. Refused (birth_fault w) None (Unit {0}) w e w') → AdoptOf w me l kind key node_type refs r w'
-    adopts-new (Ok k) w' none next made refused =
-        record { adopts = record { load = owner-of.0; owned = owner-of.1; eager = eager; typed = typed; good = fitting; next = next.1; makes = inr (none, next.0, made) }; refused = tt }
-    adopts-new (Err e) w' none next made refused =
-        let fresh : node_fault w kind key ≡ birth_fault w = ap (λ b. if b then spent w.last.handle else birth_fault w) (ap is_some none) in
-        record { adopts = tt; refused = record { why = elim refused.why [ inl a ↦ inl (left ∙ fresh ∙ a) | inr b ↦ inr (b.0, parts.0, tt) ]; stays = refused.stays } }
+    module _ (none : usable w kind.0 key ≡ None) where
+      pub adopts-new : (k : HandleNumber) {w' : Core} → w.last.node < greatest → IsNext k w → Alike (adopted w l kind key (first_key kind.0 key) refs) w' → Adopts w me l kind key node_type refs k w'
+      adopts-new k node_left next made = record { load = owner-of.0; owned = owner-of.1; eager = eager; typed = typed; good = fitting; next = next; makes = inr (none, node_left, made) }
+
+      pub refused-new : {before : Option Error} {e : Error} {w' : Core} → Refused (birth_fault w) before (Unit {0}) w e w' → Refused (adopt_fault w me l kind key node_type refs) (load_fault w me l) (Unit {0}) w e w'
+      refused-new refused =
+          let fresh : node_fault w kind key ≡ birth_fault w = ap (λ b. if b then spent w.last.handle else birth_fault w) (ap is_some none) in
+          record { why = elim refused.why [ inl a ↦ inl (left ∙ fresh ∙ a) | inr b ↦ inr (b.0, parts.0, tt) ]; stays = refused.stays }
+
+-- room is nothing to the causes that come first
+pub early-past : {w w' : Core} (me : Owner) (l : LoadNumber) (kind : Kind) (node_type : ℕ) (refs : List ArcRef) → OnlyRoom w w' → early_fault w' me l kind node_type refs ≡ early_fault w me l kind node_type refs
+early-past {w} {w'} me l kind node_type refs o =
+    ap (λ (u : Core). early_fault u me l kind node_type refs) o.same
+    ∙ ap (λ x. earlier (load_fault w me l) (earlier (refused_if (is_loose_kind kind.0) errors.WrongMode) (earlier (refused_if (not (node_type == type_of kind.0)) errors.WrongKind) x)))
+    (fault-by w (record w { places = w'.places }) (owners.Load l) [] refs)
+
+-- nor is the storage
+pub early-stored : (t : Tables) (stored : ℕ → Option Blob) (closed : Bool) (failures : ℕ) (me : Owner) (l : LoadNumber) (kind : Kind) (node_type : ℕ) (refs : List ArcRef)
+    → early_fault (core_of t stored closed failures) me l kind node_type refs ≡ early_fault (plain_of t) me l kind node_type refs
+early-stored t stored closed failures me l kind node_type refs =
+    ap (λ x. earlier (load_fault (plain_of t) me l) (earlier (refused_if (is_loose_kind kind.0) errors.WrongMode) (earlier (refused_if (not (node_type == type_of kind.0)) errors.WrongKind) x)))
+    (fault-by (plain_of t) (core_of t stored closed failures) (owners.Load l) [] refs)
 
 -- it keeps the world whole
-pub adopt-of-whole : {w w' : Core} (me : Owner) (l : LoadNumber) (kind : Kind) (key node_type : ℕ) (refs : List ArcRef) (r : Result HandleNumber Error) → pager.IsWhole (opened w) → AdoptOf w me l kind key node_type refs r w' → ArePlaced (opened w') → pager.IsWhole (opened w')
-adopt-of-whole {w} {w'} me l kind key node_type refs (Ok k) whole call placed = adopt-whole {N = Unit {0}} me l kind key tt node_type refs (Ok k) whole (record { adopts = call.adopts; refused = tt }) placed
-adopt-of-whole {w} {w'} me l kind key node_type refs (Err e) whole call placed = adopt-whole {N = Unit {0}} me l kind key tt node_type refs (Err (e, tt)) whole (record { adopts = tt; refused = (refl, call.refused) }) placed
+pub adopts-whole : {w w' : Core} (me : Owner) (l : LoadNumber) (kind : Kind) (key node_type : ℕ) (refs : List ArcRef) (k : HandleNumber) → pager.IsWhole (opened w) → Adopts w me l kind key node_type refs k w' → ArePlaced (opened w') → pager.IsWhole (opened w')
+adopts-whole {w} {w'} me l kind key node_type refs k whole a placed = adopt-whole {N = Unit {0}} me l kind key tt node_type refs (Ok k) whole (record { adopts = a; refused = tt }) placed

@@ -64,7 +64,7 @@ begins t stored closed lists failures w e =
         | inl none ↦ inl none
         | inr all ↦ inr (let a = share-plain n (live t.holdings.handles.places.items) in omega arith)
       ];
-      listed = w.core.owners_there.listed;
+      listed = λ q. let a = w.core.owners_there.listed q in omega arith;
     }
 
 pub none-within : (s : ℕ → Bool) (rows : List HandleRow) → IsWithin rows nobody s

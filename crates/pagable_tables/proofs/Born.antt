@@ -92,7 +92,7 @@ module _ (w : Core) (me : Owner) (n : ℕ) (rs : List ArcRef) (ordered : AllPair
       let same : o.row ≡ h = cc in
       ap (λ (r : HandleRow). is_valued r.owner) (sym same) ∙ ap is_valued o.own ∙ unvalued
 
-  others-own : (m q : ℕ) → m ≢ n → sum_by (is_owned m q) (map to w.rows) ≡ sum_by (is_owned m q) w.rows
+  pub others-own : (m q : ℕ) → m ≢ n → sum_by (is_owned m q) (map to w.rows) ≡ sum_by (is_owned m q) w.rows
   others-own m q other = sum-map (is_owned m q) (is_owned m q) to w.rows (λ h among. by h among (is_named_by rs h.number.0) refl)
     where
       by : (h : HandleRow) → Among w.rows h → (b : Bool) → is_named_by rs h.number.0 ≡ b → is_owned m q (if b then owned-by (owner_value n) h else h) ≡ is_owned m q h

@@ -1,5 +1,7 @@
--- Handles are no more after one is given up.
-use Rattle.std.proofs.Common.{ℕ, ◌≤◌, Bool, true, false, if◌then◌else◌, List, length, ap, arith, inl, inr, Option}
+-- Handles are no more after one is given up, and the list has no more entries where cells aren't listed.
+use Rattle.std.proofs.Common.{◌≡◌, ℕ, ◌≤◌, Bool, true, false, if◌then◌else◌, List, [], ◌∷◌, ◌++◌, length, ap, ◌∙◌, arith, inl, inr, refl, Option}
+use Rattle.std.proofs.lemmas.List.{append-nil}
+use Rattle.pagable_model.specs.declared.numbers.HandleNumber.{HandleNumber}
 use Rattle.pagable_model.specs.declared.numbers.NodeNumber.{NodeNumber}
 use Rattle.pagable_world.specs.declared.handles.HandleRow.{HandleRow}
 use Rattle.pagable_tables.specs.declared.holdings.Holdings.{Holdings}
@@ -28,4 +30,19 @@ steps-fewer t new stack lists r s = elim s.what [
       let a = ap (λ (u : Holdings). length (live u.handles.places.items)) gone.3.same in
       let b = gives-fewer gone.3.popped new gone.3.stack gone.0 lists gone.3.gives in
       omega arith
+]
+
+none-came : (listed : Bool) (q : HandleNumber) → (listed ≡ true → false ≡ true) → (if listed then q ∷ [] else []) ≡ []
+none-came true q only = absurd (let e = only refl in cc)
+none-came false q only = refl
+
+pub gives-unlisted : (t new : Holdings) (stack : List ℕ) (x : HandleRow) → GivesUp t stack x false new → new.list.items ≡ t.list.items
+gives-unlisted t new stack x g =
+    ap (λ (u : Holdings). u.list.items) g.same ∙ g.leaves.lists.comes.list ∙ ap (λ (l : List HandleNumber). g.leaves.between.list.items ++ l) (none-came g.listed _ g.leaves.lists.only)
+    ∙ append-nil g.leaves.between.list.items ∙ ap (λ (u : Holdings). u.list.items) g.leaves.same
+
+pub steps-unlisted : (t new : Holdings) (stack : List ℕ) (r : Option NodeNumber) → Steps t stack false r new → new.list.items ≡ t.list.items
+steps-unlisted t new stack r s = elim s.what [
+  | inl done ↦ ap (λ (u : Holdings). u.list.items) done.1
+  | inr gone ↦ gives-unlisted gone.3.popped new gone.3.stack gone.0 gone.3.gives ∙ ap (λ (u : Holdings). u.list.items) gone.3.same
 ]

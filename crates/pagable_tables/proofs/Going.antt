@@ -42,7 +42,7 @@ kept-gone gone q (x ∷ xs) e =
           grind (arith, nat_tests)
     ]
 
-list-kept : (gone : ℕ → Bool) (q : ℕ) (rows : List HandleRow) (list : List HandleNumber) → times (λ (h : HandleNumber). h.0 == q) list ≡ times (of_list q) rows
+list-kept : (gone : ℕ → Bool) (q : ℕ) (rows : List HandleRow) (list : List HandleNumber) → times (λ (h : HandleNumber). h.0 == q) list ≤ times (of_list q) rows
     → times (λ h. of_list q h && not (gone h.number.0)) rows ≡ 0
     → filter (λ (h : HandleNumber). not (and_one gone q h.0)) list ≡ filter (λ (h : HandleNumber). not (gone h.0)) list
 list-kept gone q rows list listed none =
@@ -86,10 +86,30 @@ one-more : (listed : Bool) → (if listed then 1 else 0) ≤ 1
 one-more true = omega arith
 one-more false = omega arith
 
+-- A handle may go apart from the list: no entry that came has its number, and what is left of the list is the same without it.
+pub record IsApart (before w : Core) (given : ℕ → Bool) (lists : Bool) (t : Holdings) (f : SoFar before w given lists t) (q : ℕ) : Type 0 where
+  pub unentered : times (is_handle q) f.entries ≡ 0
+  pub kept : filter (λ (h : HandleNumber). not (and_one f.gone q h.0)) w.list ≡ filter (λ (h : HandleNumber). not (f.gone h.0)) w.list
+
+-- so may one that the list doesn't own
+pub unlisted-apart : (before w : Core) (given : ℕ → Bool) (lists : Bool) (t popped new : Holdings) (stack : List ℕ) (x : HandleRow) (f : SoFar before w given lists t) → GivesUp popped stack x lists new
+    → popped ≡ record t { nodes = popped.nodes } → is_owned_by owners.List x ≡ false → IsApart before w given lists t f x.number.0
+unlisted-apart before w given lists t popped new stack x f g same owner =
+    let q = x.number.0 in
+    let rows : live popped.handles.places.items ≡ live t.handles.places.items = ap (λ (h : Holdings). live h.handles.places.items) same in
+    let none : times (of_list q) (live t.handles.places.items) ≡ 0 = sym (ap (times (of_list q)) rows) ∙ none-listed popped g.between x (lists && is_listing g.counts x.mode) g.listed g.leaves owner in
+    let a = ap (times (of_list q)) f.rows in
+    let b = sum_by-append (λ h. one (of_list q h)) (left_rows f.gone w.rows) f.entries in
+    let d = times-left (of_list q) f.gone w.rows in
+    record {
+      unentered = none-entered q w.last.handle (live t.handles.places.items) (left_rows f.gone w.rows) f.entries f.rows f.new none;
+      kept = list-kept f.gone q w.rows w.list (f.begins.listed q) (omega arith);
+    }
+
 module _ (before w : Core) (given given' : ℕ → Bool) (lists : Bool) (t popped new : Holdings) (stack : List ℕ) (x : HandleRow) (f : SoFar before w given lists t)
     (g : GivesUp popped stack x lists new) (same : popped ≡ record t { nodes = popped.nodes })
     (counts : (n : ℕ) → counts_at popped.nodes n ≡ counts_at t.nodes n) (pinned : (n : ℕ) → pins_in (counts_at t.nodes n) ≡ pins n (live t.handles.places.items))
-    (owner : is_owned_by owners.List x ≡ false) (few : length (live t.handles.places.items) ≤ length w.rows) where
+    (few : length (live t.handles.places.items) ≤ length w.rows) (apart : IsApart before w given lists t f x.number.0) where
   before-rows : live popped.handles.places.items ≡ live t.handles.places.items
   before-rows = ap (λ (h : Holdings). live h.handles.places.items) same
 
@@ -110,9 +130,6 @@ module _ (before w : Core) (given given' : ℕ → Bool) (lists : Bool) (t poppe
   here : (p : HandleRow → Bool) → one (p x) ≤ times p (live t.handles.places.items)
   here p = let a = g.leaves.sums (λ h. one (p h)) in let b = ap (times p) before-rows in omega arith
 
-  none-on-list : times (of_list x.number.0) (live t.handles.places.items) ≡ 0
-  none-on-list = sym (ap (times (of_list x.number.0)) before-rows) ∙ none-listed popped g.between x (lists && is_listing g.counts x.mode) g.listed g.leaves owner
-
   since : g.leaves.between.last_handle ≡ t.last_handle
   since = ap (λ (h : Holdings). h.last_handle) g.leaves.same ∙ ap (λ (h : Holdings). h.last_handle) same
 
@@ -122,9 +139,6 @@ module _ (before w : Core) (given given' : ℕ → Bool) (lists : Bool) (t poppe
       let b = g.leaves.lists.comes.last in
       let d = since in
       omega arith
-
-  no-entry : times (is_handle x.number.0) f.entries ≡ 0
-  no-entry = none-entered x.number.0 w.last.handle (live t.handles.places.items) (left_rows f.gone w.rows) f.entries f.rows f.new none-on-list
 
   abbrev came : List HandleNumber
   came = if g.listed then record { 0 = t.last_handle + 1 } ∷ [] else []
@@ -139,18 +153,10 @@ module _ (before w : Core) (given given' : ℕ → Bool) (lists : Bool) (t poppe
   list-more =
       let old = filter (λ (q : HandleNumber). not (f.gone q.0)) w.list in
       let numbers = map (λ (h : HandleRow). h.number) f.entries in
-      let none : times (λ h. of_list x.number.0 h && not (f.gone h.number.0)) w.rows ≡ 0 = (
-      let a = none-on-list in
-      let b = ap (times (of_list x.number.0)) f.rows in
-      let d = sum_by-append (λ h. one (of_list x.number.0 h)) (left_rows f.gone w.rows) f.entries in
-      let e = times-left (of_list x.number.0) f.gone w.rows in
-      omega arith
-      ) in
-      let kept : filter (λ (q : HandleNumber). not (and_one f.gone x.number.0 q.0)) w.list ≡ old = list-kept f.gone x.number.0 w.rows w.list (f.begins.listed x.number.0) none in
       let entries : map (λ (h : HandleRow). h.number) (f.entries ++ entries_of g.listed (t.last_handle + 1) x.node) ≡ numbers ++ came =
       map-append (λ (h : HandleRow). h.number) f.entries (entries_of g.listed (t.last_handle + 1) x.node) ∙ ap (λ l. numbers ++ l) (entry-number g.listed (t.last_handle + 1) x.node) in
       added ∙ ap (λ l. l ++ came) f.list ∙ append_assoc old numbers came ∙ ap (λ l. old ++ l) (sym entries)
-      ∙ ap (λ l. l ++ map (λ (h : HandleRow). h.number) (f.entries ++ entries_of g.listed (t.last_handle + 1) x.node)) (sym kept)
+      ∙ ap (λ l. l ++ map (λ (h : HandleRow). h.number) (f.entries ++ entries_of g.listed (t.last_handle + 1) x.node)) (sym apart.kept)
 
   room : HasPlaces popped new
   room =
@@ -202,7 +208,7 @@ module _ (before w : Core) (given given' : ℕ → Bool) (lists : Bool) (t poppe
         begins = f.begins;
         gone = and_one f.gone x.number.0;
         entries = f.entries ++ entries_of g.listed (t.last_handle + 1) x.node;
-        rows = rows-more before w given lists t popped new stack x f g same no-entry;
+        rows = rows-more before w given lists t popped new stack x f g same apart.unentered;
         list = list-more;
         last = let a = last in let b = f.last in let d = length-append f.entries (entries_of g.listed (t.last_handle + 1) x.node) in
             let e = long-one g.listed (t.last_handle + 1) x.node in omega arith;

@@ -1,7 +1,6 @@
 -- Why a load can't make a node, and what it gets.
-use Rattle.std.proofs.Common.{◌≡◌, ℕ, ◌<◌, ◌≤◌, Bool, true, false, if◌then◌else◌, refl, ap, sym, ◌∙◌, subst, arith, Ok, Err, Option, Some, None, inl, inr}
-use Rattle.std.specs.Prelude.{◌⊎◌, not, nat_lt, nat_le, is_some, Result, IfOk, IfErr, [], zero, suc}
-use Rattle.std.proofs.lemmas.Bool.Decides.{nat_tests}
+use Rattle.std.proofs.Common.{◌≡◌, ℕ, ◌<◌, ◌≤◌, Bool, true, false, if◌then◌else◌, refl, ap, ◌∙◌, subst, arith, Ok, Err, Option, Some, None, inl, inr}
+use Rattle.std.specs.Prelude.{not, nat_lt, is_some, Result, [], zero, suc}
 use Rattle.pagable_model.specs.declared.error.Error.{Error}
 use Rattle.pagable_model.specs.declared.error.Error.TheVariants as errors
 use Rattle.pagable_model.specs.declared.numbers.HandleNumber.{HandleNumber}
@@ -20,7 +19,7 @@ use Rattle.pagable_world.specs.LoadCalls.{node_fault, lazy_fault, adopted, LazyC
 use Rattle.pagable_model.specs.declared.data_key.OptionalDataKey.TheVariants as optional
 use Rattle.pagable_tables.specs.Falling.{key_in}
 use Rattle.pagable_tables.specs.Core.{Makes}
-use Rattle.pagable_tables.proofs.Opened.{earlier-first, load-low, no-load-fault, number-late, unspent}
+use Rattle.pagable_tables.proofs.Opened.{earlier-first, load-low, no-load-fault, number-late}
 use Rattle.pagable_tables.proofs.Worlds.{still}
 
 -- of two causes that come late each is
@@ -49,20 +48,6 @@ node-late w kind key f is = split (is_usable w kind key) is
 
 pub kind-or-node-late : (w : Core) (b : Bool) (kind : Kind) (key : ℕ) (f : Error) → earlier (refused_if b errors.WrongKind) (node_fault w kind key) ≡ Some f → 3 ≤ rank f
 kind-or-node-late w b kind key f is = earlier-late (refused_if b errors.WrongKind) (node_fault w kind key) f 3 (kind-late b) (λ g e. let a = node-late w kind key g e in omega arith) is
-
--- where both numbers are left
-pub no-birth-fault : (w : Core) → w.last.node < greatest → w.last.handle < greatest → birth_fault w ≡ None
-no-birth-fault w node handle = ap (λ f. earlier f (spent w.last.handle)) (unspent w.last.node node) ∙ unspent w.last.handle handle
-
--- where one of them isn't
-pub birth-spent : (w : Core) → (greatest ≤ w.last.node) ⊎ (greatest ≤ w.last.handle) → birth_fault w ≡ Some errors.NumbersSpent
-birth-spent w or = split (nat_le greatest w.last.node) (nat_le greatest w.last.handle) refl refl
-  where
-    split : (a b : Bool) → nat_le greatest w.last.node ≡ a → nat_le greatest w.last.handle ≡ b → earlier (refused_if a errors.NumbersSpent) (refused_if b errors.NumbersSpent) ≡ Some errors.NumbersSpent
-    split true true e f = refl
-    split true false e f = refl
-    split false true e f = refl
-    split false false e f = absurd (elim or [ inl past ↦ (let a : nat_le greatest w.last.node ≡ true = grind (arith, nat_tests) in cc) | inr past ↦ (let a : nat_le greatest w.last.handle ≡ true = grind (arith, nat_tests) in cc) ])
 
 pub lazy-not-own : (w : Core) (me : Owner) (l : LoadNumber) (kind : Kind) (key : ℕ) (e : Error) → load_fault w me l ≡ Some e → LazyCall w me l kind key (Err e) w
 lazy-not-own w me l kind key e is =
@@ -113,18 +98,11 @@ module _ (w : Core) (me : Owner) (l : LoadNumber) (load : OpenLoad) (kind : Kind
       fresh : lazy_fault w me l kind key ≡ birth_fault w
       fresh = cause ∙ ap (λ b. if b then spent w.last.handle else birth_fault w) (ap is_some none)
 
-      pub lazy-spent : (greatest ≤ w.last.node) ⊎ (greatest ≤ w.last.handle) → LazyCall w me l kind key (Err errors.NumbersSpent) w
-      lazy-spent or = record { makes = tt; refused = record { why = inl (fresh ∙ birth-spent w or); stays = still w } }
+      pub lazy-not-new : {e : Error} {w' : Core} → Refused (birth_fault w) (birth_fault w) (Unit {0}) w e w' → LazyCall w me l kind key (Err e) w'
+      lazy-not-new r = record { makes = tt; refused = record { why = elim r.why [ inl a ↦ inl (fresh ∙ a) | inr b ↦ inr (b.0, fresh ∙ b.1, inl none) ]; stays = r.stays } }
 
-      lazy-not-new : (e : Error) (w' : Core) → w.last.node < greatest → w.last.handle < greatest → Refused (birth_fault w) None (Unit {0}) w e w' → LazyCall w me l kind key (Err e) w'
-      lazy-not-new e w' node handle r =
-          let no = no-birth-fault w node handle in
-          record { makes = tt; refused = record { why = elim r.why [ inl a ↦ absurd (let b = sym no ∙ a in cc) | inr b ↦ inr (b.0, fresh ∙ no, inl none) ]; stays = r.stays } }
-
-      pub lazy-new : (r : Result HandleNumber Error) (w' : Core) → w.last.node < greatest → w.last.handle < greatest → IfOk r (λ k. (w.last.node < greatest) × IsNext k w) → IfOk r (λ k. Alike (adopted w l kind key (optional.Some key) []) w')
-          → IfErr r (λ e. Refused (birth_fault w) None (Unit {0}) w e w') → LazyCall w me l kind key r w'
-      lazy-new (Ok k) w' node handle next made refused = record { makes = (load, own, loose, inr (none, node, next.1, made)); refused = tt }
-      lazy-new (Err e) w' node handle next made refused = lazy-not-new e w' node handle refused
+      pub lazy-new : (k : HandleNumber) {w' : Core} → w.last.node < greatest → IsNext k w → Alike (adopted w l kind key (optional.Some key) []) w' → LazyCall w me l kind key (Ok k) w'
+      lazy-new k node_left next made = record { makes = (load, own, loose, inr (none, node_left, next, made)); refused = tt }
 
 -- the number of a key
 pub key-there : (n : ℕ) → 0 < n → key_in n ≡ optional.Some n

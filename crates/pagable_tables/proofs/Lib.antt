@@ -5,6 +5,7 @@ mod Leaving
 mod Left
 mod Standing
 pub mod Worlds
+mod Entries
 mod Coming
 mod Beginning
 mod Ended
@@ -15,13 +16,13 @@ mod RowsMore
 mod NoEntry
 mod Owned
 mod Listed
-mod Opened
+pub mod Opened
 mod Recalled
 mod Wanted
 mod Telling
 mod Going
 mod Next
-mod Begun
+pub mod Begun
 mod Shedding
 pub mod keeps
 mod Fewer
@@ -31,6 +32,7 @@ mod Swapped
 mod Regiven
 mod Named
 mod Born
+pub mod Readied
 mod NewNodes
 mod Lowered
 mod Dropped
@@ -46,5 +48,8 @@ pub mod Newer
 mod Adopted
 mod Lazily
 mod GivenNamed
-mod Stays
-mod Adoptions
+pub mod Stays
+pub mod Adoptions
+mod Joined
+mod Upheld
+pub mod Installed

@@ -1,6 +1,6 @@
 -- A birth, by what it is made of; and why references are refused before a number that is spent.
-use Rattle.std.proofs.Common.{◌≡◌, ℕ, ◌<◌, ◌≤◌, ◌==◌, ◌||◌, Bool, true, false, List, [], ◌∷◌, refl, ap, sym, ◌∙◌, subst, arith, Ok, Err, Option, Some, None, zero, suc, if◌then◌else◌}
-use Rattle.std.specs.Prelude.{Result, not}
+use Rattle.std.proofs.Common.{◌≡◌, ℕ, ◌<◌, ◌≤◌, ◌==◌, ◌||◌, Bool, true, false, List, [], ◌∷◌, refl, ap, ◌∙◌, subst, arith, Ok, Option, Some, None, zero, suc, if◌then◌else◌}
+use Rattle.std.specs.Prelude.{not}
 use Rattle.pagable_model.specs.declared.data_key.OptionalDataKey.{OptionalDataKey}
 use Rattle.pagable_model.specs.declared.data_key.OptionalDataKey.TheVariants as optional
 use Rattle.pagable_model.specs.declared.error.Error.{Error}
@@ -13,16 +13,17 @@ use Rattle.pagable_world.specs.declared.rows.Mode.{Mode}
 use Rattle.pagable_world.specs.declared.rows.Mode.TheVariants as modes
 use Rattle.pagable_world.specs.Plain.{is_in, if_there, or_else, type_of}
 use Rattle.pagable_world.specs.Kinds.{is_owner, fits_mode}
-use Rattle.pagable_world.specs.World.{Core, Alike, row_at, type_at}
-use Rattle.pagable_world.specs.Refusals.{earlier, rank, refused_if, spent, reference_fault, references_fault, row_fault, is_type, Refused}
+use Rattle.pagable_world.specs.World.{Core, Alike, greatest, row_at, type_at}
+use Rattle.pagable_world.specs.Refusals.{earlier, rank, refused_if, spent, reference_fault, references_fault, row_fault, is_type}
 use Rattle.pagable_world.specs.Calls.{birth_fault, with_handle, with_node, next_node, AwayBirthCall}
 use Rattle.pagable_world.specs.Pager.{IsWhole}
 use Rattle.pagable_tables.specs.Core.{ArePlaced, MayHold}
 use Rattle.pagable_tables.proofs.keeps.BirthCalls.{birth-whole, no-references}
-use Rattle.pagable_tables.proofs.keeps.Told.{alike-whole}
 use Rattle.pagable_tables.specs.declared.rows.Counts.{Counts}
 use Rattle.pagable_tables.specs.Falling.{key_in}
-use Rattle.pagable_tables.specs.Bearing.{Bears, BirthOf}
+use Rattle.pagable_tables.specs.Bearing.{Bears, BearsValue, OnlyRoom}
+use Rattle.pagable_tables.proofs.Newer.{OnlyNewer, newer-then, newer-alike, newer-node}
+use Rattle.pagable_tables.proofs.Readied.{next-past, born-past}
 use Rattle.pagable_tables.proofs.Pins.{earlier-first, spent-late}
 use Rattle.pagable_tables.proofs.Offers.{late}
 
@@ -77,18 +78,20 @@ module _ (w : Core) (me : Owner) (node_type : ℕ) (c : Counts) (rs : List ArcRe
   alike-as : (k : OptionalDataKey) → key_in c.key ≡ k → Alike (born c.node_type (key_in c.key)) w' → Alike (born node_type k) w'
   alike-as k is a = subst (λ t. Alike (born t k) w') typed (subst (λ k. Alike (born c.node_type k) w') is a)
 
-  pub node-born : (r : Result HandleNumber Error) → references_fault w me [] rs ≡ None → c.key ≡ 0 → Bears w me c rs mode r w' → BirthOf w me node_type rs mode r w'
-  node-born (Ok k) fit none b = let m = b.made in record { made = (fit, m.0, m.1, alike-as optional.None (ap key_in none) m.2); refused = tt }
-  node-born (Err e) fit none b = record { made = tt; refused = subst (λ f. Refused (earlier f (birth_fault w)) None (Unit {0}) w e w') (sym fit) b.refused }
+  -- of a value, with no key
+  pub value-born : (k : HandleNumber) → c.key ≡ 0 → Bears w me c rs mode k w' → BearsValue w me node_type rs mode k w'
+  value-born k none b = record { next = record { above = b.next.above; is_left = b.next.is_left }; leaves = alike-as optional.None (ap key_in none) b.leaves }
 
-pub away-born : (w : Core) (me : Owner) (node_type : ℕ) (c : Counts) (w' : Core) (key : ℕ) (r : Result HandleNumber Error) → c.node_type ≡ node_type → c.key ≡ key → 0 < key → Bears w me c [] modes.LooseUnpinned r w'
-    → AwayBirthCall w me node_type key r w'
-away-born w me node_type c w' key (Ok k) typed is some b =
-    let m = b.made in
-    record { made = (m.0, m.1, alike-as w me node_type c [] modes.LooseUnpinned w' typed (optional.Some key) (ap key_in is ∙ key-is key some) m.2); refused = tt }
-away-born w me node_type c w' key (Err e) typed is some b = record { made = tt; refused = b.refused }
+-- of a cell that is away, where room was made before
+pub away-born : {w w1 : Core} (me : Owner) (node_type : ℕ) (c : Counts) (w' : Core) (key : ℕ) (k : HandleNumber) → OnlyRoom w w1 → w1.last.node < greatest → c.node_type ≡ node_type → c.key ≡ key → 0 < key
+    → Bears w1 me c [] modes.LooseUnpinned k w' → AwayBirthCall w me node_type key (Ok k) w'
+away-born {w} {w1} me node_type c w' key k room left typed is some b =
+    let leaves = alike-as w1 me node_type c [] modes.LooseUnpinned w' typed (optional.Some key) (ap key_in is ∙ key-is key some) b.leaves in
+    record { made = (subst (λ (u : Core). u.last.node < greatest) room.same left, next-past room b.next, born-past node_type (optional.Some key) [] modes.LooseUnpinned me room leaves); refused = tt }
 
-pub birth-of-whole : {w w' : Core} (me : Owner) (node_type : ℕ) (rs : List ArcRef) (mode : Mode) (r : Result HandleNumber Error) → IsWhole w → MayHold w me
-    → BirthOf w me node_type rs mode r w' → ArePlaced w' → IsWhole w'
-birth-of-whole me node_type rs mode (Ok k) whole holder b placed = birth-whole me (tt {0}) node_type rs mode (Ok k) whole holder (record { made = b.made; refused = tt }) placed
-birth-of-whole me node_type rs mode (Err e) whole holder b placed = alike-whole whole b.refused.stays placed
+pub value-whole : {w w' : Core} (me : Owner) (node_type : ℕ) (rs : List ArcRef) (mode : Mode) (k : HandleNumber) → IsWhole w → MayHold w me → references_fault w me [] rs ≡ None → w.last.node < greatest
+    → BearsValue w me node_type rs mode k w' → ArePlaced w' → IsWhole w'
+value-whole me node_type rs mode k whole holder fit left b = birth-whole me (tt {0}) node_type rs mode (Ok k) whole holder (record { made = (fit, left, b.next, b.leaves); refused = tt })
+
+pub bears-newer : {w w' : Core} (me : Owner) (c : Counts) (rs : List ArcRef) (mode : Mode) (k : HandleNumber) → Bears w me c rs mode k w' → OnlyNewer w w'
+bears-newer {w} me c rs mode k b = newer-then (newer-node w c.node_type (key_in c.key) rs mode me) (newer-alike b.leaves)

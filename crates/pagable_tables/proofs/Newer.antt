@@ -23,15 +23,14 @@ use Rattle.pagable_world.specs.Kinds.{is_handle, is_owner, is_owned_by, owner_va
 use Rattle.pagable_world.specs.World.{Core, Last, Alike}
 use Rattle.pagable_world.specs.Pager as pager
 use Rattle.pagable_world.specs.Cascade.{Falls}
-use Rattle.pagable_world.specs.Calls.{with_handle, with_node, next_node, with_cached, with_cached_if_open, is_named_by, moved, with_mode, LoosenCall, PinCall, UnpinCall, ReleaseCall, SetKeyCall, ScheduleCall, TakeCall, OfferCall}
+use Rattle.pagable_world.specs.Calls.{with_handle, with_node, next_node, with_cached, with_cached_if_open, is_named_by, moved, with_mode, LoosenCall, PinCall, UnpinCall, ReleaseCall, SetKeyCall, ScheduleCall, TakeCall, OfferCall, CloseCall}
 use Rattle.pagable_world.specs.Cascade.{only_handle}
-use Rattle.pagable_world.specs.LoadCalls.{is_owned_in, numbers_of, adopted, first_key, DropCall, HandOverCall, LazyCall}
+use Rattle.pagable_world.specs.LoadCalls.{is_owned_in, numbers_of, adopted, first_key, Adopts, DropCall, HandOverCall, LazyCall}
 use Rattle.pagable_tables.specs.declared.rows.LoadRow.{LoadRow}
 use Rattle.pagable_tables.specs.declared.tables.Tables.{Tables}
 use Rattle.pagable_tables.specs.ByNumber.{load_at}
 use Rattle.pagable_tables.specs.Core.{plain_of, load_in, Makes}
 use Rattle.pagable_tables.specs.Later.{AreLater}
-use Rattle.pagable_tables.specs.Asking.{AdoptOf}
 use Rattle.pagable_tables.proofs.Regiven.{loaded, loaded-here, loaded-left, no-entry}
 use Rattle.pagable_tables.proofs.Taken.{loaded-moved, and-left}
 use Rattle.pagable_tables.proofs.Worlds.{owner-same}
@@ -64,7 +63,7 @@ pub newer-moved : (w : Core) (s : ℕ → Bool) (o : Owner) → ((l : LoadNumber
 newer-moved w s o other = record { last = omega arith; owned = λ l q own. inl (and-left (loaded l q w.rows) (not (s q)) (sym (loaded-moved s o l q w.rows (other l)) ∙ own)) }
 
 -- a handle's mode says nothing of who owns it
-loaded-mode : (l : LoadNumber) (q : ℕ) (test : HandleRow → Bool) (mode : Mode) (rows : List HandleRow) → loaded l q (changed test (λ row. record row { mode = mode }) rows) ≡ loaded l q rows
+pub loaded-mode : (l : LoadNumber) (q : ℕ) (test : HandleRow → Bool) (mode : Mode) (rows : List HandleRow) → loaded l q (changed test (λ row. record row { mode = mode }) rows) ≡ loaded l q rows
 loaded-mode l q test mode [] = refl
 loaded-mode l q test mode (x ∷ xs) =
     split (test x) ∙ ap (λ b. if is_handle q x then is_owner (owners.Load l) x.owner else b) (loaded-mode l q test mode xs) ∙ sym (loaded-here l q x xs)
@@ -76,7 +75,7 @@ loaded-mode l q test mode (x ∷ xs) =
     split true = loaded-here l q (record x { mode = mode }) rest
     split false = loaded-here l q x rest
 
-newer-mode : (w : Core) (h : HandleNumber) (mode : Mode) → OnlyNewer w (with_mode w h mode)
+pub newer-mode : (w : Core) (h : HandleNumber) (mode : Mode) → OnlyNewer w (with_mode w h mode)
 newer-mode w h mode = record { last = omega arith; owned = λ l q own. inl (sym (loaded-mode l q (is_handle h.0) mode w.rows) ∙ own) }
 
 pub newer-falls : {before u w' : Core} {given : ℕ → Bool} {r : Result (Unit {0}) Error} → Falls before u given r w' → OnlyNewer u w'
@@ -206,12 +205,11 @@ set-key-newer me h key r call = elim call.does [
   | inr (row, own, inr (loose, falls)) ↦ (let n = newer-falls falls in record { last = n.last; owned = n.owned })
 ]
 
-pub adopt-newer : {w w' : Core} (me : Owner) (l : LoadNumber) (kind : Kind) (key node_type : ℕ) (refs : List ArcRef) (r : Result HandleNumber Error) → AdoptOf w me l kind key node_type refs r w' → OnlyNewer w w'
-adopt-newer {w} me l kind key node_type refs (Ok k) call = elim call.adopts.makes [
+pub adopt-newer : {w w' : Core} (me : Owner) (l : LoadNumber) (kind : Kind) (key node_type : ℕ) (refs : List ArcRef) (k : HandleNumber) → Adopts w me l kind key node_type refs k w' → OnlyNewer w w'
+adopt-newer {w} me l kind key node_type refs k a = elim a.makes [
   | inl (n, is, falls) ↦ newer-then (newer-handle w (record { 0 = n }) (mode_of kind.0) (owners.Load l)) (newer-falls falls.falls)
   | inr (none, left, leaves) ↦ newer-then (newer-adopted w l kind key (first_key kind.0 key) refs) (newer-alike leaves)
 ]
-adopt-newer me l kind key node_type refs (Err e) call = newer-alike call.refused.stays
 
 pub schedule-newer : {w w' : Core} (me : Owner) (h : HandleNumber) (r : Result (Unit {0}) Error) → ScheduleCall w me h r w' → OnlyNewer w w'
 schedule-newer {w} me h (Ok u) call = elim call.moves.2 [
@@ -231,3 +229,6 @@ offer-newer {w} me kind key h (Ok (Some k)) call = elim call.answers.3 [
   | inr (stands_open, (n, is, next, falls)) ↦ newer-then (newer-handle w (record { 0 = n }) (mode_of kind.0) me) (newer-falls falls.falls)
 ]
 offer-newer me kind key h (Err e) call = newer-alike call.refused.stays
+
+pub close-newer : {w w' : Core} (r : Result (Unit {0}) Error) → CloseCall w r w' → OnlyNewer w w'
+close-newer r call = let n = newer-falls call.falls.falls in record { last = n.last; owned = n.owned }

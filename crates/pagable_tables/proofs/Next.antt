@@ -19,7 +19,7 @@ use Rattle.pagable_tables.specs.Onward.{SoFar}
 use Rattle.pagable_tables.proofs.Left.{and_one}
 use Rattle.pagable_tables.proofs.Kept.{settled}
 use Rattle.pagable_tables.proofs.LeastMore.{least-more, none-comes}
-use Rattle.pagable_tables.proofs.Going.{one-goes}
+use Rattle.pagable_tables.proofs.Going.{IsApart, unlisted-apart, one-goes}
 
 -- one handle more on both sides, or on the right
 pub within-less : (a b c d : ℕ → Bool) (rows : List HandleRow) → ((r : ℕ) → one (a r && not (b r)) ≤ one (c r && not (d r))) → IsWithin rows c d → IsWithin rows a b
@@ -54,16 +54,17 @@ steps-on before w given lists t new stack r f falling some s =
 
     owned : (x : HandleRow) (n : ℕ) → FallsBy t x n lists new → SoFar before w given lists new
     owned x n by =
-        one-goes before w given given lists t by.popped new by.stack x f by.gives by.same by.counts falling.fits.pinned (ap (is_owner owners.List) by.owner) (f.few some)
+        one-goes before w given given lists t by.popped new by.stack x f by.gives by.same by.counts falling.fits.pinned (f.few some)
+        (unlisted-apart before w given lists t by.popped new by.stack x f by.gives by.same (ap (is_owner owners.List) by.owner))
         (within-less given (and_one f.gone x.number.0) given f.gone w.rows (λ r. bits (given r) (f.gone r) (r == x.number.0)) f.holds)
         (least-more before w given lists t new x n f by)
 
--- a handle is given
-pub gives-on : (before w : Core) (given : ℕ → Bool) (lists : Bool) (t new : Holdings) (stack : List ℕ) (x : HandleRow) → SoFar before w given lists t
-    → ((n : ℕ) → pins_in (counts_at t.nodes n) ≡ pins n (live t.handles.places.items)) → is_owned_by owners.List x ≡ false → length (live t.handles.places.items) ≤ length w.rows
+-- a handle is given, apart from the list
+pub gives-apart : (before w : Core) (given : ℕ → Bool) (lists : Bool) (t new : Holdings) (stack : List ℕ) (x : HandleRow) → (f : SoFar before w given lists t)
+    → ((n : ℕ) → pins_in (counts_at t.nodes n) ≡ pins n (live t.handles.places.items)) → IsApart before w given lists t f x.number.0 → length (live t.handles.places.items) ≤ length w.rows
     → GivesUp t stack x lists new → SoFar before w (and_one given x.number.0) lists new
-gives-on before w given lists t new stack x f pinned owner few g =
-    one-goes before w given (and_one given x.number.0) lists t t new stack x f g refl (λ n. refl) pinned owner few
+gives-apart before w given lists t new stack x f pinned apart few g =
+    one-goes before w given (and_one given x.number.0) lists t t new stack x f g refl (λ n. refl) pinned few apart
     (within-less (and_one given x.number.0) (and_one f.gone x.number.0) given f.gone w.rows (λ r. grind (arith, nat_tests)) f.holds)
     (λ s final bare has closed. within-both f.gone given s x.number.0 w.rows (f.least s final
     (λ n none. bare n (ap (held n) after ∙ none-comes t g.between x (lists && is_listing g.counts x.mode) g.listed n g.leaves none))
@@ -71,3 +72,10 @@ gives-on before w given lists t new stack x f pinned owner few g =
   where
     after : live new.handles.places.items ≡ live g.between.handles.places.items
     after = ap (λ (h : Holdings). live h.handles.places.items) g.same
+
+-- a handle is given that the list doesn't own
+pub gives-on : (before w : Core) (given : ℕ → Bool) (lists : Bool) (t new : Holdings) (stack : List ℕ) (x : HandleRow) → SoFar before w given lists t
+    → ((n : ℕ) → pins_in (counts_at t.nodes n) ≡ pins n (live t.handles.places.items)) → is_owned_by owners.List x ≡ false → length (live t.handles.places.items) ≤ length w.rows
+    → GivesUp t stack x lists new → SoFar before w (and_one given x.number.0) lists new
+gives-on before w given lists t new stack x f pinned owner few g =
+    gives-apart before w given lists t new stack x f pinned (unlisted-apart before w given lists t t new stack x f g refl owner) few g

@@ -16,7 +16,7 @@ use Rattle.pagable_world.specs.declared.rows.Mode.{Mode}
 use Rattle.pagable_world.specs.Plain.{if_there}
 use Rattle.pagable_world.specs.Kinds.{is_owner, is_loose, is_in_memory, pins}
 use Rattle.pagable_world.specs.World.{Core, Cell, OpenLoad, greatest, row_at}
-use Rattle.pagable_world.specs.Refusals.{rank, earlier, where_so, refused_if, spent, handle_fault, load_fault, OwnsLoad}
+use Rattle.pagable_world.specs.Refusals.{rank, earlier, where_so, refused_if, spent, handle_fault, load_fault, closed_fault, OwnsLoad, Refused}
 use Rattle.pagable_tables.specs.declared.rows.Counts.{Counts}
 use Rattle.pagable_tables.specs.declared.rows.LoadRow.{LoadRow}
 use Rattle.pagable_tables.specs.Falling.{pins_in, cell_in, key_in}
@@ -122,3 +122,20 @@ number-late true last f is = split (nat_le greatest last) is
     split : (b : Bool) → refused_if b errors.NumbersSpent ≡ Some f → 4 ≤ rank f
     split true is = let a : rank errors.NumbersSpent ≡ rank f = ap (if_there rank 0) is in omega arith
     split false is = absurd (cc)
+
+-- a load that may be used, or is another's, is open
+pub open-by : (w : Core) (me : Owner) (l : LoadNumber) → load_fault w me l ≢ Some errors.NoSuchHandle → closed_fault w l ≡ None
+open-by w me l other = by (w.loads l.0) other
+  where
+    by : (o : Option OpenLoad) → if_there (λ (load : OpenLoad). refused_if (not (is_owner me load.owner)) errors.NotYours) (Some errors.NoSuchHandle) o ≢ Some errors.NoSuchHandle
+        → if_there (λ (load : OpenLoad). None) (Some errors.NoSuchHandle) o ≡ None
+    by None other = absurd (other refl)
+    by (Some load) other = refl
+
+-- memory may be told to be wanting where it was asked for only of an own load
+pub told-later : {cause : Option Error} {full : Type 0} {w w' : Core} {e : Error} (me : Owner) (l : LoadNumber) → Refused cause (load_fault w me l) full w e w' → Refused cause (closed_fault w l) full w e w'
+told-later {cause} {full} {w} {w'} {e} me l r = record { why = by r.why; stays = r.stays }
+  where
+    by : (cause ≡ Some e) ⊎ ((e ≡ errors.OutOfMemory) × (load_fault w me l ≡ None) × full) → (cause ≡ Some e) ⊎ ((e ≡ errors.OutOfMemory) × (closed_fault w l ≡ None) × full)
+    by (inl is) = inl is
+    by (inr (memory, may, wanting)) = inr (memory, open-by w me l (λ gone. let a = sym may ∙ gone in cc), wanting)

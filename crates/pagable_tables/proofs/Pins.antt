@@ -68,7 +68,7 @@ pub handle-first : (w : Core) (me : Owner) (h : HandleNumber) (fits : Mode → B
 handle-first w me h fits e later is late =
     ap (λ x. earlier x later) is ∙ earlier-first e later (λ f so. let a = fault-rank (row_at w h) me fits e is in let b = late f so in omega arith)
 
-owner-self : (o : Owner) → is_owner o o ≡ true
+pub owner-self : (o : Owner) → is_owner o o ≡ true
 owner-self owners.Caller = refl
 owner-self (owners.Value n) = grind (arith, nat_tests)
 owner-self owners.List = refl

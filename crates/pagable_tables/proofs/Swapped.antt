@@ -164,7 +164,7 @@ module _ (w : Core) (node : NodeNumber) (mode : Mode) (me : Owner) (numbered : (
           leaves = f.leaves;
         }
 
-same-value : (o o' : Option Counts) (b : Bool) → cell_in o' ≡ cell_in o → pins_in o' ≡ pins_in o + one b → (b ≡ true → has_value o ≡ true) → has_value o' ≡ has_value o
+pub same-value : (o o' : Option Counts) (b : Bool) → cell_in o' ≡ cell_in o → pins_in o' ≡ pins_in o + one b → (b ≡ true → has_value o ≡ true) → has_value o' ≡ has_value o
 same-value None None b cell pinned there = refl
 same-value None (Some c') b cell pinned there = absurd (cc)
 same-value (Some c) None b cell pinned there = absurd (cc)
@@ -203,7 +203,7 @@ module _ (t new : Tables) (stored : ℕ → Option Blob) (failures : ℕ) (node 
           | inl none ↦ inl (sym (ap (sharing n) a.rows) ∙ none)
           | inr none ↦ inr (sym (ap (times (is_plain_pin n)) a.rows) ∙ none)
         ];
-        listed = λ q. ap (times (λ (h : HandleNumber). h.0 == q)) (sym a.list) ∙ b.listed q ∙ ap (times (λ h. is_handle q h && is_owned_by owners.List h)) a.rows;
+        listed = λ q. let d = ap (times (λ (h : HandleNumber). h.0 == q)) a.list in let e = ap (times (λ h. is_handle q h && is_owned_by owners.List h)) a.rows in let f = b.listed q in omega arith;
       })
       a.rows a.list (ap (λ (l : Last). l.handle) a.last) after.core.handles.within.0 (record { handles = a.places.handles; entries = a.places.entries }) a.cells refl
       (λ n must. let p = must.pinned in let z = must.unpinned in let s = ap (pins n) a.rows in absurd (omega arith))

@@ -34,7 +34,7 @@ use Rattle.pagable_tables.proofs.keeps.Moved.{moved-to-holder}
 use Rattle.pagable_tables.proofs.keeps.Rows.{found-among, once}
 
 -- what is counted of handles whoever owns them
-moved-times : (f : HandleRow → Bool) (s : ℕ → Bool) (o : Owner) (rows : List HandleRow) → ((x : HandleRow) → f (record x { owner = o }) ≡ f x) → times f (moved s o rows) ≡ times f rows
+pub moved-times : (f : HandleRow → Bool) (s : ℕ → Bool) (o : Owner) (rows : List HandleRow) → ((x : HandleRow) → f (record x { owner = o }) ≡ f x) → times f (moved s o rows) ≡ times f rows
 moved-times f s o [] same = refl
 moved-times f s o (x ∷ xs) same =
     let rest = moved-times f s o xs same in
@@ -106,7 +106,7 @@ begun-moved t h l s o stored closed lists failures whole e same rows room listed
       fewer = λ n. let a = b.fewer n in let m = moved-times (is_pin n) s o w.rows (λ x. refl) in omega arith;
       shared = λ n. let a = b.shared n in let m = moved-times (is_share n) s o w.rows (λ x. refl) in omega arith;
       uniform = λ n. elim (b.uniform n) [ inl none ↦ inl none | inr none ↦ inr (moved-times (is_plain_pin n) s o w.rows (λ x. refl) ∙ none) ];
-      listed = listed;
+      listed = λ q. let a = listed q in omega arith;
     })
     rows refl refl whole.core.handles.within.0 (record { handles = room.handles; entries = omega arith }) (λ n. refl) refl
     (λ n must. let a = must.pinned in let z = must.unpinned in let r = ap (pins n) rows in let m = moved-times (is_pin n) s o w.rows (λ x. refl) in absurd (omega arith)))

@@ -76,8 +76,8 @@ module _ (T : Tables) (stored : ℕ → Option Blob) (closed lists : Bool) (fail
           | inr none ↦ inr (let a = l.sums (λ h. one (is_plain_pin n h)) in let b = ap (times (is_plain_pin n)) l.rows in
               let z : one (is_plain_pin n (unpinned x)) ≡ 0 = grind (arith, nat_tests) in omega arith)
         ];
-        listed = λ q. f.begins.listed q ∙ (let a = l.sums (λ h. one (is_handle q h && is_owned_by owners.List h)) in
-            let b = ap (times (λ h. is_handle q h && is_owned_by owners.List h)) l.rows in omega arith);
+        listed = λ q. let a = l.sums (λ h. one (is_handle q h && is_owned_by owners.List h)) in
+            let b = ap (times (λ h. is_handle q h && is_owned_by owners.List h)) l.rows in let d = f.begins.listed q in omega arith;
       }
 
   after-rows : live new.handles.places.items ≡ live l.between.handles.places.items

@@ -13,7 +13,7 @@ use Rattle.pagable_world.specs.Plain.{is_loose_kind, type_of}
 use Rattle.pagable_world.specs.World.{Core, OpenLoad}
 use Rattle.pagable_world.specs.Refusals.{OwnsLoad, earlier, refused_if, load_fault, references_fault, Refused, AreHandlesFull}
 use Rattle.pagable_world.specs.Calls.{Recalls}
-use Rattle.pagable_world.specs.LoadCalls.{ask_fault, is_known, Adopts, adopt_fault}
+use Rattle.pagable_world.specs.LoadCalls.{ask_fault, is_known}
 
 -- The load of a reference gets a handle of the node that the cache gives; or None where it gives none, and the storage has to be asked.
 pub record AsksKnown (w : Core) (me : Owner) (l : LoadNumber) (kind : Kind) (key : ℕ) (r : Result (Option HandleNumber) Error) (w' : Core) : Type 0 where
@@ -25,8 +25,3 @@ abbrev pub early_fault : Core → Owner → LoadNumber → Kind → ℕ → List
 early_fault w me l kind node_type references =
     earlier (load_fault w me l) (earlier (refused_if (is_loose_kind kind.0) errors.WrongMode) (earlier (refused_if (not (node_type == type_of kind.0)) errors.WrongKind)
     (references_fault w (owners.Load l) [] references)))
-
--- What a load has read becomes a node, but for the value itself, which its owner keeps where it is refused.
-pub record AdoptOf (w : Core) (me : Owner) (l : LoadNumber) (kind : Kind) (key node_type : ℕ) (references : List ArcRef) (r : Result HandleNumber Error) (w' : Core) : Type 0 where
-  pub adopts : IfOk r (λ k. Adopts w me l kind key node_type references k w')
-  pub refused : IfErr r (λ e. Refused (adopt_fault w me l kind key node_type references) (load_fault w me l) (Unit {0}) w e w')

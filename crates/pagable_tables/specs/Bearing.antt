@@ -1,23 +1,36 @@
 -- Nodes that come.
-use Rattle.std.specs.Prelude.{ℕ, ◌≡◌, ◌<◌, List, [], None, Result, IfOk, IfErr}
+use Rattle.std.specs.Prelude.{ℕ, ◌≡◌, ◌<◌, List}
+use Rattle.indexmap.specs.IndexMap.{spare}
 use Rattle.pagable_model.specs.declared.data_key.OptionalDataKey.TheVariants as optional
-use Rattle.pagable_model.specs.declared.error.Error.{Error}
 use Rattle.pagable_model.specs.declared.numbers.ArcRef.{ArcRef}
 use Rattle.pagable_model.specs.declared.numbers.HandleNumber.{HandleNumber}
 use Rattle.pagable_world.specs.declared.handles.Owner.{Owner}
 use Rattle.pagable_world.specs.declared.rows.Mode.{Mode}
-use Rattle.pagable_world.specs.World.{Core, Alike, greatest}
-use Rattle.pagable_world.specs.Refusals.{earlier, references_fault, Refused}
+use Rattle.pagable_world.specs.World.{Core, Alike, HasRoom, greatest}
 use Rattle.pagable_tables.specs.declared.rows.Counts.{Counts}
+use Rattle.pagable_tables.specs.declared.tables.Tables.{Tables}
 use Rattle.pagable_tables.specs.Falling.{key_in}
-use Rattle.pagable_world.specs.Calls.{IsNext, with_handle, with_node, next_node, birth_fault}
+use Rattle.pagable_tables.specs.Live.{room}
+use Rattle.pagable_world.specs.Calls.{IsNext, with_handle, with_node, next_node}
+
+-- numbers are left for a node and a handle, and there is room for both
+pub record IsReady (t : Tables) : Type 0 where
+  pub node_left : t.last_node < greatest
+  pub handle_left : t.holdings.last_handle < greatest
+  pub handle_room : 0 < room t.holdings.handles
+  pub node_room : 0 < spare t.holdings.nodes
+
+-- the second is the first, with more room
+pub record OnlyRoom (w w' : Core) : Type 0 where
+  pub same : w' ≡ record w { places = w'.places }
+  pub more : HasRoom w.places w'.places
 
 -- A new node with these counts, whose value has these references, which are known to be right, and one handle of it.
-pub record Bears (w : Core) (me : Owner) (c : Counts) (references : List ArcRef) (mode : Mode) (r : Result HandleNumber Error) (w' : Core) : Type 0 where
-  pub made : IfOk r (λ k. (w.last.node < greatest) × IsNext k w × Alike (with_handle (with_node w c.node_type (key_in c.key) references) (next_node w) mode me) w')
-  pub refused : IfErr r (λ e. Refused (birth_fault w) None (Unit {0}) w e w')
+pub record Bears (w : Core) (me : Owner) (c : Counts) (references : List ArcRef) (mode : Mode) (k : HandleNumber) (w' : Core) : Type 0 where
+  pub next : IsNext k w
+  pub leaves : Alike (with_handle (with_node w c.node_type (key_in c.key) references) (next_node w) mode me) w'
 
--- A new node of a value that is handed in, but for the value itself, which its owner keeps where it is refused.
-pub record BirthOf (w : Core) (me : Owner) (node_type : ℕ) (references : List ArcRef) (mode : Mode) (r : Result HandleNumber Error) (w' : Core) : Type 0 where
-  pub made : IfOk r (λ k. (references_fault w me [] references ≡ None) × (w.last.node < greatest) × IsNext k w × Alike (with_handle (with_node w node_type optional.None references) (next_node w) mode me) w')
-  pub refused : IfErr r (λ e. Refused (earlier (references_fault w me [] references) (birth_fault w)) None (Unit {0}) w e w')
+-- the same, of a value that is handed in, with no key
+pub record BearsValue (w : Core) (me : Owner) (node_type : ℕ) (references : List ArcRef) (mode : Mode) (k : HandleNumber) (w' : Core) : Type 0 where
+  pub next : IsNext k w
+  pub leaves : Alike (with_handle (with_node w node_type optional.None references) (next_node w) mode me) w'

@@ -11,3 +11,5 @@ pub mod Keyed
 pub mod Named
 pub mod Offering
 pub mod Bearing
+pub mod Closing
+pub mod Ready

@@ -41,8 +41,8 @@ pub record Begins (before w : Core) (lists : Bool) : Type 0 where
   pub fewer : (n : ℕ) → pins n w.rows ≤ pins n before.rows
   pub shared : (n : ℕ) → sharing n w.rows ≤ sharing n before.rows
   pub uniform : (n : ℕ) → (sharing n before.rows ≡ 0) ⊎ (times (is_plain_pin n) w.rows ≡ 0)
-  -- the list has each handle that it owns once
-  pub listed : (q : ℕ) → times (λ (h : HandleNumber). h.0 == q) w.list ≡ times (λ h. is_handle q h && is_owned_by owners.List h) w.rows
+  -- the list has no handle but its own, each at most once
+  pub listed : (q : ℕ) → times (λ (h : HandleNumber). h.0 == q) w.list ≤ times (λ h. is_handle q h && is_owned_by owners.List h) w.rows
 
 -- The given handles have gone from the world w, with more that had to; the tables hold what is left and what came.
 pub record SoFar (before w : Core) (given : ℕ → Bool) (lists : Bool) (t : Holdings) : Type 0 where

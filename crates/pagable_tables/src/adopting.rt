@@ -1,24 +1,25 @@
 //! What a load reads becomes nodes.
 
-ghost use Rattle.std.specs.Prelude.{nat_eq, ◌≡◌, ℕ, ◌⊎◌, ◌<◌, ◌≤◌, length, [], Bool, Option, IfOk, IfErr, Some, None, not, true, false};
+ghost use Rattle.std.specs.Prelude.{nat_eq, ◌≡◌, ℕ, ◌⊎◌, ◌<◌, ◌≤◌, length, [], Bool, Option, IfOk, IfErr, IfSome, IfNone, OnOk, Some, None, not, true, false};
 ghost use Rattle.pagable_world.specs.declared.handles.Owner.TheVariants as owners;
 ghost use Rattle.pagable_world.specs.Plain.{Blob, is_loose_kind};
 ghost use Rattle.pagable_world.specs.Kinds.{is_pinning, mode_of};
 ghost use Rattle.pagable_world.specs.Cascade.{FallsAnyhow, nobody};
 ghost use Rattle.pagable_tables.specs.Live.{live};
 ghost use Rattle.pagable_tables.specs.Onward.{with_tables, SoFar};
-ghost use Rattle.pagable_world.specs.World.{Core, Alike, usable, greatest};
-ghost use Rattle.pagable_world.specs.Refusals.{references_fault, spent, AreHandlesFull, Refused};
+ghost use Rattle.pagable_world.specs.World.{Core, Alike, usable};
+ghost use Rattle.pagable_world.specs.Refusals.{load_fault, references_fault, spent, AreHandlesFull, Refused};
 ghost use Rattle.pagable_world.specs.Calls.{IsNext, with_handle, is_named_by, birth_fault};
-ghost use Rattle.pagable_world.specs.LoadCalls.{adopted, first_key, is_owned_in, LazyCall};
+ghost use Rattle.pagable_world.specs.LoadCalls.{adopt_fault, adopted, first_key, is_owned_in, Adopts, LazyCall};
 ghost use Rattle.pagable_tables.specs.Falling.{has_value, IsFalling, owns_nothing, key_in, Sheds};
-ghost use Rattle.indexmap.specs.IndexMap.{get};
+ghost use Rattle.indexmap.specs.IndexMap.{get, spare};
+ghost use Rattle.pagable_tables.specs.Bearing.{IsReady, OnlyRoom};
 ghost use Rattle.pagable_tables.specs.ByNumber.{counts_at};
 ghost use Rattle.pagable_tables.specs.Core.{core_of, plain_of, IsWhole, MayHold, Suits};
 ghost use Rattle.pagable_tables.specs.Later.{AreLater};
-ghost use Rattle.pagable_tables.specs.Asking.{AdoptOf, early_fault};
+ghost use Rattle.pagable_tables.specs.Asking.{early_fault};
 
-use crate::births::{bear, first_counts};
+use crate::births::{bear, first_counts, make_ready};
 use crate::cascade::fall;
 use crate::causes::{earlier, load_fault, refused_if};
 use crate::ending::give_next;
@@ -36,8 +37,27 @@ use pagable_world::handles::Owner;
 use std::alloc::Global;
 use std::sync::Arc;
 
-/// A new node with a handle of the load's, which the cache knows from now on, where it is to learn. It is refused only where a number is spent, or by memory.
-fn adopt_new(
+/// Makes room for a handle, a node and what the cache learns, and changes nothing else. Refused with NumbersSpent and OutOfMemory.
+pub fn make_ready_to_learn(t: &mut Tables) -> Result<(), Error>
+    requires { IsWhole t.old }
+    ensures ready { OnOk result (IsReady t.new) }
+    ensures learns { OnOk result (0 < spare t.new.cache) }
+    ensures room { (stored : ℕ → Option Blob) (closed : Bool) (failures : ℕ) → OnlyRoom (core_of t.old stored closed failures) (core_of t.new stored closed failures) }
+    ensures refused { (stored : ℕ → Option Blob) (closed : Bool) (failures : ℕ) → IfErr result (λ e. Refused (birth_fault (core_of t.old stored closed failures)) (birth_fault (core_of t.old stored closed failures)) (Unit {0}) (core_of t.old stored closed failures) e (core_of t.new stored closed failures)) }
+    ensures whole { IsWhole t.new }
+    ensures loads { t.new.loads ≡ t.old.loads }
+{
+    if let Err(e) = make_ready(t) {
+        return Err(e);
+    }
+    let Ok(()) = cache::reserve(&mut t.cache) else {
+        return Err(Error::OutOfMemory);
+    };
+    Ok(())
+}
+
+/// A new node with a handle of the load's, which the cache knows from now on, where it is to learn. All was made ready for it, so it isn't refused.
+fn learn_new(
     t: &mut Tables,
     load: LoadNumber,
     kind: Kind,
@@ -45,29 +65,23 @@ fn adopt_new(
     own_key: u128,
     references: Vec<ArcRef>,
     lists: bool,
-) -> Result<HandleNumber, Error>
+) -> HandleNumber
     requires whole { IsWhole t.old }
+    requires ready { IsReady t.old }
+    requires learns { 0 < spare t.old.cache }
     requires holder { MayHold (plain_of t.old) (owners.Load load) }
     requires fit { references_fault (plain_of t.old) (owners.Load load) [] references.items ≡ None }
     requires bare { (own_key ≡ 0) ⊎ (references.items ≡ []) ⊎ (is_pinning (mode_of kind.0) ≡ true) }
-    ensures next { (stored : ℕ → Option Blob) (closed : Bool) (failures : ℕ) → IfOk result (λ k. (t.old.last_node < greatest) × IsNext k (core_of t.old stored closed failures)) }
-    ensures adopted { (stored : ℕ → Option Blob) (closed : Bool) (failures : ℕ) → lists ≡ not closed → IfOk result (λ k. Alike (adopted (core_of t.old stored closed failures) load kind key (key_in own_key) references.items) (core_of t.new stored closed failures)) }
-    ensures refused { (stored : ℕ → Option Blob) (closed : Bool) (failures : ℕ) → IfErr result (λ e. Refused (birth_fault (core_of t.old stored closed failures)) None (Unit {0}) (core_of t.old stored closed failures) e (core_of t.new stored closed failures)) }
+    ensures next { (stored : ℕ → Option Blob) (closed : Bool) (failures : ℕ) → IsNext result (core_of t.old stored closed failures) }
+    ensures adopted { (stored : ℕ → Option Blob) (closed : Bool) (failures : ℕ) → lists ≡ not closed → Alike (adopted (core_of t.old stored closed failures) load kind key (key_in own_key) references.items) (core_of t.new stored closed failures) }
     ensures steady { IsFalling t.new.holdings [] owns_nothing }
     ensures loads { t.new.loads ≡ t.old.loads }
 {
-    let Ok(()) = cache::reserve(&mut t.cache) else {
-        return Err(Error::OutOfMemory);
-    };
     let mode = mode_of(kind);
     let counts = first_counts(kind.0 / 3, own_key, mode);
-    match bear(t, Owner::Load(load), counts, references, mode) {
-        Ok(handle) => {
-            cache::learn_if(&mut t.cache, lists, kind, key, NodeNumber(t.last_node));
-            Ok(handle)
-        }
-        Err(e) => Err(e),
-    }
+    let handle = bear(t, Owner::Load(load), counts, references, mode);
+    cache::learn_if(&mut t.cache, lists, kind, key, NodeNumber(t.last_node));
+    handle
 }
 
 /// A handle of the load's, of the cell that the cache gives for a loose kind and a key, or of a new one that has this key and no value. It is refused where the load isn't
@@ -97,10 +111,10 @@ pub fn load_lazy(
     if let Some(node) = usable_of(t, kind, key) {
         return make(t, node, mode_of(kind), Owner::Load(load));
     }
-    if t.last_node == u64::MAX || t.holdings.last_handle == u64::MAX {
-        return Err(Error::NumbersSpent);
+    match make_ready_to_learn(t) {
+        Ok(()) => Ok(learn_new(t, load, kind, key, key.get(), Vec::new(alloc), lists)),
+        Err(e) => Err(e),
     }
-    adopt_new(t, load, kind, key, key.get(), Vec::new(alloc), lists)
 }
 
 /// Why what a load has read can't become a node, apart from numbers and memory.
@@ -181,10 +195,10 @@ fn first_key(kind: Kind, key: DataKey) -> u128
     if is_pinned_kind(kind) { key.get() } else { 0 }
 }
 
-/// What a load has read becomes a node with a handle of the load's, which the cache knows from now on. Where the cache gives one already, what was read is dropped, and the
-/// load gets a handle of that one. It is refused where the load isn't an own open one, the kind is a loose one or not the value's, a reference isn't the load's, a
-/// number is spent, or memory is wanting.
-pub fn load_adopt<N: Drop>(
+/// Where the cache gives a node already, what a load has read is dropped: the load gets a handle of that node, and the handles that the references name are given up. None
+/// where the cache gives none; nothing changes then. It is refused where the load isn't an own open one, the kind is a loose one or not the value's, a reference
+/// isn't the load's, or the handle has no number or no place.
+pub fn adopt_if_known<N: Drop>(
     t: &mut Tables,
     values: &mut IndexMap<u64, Arc<N>>,
     me: Owner,
@@ -192,24 +206,56 @@ pub fn load_adopt<N: Drop>(
     kind: Kind,
     key: DataKey,
     node_type: u32,
-    references: Vec<ArcRef>,
+    references: &[ArcRef],
     lists: bool,
-) -> Result<HandleNumber, Error>
+) -> Result<Option<HandleNumber>, Error>
     requires whole { IsWhole t.old }
     requires later { AreLater t.old }
     requires valued { (n : ℕ) → usable (plain_of t.old) kind.0 key ≡ Some n → is_loose_kind kind.0 ≡ false → has_value (counts_at t.old.holdings.nodes n) ≡ true }
-    ensures adopts { (stored : ℕ → Option Blob) (closed : Bool) (failures : ℕ) → lists ≡ not closed → AdoptOf (core_of t.old stored closed failures) me load kind key node_type references.items result (core_of t.new stored closed failures) }
+    ensures known { (stored : ℕ → Option Blob) (closed : Bool) (failures : ℕ) → lists ≡ not closed → IfOk result (λ found. IfSome found (λ k. Adopts (core_of t.old stored closed failures) me load kind key node_type references.now k (core_of t.new stored closed failures))) }
+    ensures fresh { (stored : ℕ → Option Blob) (closed : Bool) (failures : ℕ) → IfOk result (λ found. IfNone found (early_fault (core_of t.old stored closed failures) me load kind node_type references.now ≡ None)) }
+    ensures given { IfOk result (λ found. IfSome found (λ k. (n : ℕ) × (usable (plain_of t.old) kind.0 key ≡ Some n))) }
+    ensures unknown { IfOk result (λ found. IfNone found (usable (plain_of t.old) kind.0 key ≡ None)) }
+    ensures same { IfOk result (λ found. IfNone found (t.new ≡ t.old)) }
+    ensures kept { IfOk result (λ found. IfNone found (values.new ≡ values.old)) }
+    ensures refused { (stored : ℕ → Option Blob) (closed : Bool) (failures : ℕ) → IfErr result (λ e. Refused (adopt_fault (core_of t.old stored closed failures) me load kind key node_type references.now) (load_fault (core_of t.old stored closed failures) me load) (Unit {0}) (core_of t.old stored closed failures) e (core_of t.new stored closed failures)) }
     ensures whole { IsWhole t.new }
     ensures later { AreLater t.new }
-    ensures sheds { (n : ℕ) → usable (plain_of t.old) kind.0 key ≡ Some n → Sheds (counts_at t.old.holdings.nodes) (get nat_eq values.old) (counts_at t.new.holdings.nodes) (get nat_eq values.new) }
-    ensures kept { usable (plain_of t.old) kind.0 key ≡ None → values.new ≡ values.old }
+    ensures sheds { Sheds (counts_at t.old.holdings.nodes) (get nat_eq values.old) (counts_at t.new.holdings.nodes) (get nat_eq values.new) }
 {
-    if let Some(e) = adopt_fault(t, me, load, kind, node_type, &references) {
+    if let Some(e) = adopt_fault(t, me, load, kind, node_type, references) {
         return Err(e);
     }
-    if let Some(node) = usable_of(t, kind, key) {
-        return adopt_known(t, values, load, node, kind, &references, lists);
+    let Some(node) = usable_of(t, kind, key) else {
+        return Ok(None);
+    };
+    match adopt_known(t, values, load, node, kind, references, lists) {
+        Ok(handle) => Ok(Some(handle)),
+        Err(e) => Err(e),
     }
+}
+
+/// What a load has read becomes a new node with a handle of the load's, which the cache knows from now on. `adopt_if_known` found no cause against it and no node in
+/// the cache, and `make_ready_to_learn` made all ready for it, so it isn't refused.
+pub fn adopt(
+    t: &mut Tables,
+    load: LoadNumber,
+    kind: Kind,
+    key: DataKey,
+    references: Vec<ArcRef>,
+    lists: bool,
+) -> HandleNumber
+    requires whole { IsWhole t.old }
+    requires later { AreLater t.old }
+    requires ready { IsReady t.old }
+    requires learns { 0 < spare t.old.cache }
+    requires asked { (me : Owner) × (node_type : ℕ) × (early_fault (plain_of t.old) me load kind node_type references.items ≡ None) }
+    requires unknown { usable (plain_of t.old) kind.0 key ≡ None }
+    ensures next { (stored : ℕ → Option Blob) (closed : Bool) (failures : ℕ) → IsNext result (core_of t.old stored closed failures) }
+    ensures adopted { (stored : ℕ → Option Blob) (closed : Bool) (failures : ℕ) → lists ≡ not closed → Alike (adopted (core_of t.old stored closed failures) load kind key (first_key kind.0 key) references.items) (core_of t.new stored closed failures) }
+    ensures whole { IsWhole t.new }
+    ensures later { AreLater t.new }
+{
     let own_key = first_key(kind, key);
-    adopt_new(t, load, kind, key, own_key, references, lists)
+    learn_new(t, load, kind, key, own_key, references, lists)
 }

@@ -1,13 +1,14 @@
 //! Nodes that come.
 
-ghost use Rattle.std.specs.Prelude.{true, ◌≡◌, ℕ, ◌⊎◌, [], Bool, Option, None, false};
+ghost use Rattle.std.specs.Prelude.{true, ◌≡◌, ℕ, ◌⊎◌, [], Bool, Option, None, false, IfErr, OnOk};
 ghost use Rattle.pagable_world.specs.Plain.{Blob, one};
 ghost use Rattle.pagable_world.specs.Kinds.{is_pinning};
-ghost use Rattle.pagable_world.specs.Refusals.{references_fault};
-ghost use Rattle.pagable_world.specs.Calls.{AwayBirthCall};
+ghost use Rattle.pagable_world.specs.Refusals.{earlier, references_fault, Refused};
+ghost use Rattle.pagable_world.specs.Calls.{AwayBirthCall, birth_fault};
 ghost use Rattle.pagable_tables.specs.Falling.{IsFalling, owns_nothing};
-ghost use Rattle.pagable_tables.specs.Bearing.{Bears, BirthOf};
+ghost use Rattle.pagable_tables.specs.Bearing.{Bears, BearsValue, IsReady, OnlyRoom};
 ghost use Rattle.pagable_tables.specs.Core.{core_of, plain_of, IsWhole, MayHold};
+ghost use Rattle.pagable_tables.specs.Later.{AreLater};
 
 use crate::holdings::pins;
 use crate::moving::hand_over_all;
@@ -35,22 +36,14 @@ pub fn first_counts(node_type: u32, key: u128, mode: Mode) -> Counts
     }
 }
 
-/// A new node with this key, 0 for none, whose value has these references, and one handle of it. It is refused only where a number is spent, or by memory.
-pub fn bear(
-    t: &mut Tables,
-    me: Owner,
-    counts: Counts,
-    references: Vec<ArcRef>,
-    mode: Mode,
-) -> Result<HandleNumber, Error>
-    requires whole { IsWhole t.old }
-    requires holder { MayHold (plain_of t.old) me }
-    requires counts { counts ≡ record counts { pins = one (is_pinning mode); holds = 1; is_falling = false; next = 0 } }
-    requires fit { references_fault (plain_of t.old) me [] references.items ≡ None }
-    requires bare { (counts.key ≡ 0) ⊎ (references.items ≡ []) ⊎ (is_pinning mode ≡ true) }
-    ensures born { (stored : ℕ → Option Blob) (closed : Bool) (failures : ℕ) → Bears (core_of t.old stored closed failures) me counts references.items mode result (core_of t.new stored closed failures) }
-    ensures steady { IsFalling t.new.holdings [] owns_nothing }
-    ensures same { t.new ≡ record t.old { holdings = t.new.holdings; last_node = t.new.last_node } }
+/// Makes room for a handle and a node, and changes nothing else. NumbersSpent where no number is left for one of them, OutOfMemory where there is no room.
+pub fn make_ready(t: &mut Tables) -> Result<(), Error>
+    requires { IsWhole t.old }
+    ensures ready { OnOk result (IsReady t.new) }
+    ensures room { (stored : ℕ → Option Blob) (closed : Bool) (failures : ℕ) → OnlyRoom (core_of t.old stored closed failures) (core_of t.new stored closed failures) }
+    ensures refused { (stored : ℕ → Option Blob) (closed : Bool) (failures : ℕ) → IfErr result (λ e. Refused (birth_fault (core_of t.old stored closed failures)) (birth_fault (core_of t.old stored closed failures)) (Unit {0}) (core_of t.old stored closed failures) e (core_of t.new stored closed failures)) }
+    ensures whole { IsWhole t.new }
+    ensures same { t.new ≡ record t.old { holdings = t.new.holdings } }
 {
     if t.last_node == u64::MAX || t.holdings.last_handle == u64::MAX {
         return Err(Error::NumbersSpent);
@@ -61,6 +54,47 @@ pub fn bear(
     let Ok(()) = nodes::reserve(&mut t.holdings.nodes) else {
         return Err(Error::OutOfMemory);
     };
+    Ok(())
+}
+
+/// All that can keep a value with these references from becoming a node, and room for it: the references are looked at, then numbers. Nothing else changes. Refused
+/// with the cause of the first reference that has one, with NumbersSpent and OutOfMemory.
+pub fn prepare(t: &mut Tables, me: Owner, references: &[ArcRef]) -> Result<(), Error>
+    requires { IsWhole t.old }
+    ensures ready { OnOk result (IsReady t.new) }
+    ensures fit { OnOk result (references_fault (plain_of t.new) me [] references.now ≡ None) }
+    ensures room { (stored : ℕ → Option Blob) (closed : Bool) (failures : ℕ) → OnlyRoom (core_of t.old stored closed failures) (core_of t.new stored closed failures) }
+    ensures refused { (stored : ℕ → Option Blob) (closed : Bool) (failures : ℕ) → IfErr result (λ e. Refused (earlier (references_fault (core_of t.old stored closed failures) me [] references.now) (birth_fault (core_of t.old stored closed failures))) None (Unit {0}) (core_of t.old stored closed failures) e (core_of t.new stored closed failures)) }
+    ensures whole { IsWhole t.new }
+    ensures later { AreLater t.old → AreLater t.new }
+{
+    if let Err(e) = check_references(t, me, references) {
+        return Err(e);
+    }
+    match make_ready(t) {
+        Ok(()) => Ok(()),
+        Err(e) => Err(e),
+    }
+}
+
+/// A new node with this key, 0 for none, whose value has these references, and one handle of it. All was made ready for it, so it isn't refused.
+pub fn bear(
+    t: &mut Tables,
+    me: Owner,
+    counts: Counts,
+    references: Vec<ArcRef>,
+    mode: Mode,
+) -> HandleNumber
+    requires whole { IsWhole t.old }
+    requires ready { IsReady t.old }
+    requires holder { MayHold (plain_of t.old) me }
+    requires counts { counts ≡ record counts { pins = one (is_pinning mode); holds = 1; is_falling = false; next = 0 } }
+    requires fit { references_fault (plain_of t.old) me [] references.items ≡ None }
+    requires bare { (counts.key ≡ 0) ⊎ (references.items ≡ []) ⊎ (is_pinning mode ≡ true) }
+    ensures born { (stored : ℕ → Option Blob) (closed : Bool) (failures : ℕ) → Bears (core_of t.old stored closed failures) me counts references.items mode result (core_of t.new stored closed failures) }
+    ensures steady { IsFalling t.new.holdings [] owns_nothing }
+    ensures same { t.new ≡ record t.old { holdings = t.new.holdings; last_node = t.new.last_node } }
+{
     let node = NodeNumber(t.last_node + 1);
     let number = HandleNumber(t.holdings.last_handle + 1);
     hand_over_all(&mut t.holdings.handles, &references, Owner::Value(node));
@@ -82,30 +116,26 @@ pub fn bear(
     };
     t.holdings.last_handle = number.0;
     t.last_node = node.0;
-    Ok(number)
+    number
 }
 
-/// A new node of a value with these references, whose handles move to it, and one handle of it. It is refused by the cause of the first reference that has
-/// one, where a number is spent, or by memory; nothing changes then, and the value stays with the one who has it.
-pub fn new_node(
+/// A new node of a value with these references, whose handles move to it, and one handle of it. `prepare` made all ready for it, so it isn't refused.
+pub fn bear_value(
     t: &mut Tables,
     me: Owner,
     node_type: u32,
     references: Vec<ArcRef>,
     mode: Mode,
-) -> Result<HandleNumber, Error>
+) -> HandleNumber
     requires whole { IsWhole t.old }
+    requires ready { IsReady t.old }
     requires holder { MayHold (plain_of t.old) me }
-    ensures born { (stored : ℕ → Option Blob) (closed : Bool) (failures : ℕ) → BirthOf (core_of t.old stored closed failures) me node_type references.items mode result (core_of t.new stored closed failures) }
+    requires fit { references_fault (plain_of t.old) me [] references.items ≡ None }
+    ensures born { (stored : ℕ → Option Blob) (closed : Bool) (failures : ℕ) → BearsValue (core_of t.old stored closed failures) me node_type references.items mode result (core_of t.new stored closed failures) }
     ensures whole { IsWhole t.new }
+    ensures later { AreLater t.old → AreLater t.new }
 {
-    if let Err(e) = check_references(t, me, &references) {
-        return Err(e);
-    }
-    match bear(t, me, first_counts(node_type, 0, mode), references, mode) {
-        Ok(handle) => Ok(handle),
-        Err(e) => Err(e),
-    }
+    bear(t, me, first_counts(node_type, 0, mode), references, mode)
 }
 
 /// A new cell that has a key and no value, with one unpinned handle. It is refused where a number is spent, or by memory.
@@ -120,10 +150,13 @@ pub fn new_away(
     requires holder { MayHold (plain_of t.old) me }
     ensures born { (stored : ℕ → Option Blob) (closed : Bool) (failures : ℕ) → AwayBirthCall (core_of t.old stored closed failures) me node_type key result (core_of t.new stored closed failures) }
     ensures whole { IsWhole t.new }
+    ensures later { AreLater t.old → AreLater t.new }
 {
-    let counts = first_counts(node_type, key.get(), Mode::LooseUnpinned);
-    match bear(t, me, counts, Vec::new(alloc), Mode::LooseUnpinned) {
-        Ok(handle) => Ok(handle),
+    match make_ready(t) {
+        Ok(()) => {
+            let counts = first_counts(node_type, key.get(), Mode::LooseUnpinned);
+            Ok(bear(t, me, counts, Vec::new(alloc), Mode::LooseUnpinned))
+        }
         Err(e) => Err(e),
     }
 }

@@ -20,13 +20,13 @@ use pagable_world::handles::{HandleRow, Owner};
 use pagable_world::{Mode, Pinning};
 
 /// A Pinned handle of this loose handle's node, and the handle pins too from now on. It is refused only where no number is left, or no place.
-fn pin_here(t: &mut Tables, me: Owner, row: HandleRow) -> Result<HandleNumber, Error>
+pub fn pin_here(t: &mut Tables, me: Owner, row: HandleRow) -> Result<HandleNumber, Error>
     requires whole { IsWhole t.old }
     requires holder { MayHold (plain_of t.old) me }
     requires owns { Owns (plain_of t.old) me row.number is_loose row }
     ensures pinned { (stored : ℕ → Option Blob) (closed : Bool) (failures : ℕ) → PinsHere (core_of t.old stored closed failures) me row result (core_of t.new stored closed failures) }
     ensures whole { IsWhole t.new }
-    ensures loads { t.new.loads ≡ t.old.loads }
+    ensures same { t.new ≡ record t.old { holdings = t.new.holdings } }
 {
     let handle = match make(t, row.node, Mode::Pinned, me) {
         Ok(handle) => handle,

@@ -14,4 +14,3 @@ pub mod Order
 pub mod Headline
 pub mod OneWorker
 pub mod Access
-pub mod today

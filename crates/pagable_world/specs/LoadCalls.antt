@@ -10,7 +10,7 @@ use Rattle.pagable_world.specs.declared.calls.Want.TheVariants as wants
 use Rattle.pagable_world.specs.Kinds.{mode_of, is_loose, any_mode, owner_value, find_row, is_owned_by}
 use Rattle.pagable_world.specs.World.{Core, Root, of_cell, of_key, OpenLoad, greatest, type_at, key_at, is_here, usable, Alike}
 use Rattle.pagable_world.specs.Cascade.{Falls, FallsAnyhow}
-use Rattle.pagable_world.specs.Refusals.{earlier, where_so, refused_if, spent, AreHandlesFull, Owns, handle_fault, references_fault, named_fault, OwnsLoad, load_fault, Refused}
+use Rattle.pagable_world.specs.Refusals.{earlier, where_so, refused_if, spent, AreHandlesFull, Owns, handle_fault, references_fault, named_fault, OwnsLoad, load_fault, closed_fault, Refused}
 use Rattle.pagable_world.specs.Calls.{with_handle, with_mode, with_node, next_node, moved, is_named_by, is_handle_here, birth_fault, IsNext, IsRefused, is_usable, with_known, with_cached_if_open, FetchCall}
 
 -- one more load, under the next number
@@ -114,10 +114,10 @@ pub record Adopts (w : Core) (me : Owner) (l : LoadNumber) (kind : Kind) (key no
       ((n : ℕ) × (usable w kind.0 key ≡ Some n) × FallsAnyhow w (with_known w kind n (owners.Load l)) (is_named_by references) w')
       ⊎ ((usable w kind.0 key ≡ None) × (w.last.node < greatest) × Alike (adopted w l kind key (first_key kind.0 key) references) w')
 
--- A refusal gives the value x back. Memory may be wanting as soon as the load was found.
+-- A refusal gives the value x back. Memory may be wanting for the value's references, of whoever the load is, as soon as it was found.
 pub record AdoptCall {N : Type 0} (w : Core) (me : Owner) (l : LoadNumber) (kind : Kind) (key : ℕ) (x : N) (node_type : ℕ) (references : List ArcRef) (r : Result HandleNumber (Error × N)) (w' : Core) : Type 0 where
   pub adopts : IfOk r (λ k. Adopts w me l kind key node_type references k w')
-  pub refused : IfErr r (λ e. (e.1 ≡ x) × Refused (adopt_fault w me l kind key node_type references) (load_fault w me l) (Unit {0}) w e.0 w')
+  pub refused : IfErr r (λ e. (e.1 ≡ x) × Refused (adopt_fault w me l kind key node_type references) (closed_fault w l) (Unit {0}) w e.0 w')
 
 abbrev pub lazy_fault : Core → Owner → LoadNumber → Kind → ℕ → Option Error
 lazy_fault w me l kind key = earlier (load_fault w me l) (earlier (refused_if (not (is_loose_kind kind.0)) errors.WrongKind) (node_fault w kind key))
@@ -180,7 +180,7 @@ pub record EndsInVain (w : Core) (me : Owner) (l : LoadNumber) (node_type : ℕ)
   pub closes : LoadCloses w l told w'
 
 abbrev pub EndRefused : {N : Type 0} → Core → Owner → LoadNumber → N → ℕ → List ArcRef → Error → Option N → Core → Type 0
-EndRefused w me l x node_type references e (Some y) w' = (y ≡ x) × Refused (end_fault w me l node_type references) (load_fault w me l) (Unit {0}) w e w'
+EndRefused w me l x node_type references e (Some y) w' = (y ≡ x) × Refused (end_fault w me l node_type references) (closed_fault w l) (Unit {0}) w e w'
 EndRefused w me l x node_type references e None w' = EndsInVain w me l node_type references e w'
 
 -- A load of a cell ends with a pin; or it is refused, and stays open where the value x comes back.

@@ -99,6 +99,10 @@ pub record OwnsLoad (w : Core) (me : Owner) (l : LoadNumber) (load : OpenLoad) :
 abbrev pub load_fault : Core → Owner → LoadNumber → Option Error
 load_fault w me l = if_there (λ (load : OpenLoad). refused_if (not (is_owner me load.owner)) errors.NotYours) (Some errors.NoSuchHandle) (w.loads l.0)
 
+-- no load of this number is open
+abbrev pub closed_fault : Core → LoadNumber → Option Error
+closed_fault w l = if_there (λ (load : OpenLoad). None) (Some errors.NoSuchHandle) (w.loads l.0)
+
 -- The call is refused by its cause; or memory is wanting, where that may be, and no cause of those that are looked at before it holds. Nothing changes.
 pub record Refused (cause before : Option Error) (full : Type 0) (w : Core) (e : Error) (w' : Core) : Type 0 where
   pub why : (cause ≡ Some e) ⊎ ((e ≡ errors.OutOfMemory) × (before ≡ None) × full)

@@ -1,6 +1,6 @@
 //! What the pager's calls answer.
 
-use pagable_model::{DataKey, Error, HandleNumber, LoadNumber};
+use pagable_model::{DataKey, HandleNumber, LoadNumber};
 
 /// What a pin answers.
 #[derive(Clone, Copy, Debug, PartialEq)]
@@ -18,11 +18,4 @@ pub enum Beginning {
     InMemory,
     /// A load was opened, which reads the value under this key.
     Load(LoadNumber, DataKey),
-}
-
-/// Why a load couldn't end, and whether it was closed by that.
-#[derive(Drop)]
-pub struct EndRefusal {
-    pub error: Error,
-    pub closed: bool,
 }

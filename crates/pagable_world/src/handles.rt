@@ -1,4 +1,4 @@
-//! The rows of handles, as they stand once tables have room and the cache owns nothing.
+//! The rows of handles: of which node each is, and who gives it up.
 
 use crate::rows::Mode;
 use pagable_model::{HandleNumber, LoadNumber, NodeNumber, WorkerNumber};

@@ -1,19 +1,18 @@
-//! The words in which the pager is spoken of: rows and answers, and in `specs/` when tables are whole, the plain world
-//! that they stand for, and what each call does to it.
+//! The words in which the pager is spoken of: handles, calls, events and answers; and in `specs/` the plain world, what each
+//! call and each step does to it, and when a state is whole.
 #![tactic(auto)]
 
 pub mod answers;
 pub mod calls;
 pub mod events;
 pub mod handles;
-pub mod machine;
 pub mod rows;
 
-pub use answers::{Beginning, EndRefusal, Pinning};
+pub use answers::{Beginning, Pinning};
 pub use calls::{Call, Found, Reply, Want};
 pub use events::{
     Claim, Event, EventReply, LoadAnswer, LoadReply, PinStep, TableNumber, Took, WorkerAnswer,
     WorkerReply,
 };
-pub use machine::{MachineCall, MachineEvent};
-pub use rows::{HandleRow, LoadRow, Mode, NodeRow, Owner};
+pub use handles::{HandleRow, Owner};
+pub use rows::Mode;

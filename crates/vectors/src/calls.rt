@@ -1,17 +1,15 @@
-//! Rows of events for a machine over a pager of texts.
+//! Rows of calls for a machine over a pager of texts.
 
 pub mod answers;
 pub mod asked;
 pub mod looks;
 pub mod nodes;
 
-use crate::calls::asked::{events, split};
+use crate::calls::asked::{calls, split};
 use crate::calls::looks::look;
 use crate::calls::nodes::{CellEnv, CellNode};
 use anyhow::bail;
-use pagable::{
-    InMemoryBlobs, Machine, MachineCall, MachineEvent, PagableData, PagableStorage, Pager,
-};
+use pagable::{Call, InMemoryBlobs, Machine, PagableData, PagableStorage, Pager};
 use pagable_examples::FailingStorage;
 use std::alloc::Global;
 
@@ -21,29 +19,31 @@ pub type CellPager = Pager<CellEnv, CellStorage>;
 
 pub type CellMachine = Machine<CellEnv, CellStorage>;
 
-pub type CellCall = MachineCall<CellNode, PagableData>;
+pub type CellCall = Call<CellNode, PagableData>;
 
-pub type CellEvent = MachineEvent<CellNode, PagableData>;
-
-/// Answers rows of events, by the machine that the last row of the word `machine` has made.
+/// Answers rows of calls, by the machine that the last row of the word `machine` has made.
 #[derive(Drop)]
 pub struct Calls {
     machine: CellMachine,
 }
 
-/// A pager without cells. Of its storage one call fails, after as many others as the word tells, or it is closed.
-pub fn pager_over(alloc: Global, word: &str) -> CellPager {
+/// A storage without blobs, of which one call fails, after as many others as the word tells, or which is closed.
+fn storage_of(alloc: Global, word: &str) -> CellStorage {
     let mut blobs: InMemoryBlobs<CellEnv> = InMemoryBlobs::new(alloc);
     if word == "closed" {
         blobs.close();
     }
-    let calls_before = word.parse::<u64>().unwrap_or(u64::MAX);
-    Pager::new(alloc, FailingStorage::new(blobs, calls_before), CellEnv)
+    FailingStorage::new(blobs, word.parse::<u64>().unwrap_or(u64::MAX))
 }
 
-/// A machine over such a pager.
+/// A pager without cells over such a storage.
+pub fn pager_over(alloc: Global, word: &str) -> CellPager {
+    Pager::new(alloc, storage_of(alloc, word), CellEnv)
+}
+
+/// A machine over such a storage.
 fn machine_over(alloc: Global, word: &str) -> CellMachine {
-    Machine::new(alloc, pager_over(alloc, word))
+    Machine::new(alloc, storage_of(alloc, word), CellEnv)
 }
 
 impl Calls {
@@ -68,10 +68,10 @@ impl Calls {
     }
 }
 
-/// The answers to a row's events, which the machine gets as one list.
+/// The answers to a row's calls, which the machine gets as one list.
 fn run(alloc: Global, machine: &mut CellMachine, line: &str) -> anyhow::Result<String> {
-    let events = events(alloc, line)?;
-    match machine.run(alloc, events) {
+    let calls = calls(alloc, line)?;
+    match machine.run(alloc, calls) {
         Ok(replies) => answers::replies(alloc, replies.as_slice()),
         Err(_) => bail!("no memory for the replies"),
     }

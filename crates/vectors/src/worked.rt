@@ -39,8 +39,8 @@ const LINES: &'static str = "1: u16 read ac02 -> ok 2 = 300
 9: take_pending 0; pin 2; store 0b68656c6c6f20776f726c64; set_data_key 2 16879; release 3; release 2 -> ok 2; ok 3; ok 16879; ok; ok; ok
 9: pending; key 1 -> ok 0; ok 16879
 9: is_paged_out 1; pin 1 -> yes; needs 16879
-9: load_start 1; load_step 1 -> load 1 16879; step 1
-9: load_step 1; count 1 -> step 2 pinned 5; ok 2
+9: load_begin 1; load_fetch 1 -> load 1 16879; 0x0b68656c6c6f20776f726c64
+9: load_end 1 0 hello world; count 1 -> ok 5; ok 2
 9: look 5 -> pending 0; 1: 1 2 16879 here = hello world; 5: 1 2 16879 here = hello world
 12: machine ->
 12: new_pinned 0 x; clone 1; into_pagable 2; count 2; unpin 2; count 2; release 1; count 2 -> ok 1; ok 2; ok 2; ok 2; ok; ok 1; ok; ok 0

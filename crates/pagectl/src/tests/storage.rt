@@ -88,9 +88,10 @@ fn paged_out(
 
 #[test]
 fn what_a_page_out_could_not_store_stays_listed(rt: HostRuntime) {
-    for (is_closed, again) in [(false, None), (true, Some(Error::Closed))] {
+    let failed = (Some(Error::Storage(7)), 1, None);
+    // Over a closed storage nothing is listed.
+    for (is_closed, wanted) in [(false, failed), (true, (None, 0, None))] {
         let found = paged_out(rt.alloc(), is_closed);
-        let wanted = (Some(Error::Storage(7)), 1, again);
         equal(&rt, found, Ok(wanted), "page-outs");
     }
 }

@@ -1,16 +1,11 @@
-//! What calls and events answer, in words.
+//! What calls answer, in words.
 
 use crate::calls::nodes::CellNode;
-use pagable::{
-    Beginning, Error, EventReply, Found, LoadAnswer, LoadReply, OptionalDataKey, PagableData,
-    Pinning, Reply,
-};
+use pagable::{Beginning, Error, Found, OptionalDataKey, PagableData, Pinning, Reply};
 use std::alloc::Global;
 use std::sync::Arc;
 
 type CellReply = Reply<CellNode, Arc<PagableData>>;
-
-type CellEventReply = EventReply<CellNode, Arc<PagableData>, ()>;
 
 /// A word, and at most two numbers behind it.
 type Told = (&'static str, Option<u128>, Option<u128>);
@@ -44,6 +39,7 @@ fn refusal(reply: &CellReply) -> Option<&Error> {
         | Reply::KeyFound(Err(e))
         | Reply::Away(Err(e))
         | Reply::Node(Err(e))
+        | Reply::FromCache(Err(e))
         | Reply::Fetched(Err(e))
         | Reply::Stored(Err(e))
         | Reply::Begun(Err(e))
@@ -59,6 +55,8 @@ fn given(reply: &CellReply) -> Told {
         | Reply::Handle(Ok(handle))
         | Reply::LoadEnded(Ok(handle))
         | Reply::Pin(Ok(Pinning::Pinned(handle)))
+        | Reply::FromCache(Ok(Some(handle)))
+        | Reply::LoadFound(Ok(Found::Cached(handle)))
         | Reply::Taken(Some(handle)) => handle.0 as u128,
         Reply::Count(Ok(count)) | Reply::Length(count) => *count as u128,
         Reply::Node(Ok(node)) => node.0 as u128,
@@ -97,7 +95,7 @@ fn push_blob(alloc: Global, text: &mut String, blob: &PagableData) -> anyhow::Re
     Ok(())
 }
 
-/// Adds what a call answers. A value that comes back from the end of a load is told too.
+/// Adds what a call answers. That a value comes back is told too.
 fn push_call(alloc: Global, text: &mut String, reply: &CellReply) -> anyhow::Result<()> {
     match reply {
         Reply::Fetched(Ok(blob)) | Reply::LoadFound(Ok(Found::Blob(blob))) => {
@@ -110,44 +108,20 @@ fn push_call(alloc: Global, text: &mut String, reply: &CellReply) -> anyhow::Res
         None => given(reply),
     };
     push_words(alloc, text, told)?;
-    if let Reply::LoadEnded(Err((_, Some(_)))) = reply {
+    if let Reply::Made(Err(_)) | Reply::LoadEnded(Err((_, Some(_)))) = reply {
         text.push_str(" back")?;
     }
     Ok(())
 }
 
-/// Adds how many steps a load has made, and what ended it.
-fn push_step(alloc: Global, text: &mut String, moved: &LoadReply<CellNode>) -> anyhow::Result<()> {
-    push_words(alloc, text, ("step", Some(moved.steps as u128), None))?;
-    let told = match &moved.ended {
-        Some(LoadAnswer::Pinned(handle)) => (" pinned", Some(handle.0 as u128), None),
-        Some(LoadAnswer::Refused(e)) => refused(" refused", e),
-        Some(LoadAnswer::Read(_)) => (" read", None, None),
-        None => return Ok(()),
-    };
-    push_words(alloc, text, told)
-}
-
-/// Adds what an event answers.
-fn push(alloc: Global, text: &mut String, reply: &CellEventReply) -> anyhow::Result<()> {
-    let told = match reply {
-        EventReply::CallReply(reply) => return push_call(alloc, text, reply),
-        EventReply::LoadMoved(Ok(moved)) => return push_step(alloc, text, moved),
-        EventReply::Started(Ok(beginning)) => begun(beginning),
-        EventReply::Started(Err(e)) | EventReply::LoadMoved(Err(e)) => refused("refused", e),
-        _ => return Ok(()),
-    };
-    push_words(alloc, text, told)
-}
-
-/// The answers of a list, in the order of its events.
-pub fn replies(alloc: Global, replies: &[CellEventReply]) -> anyhow::Result<String> {
+/// The answers of a list, in the order of its calls.
+pub fn replies(alloc: Global, replies: &[CellReply]) -> anyhow::Result<String> {
     let mut text = String::new(alloc);
     for reply in replies {
         if !text.is_empty() {
             text.push_str("; ")?;
         }
-        push(alloc, &mut text, reply)?;
+        push_call(alloc, &mut text, reply)?;
     }
     Ok(text)
 }

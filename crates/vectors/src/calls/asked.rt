@@ -1,10 +1,10 @@
-//! What a row asks for: calls and events, parted by semicolons.
+//! What a row asks for: calls, parted by semicolons.
 
 use crate::blobs::blob;
+use crate::calls::CellCall;
 use crate::calls::nodes::node;
-use crate::calls::{CellCall, CellEvent};
-use anyhow::bail;
-use pagable::{DataKey, HandleNumber, LoadNumber, MachineCall, MachineEvent, NodeNumber};
+use anyhow::{Context, bail};
+use pagable::{Call, DataKey, HandleNumber, Kind, LoadNumber, NodeNumber, Want};
 use std::alloc::Global;
 
 /// A word, and what stands behind it.
@@ -12,93 +12,151 @@ pub fn split(text: &str) -> (&str, &str) {
     text.split_once(' ').unwrap_or((text, ""))
 }
 
-/// The events of a row.
-pub fn events(alloc: Global, line: &str) -> anyhow::Result<Vec<CellEvent>> {
-    let mut events = Vec::new(alloc);
+/// The calls of a row.
+pub fn calls(alloc: Global, line: &str) -> anyhow::Result<Vec<CellCall>> {
+    let mut calls = Vec::new(alloc);
     for part in line.split(';') {
-        events.push(event(alloc, part.trim())?)?;
+        calls.push(call(alloc, part.trim())?)?;
     }
-    Ok(events)
+    Ok(calls)
 }
 
-/// One event: its name, and what it is about. A number that isn't there is 0, which nothing has.
-fn event(alloc: Global, part: &str) -> anyhow::Result<CellEvent> {
+/// One call: its name, and what it is about. A number that isn't there is 0, which nothing has.
+fn call(alloc: Global, part: &str) -> anyhow::Result<CellCall> {
     let (name, rest) = split(part);
     let (first, behind) = split(rest);
     let number = first.parse::<u64>().unwrap_or_default();
-    match name {
-        "load_start" => return Ok(MachineEvent::LoadStart(HandleNumber(number))),
-        "load_step" => return Ok(MachineEvent::LoadStep(LoadNumber(number))),
-        _ => {}
-    }
     if let Some(call) = of_handle(name, HandleNumber(number)) {
-        return Ok(MachineEvent::Call(call));
+        return Ok(call);
+    }
+    if let Some(call) = of_reference(name, number, behind) {
+        return Ok(call);
     }
     if let Some(call) = of_number(name, number) {
-        return Ok(MachineEvent::Call(call));
+        return Ok(call);
     }
     if let Some(call) = of_key(name, number, behind) {
-        return Ok(MachineEvent::Call(call));
+        return Ok(call);
     }
-    let call = of_value(alloc, name, LoadNumber(number), rest, behind)?;
-    Ok(MachineEvent::Call(call))
+    match name {
+        "load_take" => taken(alloc, LoadNumber(number), behind),
+        _ => of_value(alloc, name, number, rest),
+    }
+}
+
+/// A number that a word spells.
+fn number_of(word: &str) -> u64 {
+    word.parse::<u64>().unwrap_or_default()
+}
+
+/// A key that a word spells.
+fn key_of(word: &str) -> Option<DataKey> {
+    DataKey::new(word.parse::<u128>().unwrap_or_default())
 }
 
 /// A call that is about a handle and no more.
 fn of_handle(name: &str, handle: HandleNumber) -> Option<CellCall> {
     match name {
-        "clone" => Some(MachineCall::Clone(handle)),
-        "pin" => Some(MachineCall::Pin(handle)),
-        "unpin" => Some(MachineCall::Unpin(handle)),
-        "release" => Some(MachineCall::Release(handle)),
-        "into_pagable" => Some(MachineCall::IntoPagable(handle)),
-        "load_begin" => Some(MachineCall::LoadBegin(handle)),
-        "count" => Some(MachineCall::Count(handle)),
-        "key" => Some(MachineCall::Key(handle)),
-        "is_paged_out" => Some(MachineCall::IsPagedOut(handle)),
-        "node_of" => Some(MachineCall::NodeOf(handle)),
+        "clone" => Some(Call::Clone(handle)),
+        "pin" => Some(Call::Pin(handle)),
+        "unpin" => Some(Call::Unpin(handle)),
+        "release" => Some(Call::Release(handle)),
+        "into_pagable" => Some(Call::IntoPagable(handle)),
+        "schedule_for_paging" => Some(Call::ScheduleForPaging(handle)),
+        "load_begin" => Some(Call::LoadBegin(handle)),
+        "count" => Some(Call::Count(handle)),
+        "key" => Some(Call::Key(handle)),
+        "is_paged_out" => Some(Call::IsPagedOut(handle)),
+        "node_of" => Some(Call::NodeOf(handle)),
         _ => None,
     }
+}
+
+/// A call about a reference, by its kind and key: of the cache, whose number is the kind, or of a load.
+fn of_reference(name: &str, number: u64, behind: &str) -> Option<CellCall> {
+    let (second, third) = split(behind);
+    match name {
+        "cache_get" => Some(Call::CacheGet(kind_of(number)?, key_of(second)?)),
+        "on_arc_deserialized" => {
+            let handle = HandleNumber(number_of(third));
+            Some(Call::OnArcDeserialized(kind_of(number)?, key_of(second)?, handle))
+        }
+        "load_fetch" => {
+            let want = Want::Nested(kind_of(number_of(second))?, key_of(third)?);
+            Some(Call::LoadFetch(LoadNumber(number), want))
+        }
+        "load_lazy" => {
+            let kind = kind_of(number_of(second))?;
+            Some(Call::LoadLazy(LoadNumber(number), kind, key_of(third)?))
+        }
+        _ => None,
+    }
+}
+
+/// A kind of references.
+fn kind_of(number: u64) -> Option<Kind> {
+    Some(Kind(u32::try_from(number).ok()?))
 }
 
 /// A call of another number, or of none.
 fn of_number(name: &str, number: u64) -> Option<CellCall> {
     match name {
-        "node_live" => Some(MachineCall::NodeLive(NodeNumber(number))),
-        "take_pending" => Some(MachineCall::TakePending(number)),
-        "load_fetch" => Some(MachineCall::LoadFetch(LoadNumber(number))),
-        "load_drop" => Some(MachineCall::LoadDrop(LoadNumber(number))),
-        "pending" => Some(MachineCall::Pending),
+        "node_live" => Some(Call::NodeLive(NodeNumber(number))),
+        "take_pending" => Some(Call::TakePending(number)),
+        "load_fetch" => Some(Call::LoadFetch(LoadNumber(number), Want::Root)),
+        "load_drop" => Some(Call::LoadDrop(LoadNumber(number))),
+        "reserve" => Some(Call::Reserve(number)),
+        "pending" => Some(Call::Pending),
+        "cache_clear" => Some(Call::CacheClear),
+        "flush" => Some(Call::Flush),
+        "close" => Some(Call::Close),
         _ => None,
     }
 }
 
 /// A call with a key.
 fn of_key(name: &str, number: u64, behind: &str) -> Option<CellCall> {
-    if name == "fetch" {
-        return Some(MachineCall::Fetch(DataKey::new(u128::from(number))?));
-    }
-    let key = DataKey::new(behind.parse::<u128>().unwrap_or_default())?;
+    let first = DataKey::new(u128::from(number));
     match name {
-        "set_data_key" => Some(MachineCall::SetDataKey(HandleNumber(number), key)),
-        "new_paged_out" => Some(MachineCall::NewPagedOut(u32::try_from(number).ok()?, key)),
+        "fetch" => Some(Call::Fetch(first?)),
+        "load_key" => Some(Call::LoadKey(first?)),
+        "set_data_key" => Some(Call::SetDataKey(HandleNumber(number), key_of(behind)?)),
+        "new_paged_out" => Some(Call::NewPagedOut(u32::try_from(number).ok()?, key_of(behind)?)),
         _ => None,
     }
 }
 
+/// The handles that a load of a key hands over.
+fn taken(alloc: Global, load: LoadNumber, words: &str) -> anyhow::Result<CellCall> {
+    let mut handles = Vec::new(alloc);
+    for word in words.split(' ') {
+        if !word.is_empty() {
+            handles.push(HandleNumber(number_of(word)))?;
+        }
+    }
+    Ok(Call::LoadTake(load, handles))
+}
+
 /// A call with a value or a blob.
-fn of_value(
-    alloc: Global,
-    name: &str,
-    load: LoadNumber,
-    rest: &str,
-    behind: &str,
-) -> anyhow::Result<CellCall> {
+fn of_value(alloc: Global, name: &str, number: u64, rest: &str) -> anyhow::Result<CellCall> {
+    let (_, behind) = split(rest);
+    let load = LoadNumber(number);
     match name {
-        "new_loose" => Ok(MachineCall::NewLoose(node(alloc, rest)?)),
-        "new_pinned" => Ok(MachineCall::NewPinned(node(alloc, rest)?)),
-        "load_end" => Ok(MachineCall::LoadEnd(load, node(alloc, behind)?)),
-        "store" => Ok(MachineCall::Store(blob(alloc, rest)?)),
+        "new_loose" => Ok(Call::NewLoose(node(alloc, rest)?)),
+        "new_pinned" => Ok(Call::NewPinned(node(alloc, rest)?)),
+        "new_shared" => Ok(Call::NewShared(node(alloc, rest)?)),
+        "load_end" => Ok(Call::LoadEnd(load, node(alloc, behind)?)),
+        "load_adopt" => adopted(alloc, load, behind),
+        "store" => Ok(Call::Store(blob(alloc, rest)?)),
         _ => bail!("no such call"),
     }
+}
+
+/// What a load read under a kind and a key becomes a node.
+fn adopted(alloc: Global, load: LoadNumber, behind: &str) -> anyhow::Result<CellCall> {
+    let (kind, rest) = split(behind);
+    let (key, spelled) = split(rest);
+    let kind = kind_of(number_of(kind)).context("no kind")?;
+    let key = key_of(key).context("no key")?;
+    Ok(Call::LoadAdopt(load, kind, key, node(alloc, spelled)?))
 }

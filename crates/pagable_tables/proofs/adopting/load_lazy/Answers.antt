@@ -1,12 +1,13 @@
-use Rattle.std.proofs.Common.{ℕ, not, [], arith, ap, sym, ◌∙◌, subst, false, None, inl, inr, rules}
-use Rattle.std.specs.Prelude.{IfOk}
-use Rattle.pagable_world.specs.World.{Alike}
+use Rattle.std.proofs.Common.{ℕ, ◌<◌, not, [], arith, ap, sym, ◌∙◌, subst, false, Ok, None}
+use Rattle.pagable_model.specs.declared.data_key.OptionalDataKey.TheVariants as optional
+use Rattle.pagable_world.specs.World.{Core, Alike, greatest}
 use Rattle.pagable_world.specs.declared.handles.Owner.TheVariants as owners
-use Rattle.pagable_world.specs.Refusals.{references_fault}
 use Rattle.pagable_world.specs.LoadCalls.{adopted}
 use Rattle.pagable_tables.specs.Core.{core_of, plain_of, load_in, Suits}
 use Rattle.pagable_tables.specs.Falling.{key_in}
-use Rattle.pagable_tables.proofs.Lazily.{lazy-not-own, lazy-not-loose, lazy-known, lazy-spent, lazy-new, key-there}
+use Rattle.pagable_tables.proofs.Lazily.{lazy-not-own, lazy-not-loose, lazy-known, lazy-not-new, lazy-new, key-there}
+use Rattle.pagable_tables.proofs.NewNodes.{none-named}
+use Rattle.pagable_tables.proofs.Readied.{adopted-past, next-past, room-newer}
 use Rattle.pagable_tables.proofs.keeps.CacheCalls.{known-suits}
 use Rattle.indexmap.specs.IndexMap.{IndexMap}
 use Rattle.pagable_tables.specs.ByNumber.{load_at}
@@ -16,7 +17,6 @@ use Rattle.pagable_tables.proofs.Newer.{lazy-newer, later-so}
 use Rattle.pagable_tables.proofs.keeps.AdoptCalls.{lazy-whole}
 use Rattle.pagable_tables.proofs.keeps.Placed.{whole-so}
 use Rattle.pagable_tables.proofs.adopting.load_lazy.Goals as goal
-use Rattle.pagable_tables.proofs.adopting.load_lazy.Goals.{then-t-via-then-t, then-t-via-else-t+then-t-2}
 
 pub returns-in-Err-clause-lazily : goal.returns-in-Err-clause-lazily
 returns-in-Err-clause-lazily c stored closed failures e = lazy-not-own _ c.args.me c.args.load c.args.kind c.args.key c.in-Err.e (c.in-Err.ensures.fault stored closed failures)
@@ -35,30 +35,36 @@ returns-in-Some-clause-lazily c stored closed failures e =
     lazy-known _ c.args.me c.args.load (load_in c.in-Ok.row) c.args.kind c.args.key (c.in-Ok.ensures.own stored closed failures) (sym c.if-not-is_loose_kind.ensures)
     c.in-Some.node c.mode_of.result c.make.result _ (sym (c.in-Some.ensures stored closed failures)) c.mode_of.ensures (c.make.ensures.made stored closed failures)
 
-pub returns-then-t-clause-lazily : goal.returns-then-t-clause-lazily
-returns-then-t-clause-lazily c stored closed failures e =
-    lazy-spent _ c.args.me c.args.load (load_in c.in-Ok.row) c.args.kind c.args.key (c.in-Ok.ensures.own stored closed failures) (sym c.if-not-is_loose_kind.ensures) (sym (c.in_default.ensures stored closed failures))
-    (elim c.then-t.branch [ then-t-via-then-t w ↦ inl (let a = w.if-t.true in omega arith) | then-t-via-else-t+then-t-2 w ↦ inr (let a = w.if-t-2.true in omega arith) ])
+pub learn_new-requires-clause-fit : goal.learn_new-requires-clause-fit
+learn_new-requires-clause-fit c = none-named (plain_of c.make_ready_to_learn.new.t) (owners.Load c.args.load) _ c.new.ensures.items
 
-pub adopt_new-requires-clause-fit : goal.adopt_new-requires-clause-fit
-unfolding references_fault
-adopt_new-requires-clause-fit c = ap (references_fault (plain_of c.args.t.now) (owners.Load c.args.load) []) c.new.ensures.items
-
-pub returns-clause-lazily : goal.returns-clause-lazily
-returns-clause-lazily c stored closed failures e =
-    let w = core_of c.args.t.now stored closed failures in
-    let w' = core_of c.adopt_new.new.t stored closed failures in
+pub returns-in-Ok-make_ready_to_learn-clause-lazily : goal.returns-in-Ok-make_ready_to_learn-clause-lazily
+returns-in-Ok-make_ready_to_learn-clause-lazily c stored closed failures e =
+    let w1 = core_of c.make_ready_to_learn.new.t stored closed failures in
+    let w' = core_of c.learn_new.new.t stored closed failures in
     let l = c.args.load in
-    let one = subst (λ rs. IfOk c.adopt_new.result (λ k. Alike (adopted w l c.args.kind c.args.key (key_in c.get.result) rs) w')) c.new.ensures.items (c.adopt_new.ensures.adopted stored closed failures e) in
-    let two = subst (λ o. IfOk c.adopt_new.result (λ k. Alike (adopted w l c.args.kind c.args.key o []) w')) (ap key_in c.get.ensures.value ∙ key-there c.args.key (let a = c.get.ensures.value in let b = c.get.ensures.above in omega arith)) one in
-    lazy-new w c.args.me l (load_in c.in-Ok.row) c.args.kind c.args.key (c.in-Ok.ensures.own stored closed failures) (sym c.if-not-is_loose_kind.ensures) (sym (c.in_default.ensures stored closed failures)) c.adopt_new.result w'
-    (search rules) (search rules) (c.adopt_new.ensures.next stored closed failures) two (c.adopt_new.ensures.refused stored closed failures)
+    let room = c.make_ready_to_learn.ensures.room stored closed failures in
+    let one = subst (λ rs. Alike (adopted w1 l c.args.kind c.args.key (key_in c.get.result) rs) w') c.new.ensures.items (c.learn_new.ensures.adopted stored closed failures e) in
+    let two = subst (λ o. Alike (adopted w1 l c.args.kind c.args.key o []) w') (ap key_in c.get.ensures.value ∙ key-there c.args.key (let a = c.get.ensures.value in let b = c.get.ensures.above in omega arith)) one in
+    lazy-new (core_of c.args.t.now stored closed failures) c.args.me l (load_in c.in-Ok.row) c.args.kind c.args.key (c.in-Ok.ensures.own stored closed failures) (sym c.if-not-is_loose_kind.ensures) (sym (c.in_default.ensures stored closed failures))
+    c.learn_new.result (subst (λ (u : Core). u.last.node < greatest) room.same c.in-Ok-make_ready_to_learn.ensures.ready.node_left) (next-past room (c.learn_new.ensures.next stored closed failures))
+    (adopted-past l c.args.kind c.args.key (optional.Some c.args.key) [] room two)
 
-pub returns-clause-whole : goal.returns-clause-whole
-returns-clause-whole c =
-    whole-so c.adopt_new.ensures.steady (lazy-whole c.args.me c.args.load c.args.kind c.args.key c.adopt_new.result c.requires.whole.core (returns-clause-lazily c (λ key. None) (not c.args.lists) 0 (not-closed c.args.lists)))
+pub returns-in-Err-make_ready_to_learn-clause-lazily : goal.returns-in-Err-make_ready_to_learn-clause-lazily
+returns-in-Err-make_ready_to_learn-clause-lazily c stored closed failures e =
+    lazy-not-new (core_of c.args.t.now stored closed failures) c.args.me c.args.load (load_in c.in-Ok.row) c.args.kind c.args.key (c.in-Ok.ensures.own stored closed failures) (sym c.if-not-is_loose_kind.ensures)
+    (sym (c.in_default.ensures stored closed failures)) (c.in-Err-make_ready_to_learn.ensures.refused stored closed failures)
 
-pub returns-clause-later : goal.returns-clause-later
-returns-clause-later c =
-    let n = lazy-newer c.args.me c.args.load c.args.kind c.args.key c.adopt_new.result (returns-clause-lazily c (λ key. None) (not c.args.lists) 0 (not-closed c.args.lists)) in
-    later-so c.requires.later (record { last = n.last; owned = n.owned }) (λ l load is. sym (ap (λ (m : IndexMap ℕ LoadRow _). load_at m l) c.adopt_new.ensures.loads) ∙ is)
+pub returns-in-Ok-make_ready_to_learn-clause-whole : goal.returns-in-Ok-make_ready_to_learn-clause-whole
+returns-in-Ok-make_ready_to_learn-clause-whole c =
+    whole-so c.learn_new.ensures.steady
+    (lazy-whole c.args.me c.args.load c.args.kind c.args.key (Ok c.learn_new.result) c.requires.whole.core (returns-in-Ok-make_ready_to_learn-clause-lazily c (λ key. None) (not c.args.lists) 0 (not-closed c.args.lists)))
+
+pub returns-in-Ok-make_ready_to_learn-clause-later : goal.returns-in-Ok-make_ready_to_learn-clause-later
+returns-in-Ok-make_ready_to_learn-clause-later c =
+    let n = lazy-newer c.args.me c.args.load c.args.kind c.args.key (Ok c.learn_new.result) (returns-in-Ok-make_ready_to_learn-clause-lazily c (λ key. None) (not c.args.lists) 0 (not-closed c.args.lists)) in
+    later-so c.requires.later (record { last = n.last; owned = n.owned })
+    (λ l load is. sym (ap (λ (m : IndexMap ℕ LoadRow _). load_at m l) (c.learn_new.ensures.loads ∙ c.make_ready_to_learn.ensures.loads)) ∙ is)
+
+pub returns-in-Err-make_ready_to_learn-clause-later : goal.returns-in-Err-make_ready_to_learn-clause-later
+returns-in-Err-make_ready_to_learn-clause-later c = room-newer (c.make_ready_to_learn.ensures.room (λ key. None) false 0) c.make_ready_to_learn.ensures.loads c.requires.later

@@ -22,12 +22,11 @@ returns-clause-steady c =
     let n = u.last_node + 1 in
     let x : HandleRow = record { number = record { 0 = t.last_handle + 1 }; node = record { 0 = n }; mode = c.args.mode; owner = me } in
     let added = c.in-Ok-add.ensures in
-    let room = c.reserve-2.ensures in
     let free : at n ≡ None = no-node (at n) u.last_node (w.core.handles.nodes_numbered n) in
-    let named = ap (λ l. moved (is_named_by l) (owner_value n) (live c.reserve.new.handles.places.items)) c.deref.ensures.value in
-    let given = c.hand_over_all.ensures.rows ∙ named ∙ ap (moved (is_named_by rs) (owner_value n)) c.reserve.ensures.rows in
-    let rows = c.in-Ok-push.ensures.rows ∙ ap (λ l. l ++ x ∷ []) given in
+    let named = ap (λ l. moved (is_named_by l) (owner_value n) (live t.handles.places.items)) c.deref.ensures.value in
+    let given = c.hand_over_all.ensures.rows ∙ named in
+    let rows = c.in-Ok.ensures.rows ∙ ap (λ l. l ++ x ∷ []) given in
     let unvalued = not-a-value (plain_of u) me c.requires.holder in
     let fits = born-fits (plain_of u) me rs w.core.handles.ordered c.requires.fit unvalued at (counts_at c.add.new.nodes) refs (refs_at c.add.new.nodes) t.top x c.args.counts w.steady.fits refl
-    c.requires.counts c.requires.bare (omega arith) free added.here (λ q other. added.others q other ∙ room.counts q) added.refs (λ q other. added.other_refs q other ∙ room.refs q) in
-    record { sound = c.push.ensures.sound; next = c.in-Ok-push.ensures.next; fits = rows-told (counts_at c.add.new.nodes) (refs_at c.add.new.nodes) _ _ t.top rows fits }
+    c.requires.counts c.requires.bare (omega arith) free added.here added.others added.refs added.other_refs in
+    record { sound = c.push.ensures.sound; next = c.in-Ok.ensures.next; fits = rows-told (counts_at c.add.new.nodes) (refs_at c.add.new.nodes) _ _ t.top rows fits }

@@ -1,40 +1,44 @@
-use Rattle.std.proofs.Common.{ap, subst, ◌∙◌, Ok, Err, None, false, arith}
-use Rattle.pagable_tables.specs.declared.rows.Counts.{Counts}
+use Rattle.std.proofs.Common.{ap, sym, subst, ◌∙◌, Ok, None, false, arith}
 use Rattle.pagable_world.specs.declared.rows.Mode.TheVariants as modes
+use Rattle.pagable_tables.specs.declared.rows.Counts.{Counts}
+use Rattle.pagable_tables.specs.declared.tables.Tables.{Tables}
 use Rattle.pagable_tables.specs.Bearing.{Bears}
+use Rattle.pagable_tables.specs.ByNumber.{load_at}
 use Rattle.pagable_tables.specs.Core.{core_of, plain_of}
-use Rattle.pagable_tables.proofs.NewNodes.{none-named, away-born}
+use Rattle.pagable_tables.proofs.NewNodes.{none-named, away-born, bears-newer}
+use Rattle.pagable_tables.proofs.Newer.{later-so}
+use Rattle.pagable_tables.proofs.Readied.{room-holder, room-newer, weaker}
 use Rattle.pagable_tables.proofs.keeps.BirthCalls.{away-birth-whole}
 use Rattle.pagable_tables.proofs.keeps.Placed.{whole-so}
 use Rattle.pagable_tables.proofs.births.new_away.Goals as goal
 
 pub bear-requires-clause-fit : goal.bear-requires-clause-fit
-bear-requires-clause-fit c = none-named (plain_of c.args.t.now) c.args.me _ c.new.ensures.items
+bear-requires-clause-fit c = none-named (plain_of c.make_ready.new.t) c.args.me _ c.new.ensures.items
+
+pub bear-requires-clause-holder : goal.bear-requires-clause-holder
+bear-requires-clause-holder c = room-holder c.args.me (c.make_ready.ensures.room (λ key. None) false 0) c.requires.holder
 
 pub returns-in-Ok-clause-born : goal.returns-in-Ok-clause-born
 returns-in-Ok-clause-born c stored closed failures =
-    let w = core_of c.args.t.now stored closed failures in
+    let w1 = core_of c.make_ready.new.t stored closed failures in
     let typed = ap (λ (d : Counts). d.node_type) c.first_counts-counts.ensures in
     let keyed = ap (λ (d : Counts). d.key) c.first_counts-counts.ensures ∙ c.get.ensures.value in
     let w' = core_of c.bear.new.t stored closed failures in
-    let born = subst (λ l. Bears w c.args.me c.first_counts-counts.result l modes.LooseUnpinned (Ok c.in-Ok.handle) w') c.new.ensures.items (c.in-Ok.ensures.born stored closed failures) in
-    away-born w c.args.me c.args.node_type c.first_counts-counts.result _ c.args.key (Ok c.in-Ok.handle) typed keyed (omega arith) born
+    let born = subst (λ l. Bears w1 c.args.me c.first_counts-counts.result l modes.LooseUnpinned c.bear.result w') c.new.ensures.items (c.bear.ensures.born stored closed failures) in
+    away-born c.args.me c.args.node_type c.first_counts-counts.result w' c.args.key c.bear.result (c.make_ready.ensures.room stored closed failures) c.in-Ok.ensures.ready.node_left typed keyed (omega arith) born
 
 pub returns-in-Err-clause-born : goal.returns-in-Err-clause-born
-returns-in-Err-clause-born c stored closed failures =
-    let w = core_of c.args.t.now stored closed failures in
-    let typed = ap (λ (d : Counts). d.node_type) c.first_counts-counts.ensures in
-    let keyed = ap (λ (d : Counts). d.key) c.first_counts-counts.ensures ∙ c.get.ensures.value in
-    let w' = core_of c.bear.new.t stored closed failures in
-    let born = subst (λ l. Bears w c.args.me c.first_counts-counts.result l modes.LooseUnpinned (Err c.in-Err.e) w') c.new.ensures.items (c.in-Err.ensures.born stored closed failures) in
-    away-born w c.args.me c.args.node_type c.first_counts-counts.result _ c.args.key (Err c.in-Err.e) typed keyed (omega arith) born
+returns-in-Err-clause-born c stored closed failures = record { made = tt; refused = weaker (c.in-Err.ensures.refused stored closed failures) }
 
 pub returns-in-Ok-clause-whole : goal.returns-in-Ok-clause-whole
 returns-in-Ok-clause-whole c =
-    let call = returns-in-Ok-clause-born c (λ key. None) false 0 in
-    whole-so c.in-Ok.ensures.steady (away-birth-whole c.args.me c.args.node_type c.args.key (Ok c.in-Ok.handle) c.requires.whole.core c.requires.holder call)
+    whole-so c.bear.ensures.steady (away-birth-whole c.args.me c.args.node_type c.args.key (Ok c.bear.result) c.requires.whole.core c.requires.holder (returns-in-Ok-clause-born c (λ key. None) false 0))
 
-pub returns-in-Err-clause-whole : goal.returns-in-Err-clause-whole
-returns-in-Err-clause-whole c =
-    let call = returns-in-Err-clause-born c (λ key. None) false 0 in
-    whole-so c.in-Err.ensures.steady (away-birth-whole c.args.me c.args.node_type c.args.key (Err c.in-Err.e) c.requires.whole.core c.requires.holder call)
+pub returns-in-Ok-clause-later : goal.returns-in-Ok-clause-later
+returns-in-Ok-clause-later c later =
+    let between = room-newer {t = c.args.t.now} {t' = c.make_ready.new.t} (c.make_ready.ensures.room (λ key. None) false 0) (ap (λ (t : Tables). t.loads) c.make_ready.ensures.same) later in
+    let n = bears-newer c.args.me c.first_counts-counts.result c.new.result.items modes.LooseUnpinned c.bear.result (c.bear.ensures.born (λ key. None) false 0) in
+    later-so between (record { last = n.last; owned = n.owned }) (λ l load is. sym (ap (λ (t : Tables). load_at t.loads l) c.bear.ensures.same) ∙ is)
+
+pub returns-in-Err-clause-later : goal.returns-in-Err-clause-later
+returns-in-Err-clause-later c later = room-newer (c.make_ready.ensures.room (λ key. None) false 0) (ap (λ (t : Tables). t.loads) c.make_ready.ensures.same) later

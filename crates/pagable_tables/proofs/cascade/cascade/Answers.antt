@@ -1,4 +1,4 @@
-use Rattle.std.proofs.Common.{◌≡◌, ℕ, Bool, true, false, Option, Some, None, arith, inl, refl, ap, sym, ◌∙◌}
+use Rattle.std.proofs.Common.{◌≡◌, ℕ, Bool, true, false, Option, Some, None, arith, inl, refl, ap, sym, subst, ◌∙◌}
 use Rattle.std.specs.Prelude.{◌≢◌, IfSome}
 use Rattle.std.proofs.lemmas.Bool.Decides.{nat_tests}
 use Rattle.pagable_model.specs.declared.numbers.NodeNumber.{NodeNumber}
@@ -8,7 +8,7 @@ use Rattle.pagable_tables.proofs.Shedding.{lasts-on, none-falls-in}
 use Rattle.pagable_tables.specs.ByNumber.{counts_at}
 use Rattle.pagable_tables.proofs.Standing.{valued-le, none-falls, one-falls}
 use Rattle.pagable_tables.proofs.Ended.{ended}
-use Rattle.pagable_tables.proofs.Fewer.{steps-fewer}
+use Rattle.pagable_tables.proofs.Fewer.{steps-fewer, steps-unlisted}
 use Rattle.pagable_tables.proofs.Next.{steps-on}
 use Rattle.pagable_tables.proofs.cascade.cascade.Goals as goal
 
@@ -30,7 +30,7 @@ fall-init g c =
     let v = valued-le (live c.args.t.now.handles.places.items) in
     let b = c.budget-left.ensures in
     let few = w.2 in
-    ((w.0, w.1, omega arith), λ before w given f. f, λ kept n. (inl refl, kept n), omega arith)
+    ((w.0, w.1, omega arith), λ before w given f. f, λ kept n. (inl refl, kept n), omega arith, λ none. refl)
 
 pub overflow_sub-left : goal.overflow_sub-left
 overflow_sub-left g c =
@@ -54,10 +54,14 @@ fall-preserved g c =
           (counts_at c.step-done.new.t.nodes n) _ _ _ (c.let_go.ensures n) (λ other. s.values n (not-node c.step-done.result n other))
           (gone-node (λ m. has_value (counts_at c.step-done.new.t.nodes m)) c.step-done.result n s.gone) (c.fall.invariant.2 kept n),
       omega arith,
+      λ none. steps-unlisted c.fall.t c.step-done.new.t i.0 c.step-done.result (subst (λ b. Steps c.fall.t i.0 b c.step-done.result c.step-done.new.t) none s) ∙ c.fall.invariant.4 none,
     )
 
 pub returns-clause-whole : goal.returns-clause-whole
 returns-clause-whole g c = let w = c.fall.invariant.0 in none-falls c.fall.t w.0 w.1 (omega arith)
+
+pub returns-clause-unlisting : goal.returns-clause-unlisting
+returns-clause-unlisting g c = c.fall.invariant.4
 
 pub returns-clause-falls : goal.returns-clause-falls
 returns-clause-falls g c before w given so-far =

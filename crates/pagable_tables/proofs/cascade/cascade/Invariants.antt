@@ -1,4 +1,4 @@
-use Rattle.std.proofs.Common.{nat_eq, ℕ, ◌+◌, ◌*◌, ◌≤◌, Bool, List, length}
+use Rattle.std.proofs.Common.{nat_eq, ℕ, ◌≡◌, ◌+◌, ◌*◌, ◌≤◌, Bool, false, List, length}
 use Rattle.pagable_world.specs.World.{Core}
 use Rattle.pagable_tables.specs.Live.{live}
 use Rattle.indexmap.specs.IndexMap.{get}
@@ -14,6 +14,7 @@ invariant-fall g l =
     × ((before w : Core) (given : ℕ → Bool) → SoFar before w given l.lists l.initial.t → SoFar before w given l.lists l.t)
     × (AreKept (counts_at l.initial.t.nodes) (get nat_eq l.initial.values) → (n : ℕ) → Lasting (counts_at l.t.nodes n) (get nat_eq l.initial.values n) (get nat_eq l.values n))
     × (length (live l.t.handles.places.items) ≤ length (live l.initial.t.handles.places.items))
+    × (l.lists ≡ false → l.t.list.items ≡ l.initial.t.list.items)
 
 abbrev pub decreases-fall : goal.decreases-fall
 decreases-fall g l = l.left

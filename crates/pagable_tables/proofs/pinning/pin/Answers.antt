@@ -6,6 +6,7 @@ use Rattle.pagable_world.specs.Calls.{with_handle, with_mode, is_handle_here, pi
 use Rattle.pagable_world.specs.Refusals.{earlier, where_so, spent, Owns}
 use Rattle.pagable_world.specs.declared.handles.HandleRow.{HandleRow}
 use Rattle.pagable_world.specs.declared.rows.Mode.TheVariants as modes
+use Rattle.pagable_tables.specs.declared.tables.Tables.{Tables}
 use Rattle.pagable_tables.specs.Core.{core_of}
 use Rattle.pagable_tables.proofs.Pins.{handle-first, no-fault, spent-late}
 use Rattle.pagable_tables.proofs.Worlds.{still, owner-same}
@@ -45,8 +46,8 @@ returns-in-Err-pin_here-clause-pinned c stored closed failures =
 
 pub returns-in-Ok-pin_here-clause-later : goal.returns-in-Ok-pin_here-clause-later
 returns-in-Ok-pin_here-clause-later c later =
-    later-so later (pin-newer c.args.me c.args.handle _ (returns-in-Ok-pin_here-clause-pinned c (λ key. None) false 0)) (λ l load is. sym (ap (λ loads. load_at loads l) c.in-Ok-pin_here.ensures.loads) ∙ is)
+    later-so later (pin-newer c.args.me c.args.handle _ (returns-in-Ok-pin_here-clause-pinned c (λ key. None) false 0)) (λ l load is. sym (ap (λ (u : Tables). load_at u.loads l) c.in-Ok-pin_here.ensures.same) ∙ is)
 
 pub returns-in-Err-pin_here-clause-later : goal.returns-in-Err-pin_here-clause-later
 returns-in-Err-pin_here-clause-later c later =
-    later-so later (pin-newer c.args.me c.args.handle _ (returns-in-Err-pin_here-clause-pinned c (λ key. None) false 0)) (λ l load is. sym (ap (λ loads. load_at loads l) c.in-Err-pin_here.ensures.loads) ∙ is)
+    later-so later (pin-newer c.args.me c.args.handle _ (returns-in-Err-pin_here-clause-pinned c (λ key. None) false 0)) (λ l load is. sym (ap (λ (u : Tables). load_at u.loads l) c.in-Err-pin_here.ensures.same) ∙ is)

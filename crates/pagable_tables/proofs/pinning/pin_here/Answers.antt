@@ -56,8 +56,5 @@ returns-clause-pinned c stored closed failures =
     let same = λ (kind key : ℕ). ap (λ (u : Tables). cache u kind key) c.turn.ensures.same ∙ ap (λ (u : Tables). cache u kind key) c.in-Ok.ensures.same in
     record { pinned = (record { above = m.made.0.above; is_left = m.made.0.is_left }, pinned-alike w u w' row.number row.node c.args.me numbered.1 same m.made.1 turned); refused = tt }
 
-pub returns-in-Err-clause-loads : goal.returns-in-Err-clause-loads
-returns-in-Err-clause-loads c = ap (λ (u : Tables). u.loads) c.in-Err.ensures.same
-
-pub returns-clause-loads : goal.returns-clause-loads
-returns-clause-loads c = ap (λ (u : Tables). u.loads) c.turn.ensures.same ∙ ap (λ (u : Tables). u.loads) c.in-Ok.ensures.same
+pub returns-clause-same : goal.returns-clause-same
+returns-clause-same c = c.turn.ensures.same ∙ ap (λ (u : Tables). record u { holdings = c.turn.new.t.holdings }) c.in-Ok.ensures.same

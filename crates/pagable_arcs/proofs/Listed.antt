@@ -1,0 +1,58 @@
+-- The references of values that hold others, one after the other.
+use Rattle.std.proofs.Common.{◌≡◌, ◌∙◌, ◌<◌, ◌≤◌, ◌+◌, ℕ, length, slice_index_or, List, [], ◌∷◌, ◌++◌, sym, ap, append_assoc, Result, Ok, Err}
+use Rattle.std.proofs.lemmas.List.{append-nil, drop_all, drop_more}
+use Rattle.std.specs.Prelude.{map, drop, OnOk, Option, Some, None}
+use Rattle.pagable_model.specs.Carried.{of_option}
+use Rattle.pagable_model.specs.Meaning.{Meaning, pair, reference, sequence}
+use Rattle.pagable_model.specs.Meaning as texts
+use Rattle.pagable_model.specs.References.{references_in}
+use Rattle.pagable_model.specs.Shape.{Shape}
+use Rattle.pagable_model.specs.Writing.{Nesting, Out, WritesSome}
+use Rattle.pagable_model.specs.declared.error.Error.{Error}
+use Rattle.pagable_model.specs.declared.numbers.ArcRef.{ArcRef}
+use Rattle.pagable_arcs.specs.Refers.{ListsInOrder}
+
+pub one_listed : (old new : List ArcRef) (r : ArcRef) → new ≡ old ++ r ∷ [] → new ≡ old ++ references_in (reference r)
+unfolding references_in
+one_listed old new r e = e
+
+pub none_listed : (old : List ArcRef) (t : List ℕ) → old ≡ old ++ references_in (texts.text t)
+unfolding references_in
+none_listed old t = sym (append-nil old)
+
+pub absent_listed : {T : Type 0} (meaning : T → Meaning ArcRef) (o : Option T) (old : List ArcRef) → o ≡ None → old ≡ old ++ references_in (of_option meaning o)
+unfolding references_in
+absent_listed meaning o old e = rw e (sym (append-nil old))
+
+pub present_listed : {T : Type 0} (meaning : T → Meaning ArcRef) (x : T) (old new : List ArcRef) → new ≡ old ++ references_in (meaning x) → new ≡ old ++ references_in (of_option meaning (Some x))
+unfolding references_in
+present_listed meaning x old new e = e
+
+pub pair_listed : (m n : Meaning ArcRef) (old mid new : List ArcRef) → mid ≡ old ++ references_in m → new ≡ mid ++ references_in n → new ≡ old ++ references_in (pair m n)
+unfolding references_in
+pair_listed m n old mid new e f = f ∙ ap (λ x. x ++ references_in n) e ∙ append_assoc old (references_in m) (references_in n)
+
+-- the references so far and those of the items that are left, before and after the next item
+pub item_listed : {T : Type 0} (meaning : T → Meaning ArcRef) (xs : List T) (i : ℕ) (x : T) (old new all : List ArcRef) → i < length xs → x ≡ slice_index_or xs i x → new ≡ old ++ references_in (meaning x)
+    → old ++ references_in (sequence (map meaning (drop i xs))) ≡ all → new ++ references_in (sequence (map meaning (drop (i + 1) xs))) ≡ all
+unfolding references_in
+item_listed meaning xs i x old new all lt is e f =
+    let rest = references_in (sequence (map meaning (drop (i + 1) xs))) in
+    let next : drop i xs ≡ x ∷ drop (i + 1) xs = drop_more xs i x lt ∙ ap (λ y. y ∷ drop (i + 1) xs) (sym is) in
+    ap (λ r. r ++ rest) e ∙ (append_assoc old (references_in (meaning x)) rest ∙ (ap (λ ys. old ++ references_in (sequence (map meaning ys))) (sym next) ∙ f))
+
+-- and after the last one
+pub items_listed : {T : Type 0} (meaning : T → Meaning ArcRef) (xs : List T) (i : ℕ) (new all : List ArcRef) → length xs ≤ i → new ++ references_in (sequence (map meaning (drop i xs))) ≡ all → new ≡ all
+unfolding references_in
+items_listed meaning xs i new all le e = sym (append-nil new) ∙ (ap (λ ys. new ++ references_in (sequence (map meaning ys))) (sym (drop_all i xs le)) ∙ e)
+
+-- what was written of a value that means one thing lists its references
+written-listed : (M : Meaning ArcRef → Type 0) (own : Meaning ArcRef) (n : Nesting) (s : Shape) (old new : Out) → ((m : Meaning ArcRef) → M m → m ≡ own) → ListsInOrder n.parts s → WritesSome M n s old new → new.refs ≡ old.refs ++ references_in own
+written-listed M own n s old new single order w = rw w.wrote.grown (ap (λ k. old.refs ++ k) (order _ w.m w.wrote.bytes w.wrote.refs w.wrote.form ∙ ap references_in (single w.m w.is)))
+
+pub written_listed : {X : Type 0} (r : Result X Error) (M : Meaning ArcRef → Type 0) (own : Meaning ArcRef) (n : Nesting) (s : Shape) (old new : Out) → ((m : Meaning ArcRef) → M m → m ≡ own) → ListsInOrder n.parts s → OnOk r (WritesSome M n s old new)
+    → OnOk r (new.refs ≡ old.refs ++ references_in own)
+written_listed (Ok x) M own n s old new single order w = written-listed M own n s old new single order w
+written_listed (Err e) M own n s old new single order w = tt
+
+pub ruleset parts = (one_listed, none_listed, absent_listed, present_listed, pair_listed)

@@ -1,0 +1,128 @@
+//! Loose references.
+
+ghost use Rattle.std.specs.Prelude.{◌≡◌, ◌≢◌, refl, IfSome, IfNone, nat_eq};
+ghost use Rattle.pagable_model.specs.Causes.{memory_may_refuse_writing, never_is_own_reading};
+ghost use Rattle.pagable_model.specs.Gives.{memory, never};
+ghost use Rattle.pagable_model.specs.Shape.{reference as reference_shape};
+ghost use Rattle.pagable_model.specs.Standing.{Is};
+ghost use Rattle.pagable_arcs.specs.References.{loose, loose_kind, loose_means, reference_is_read, reference_has_one_form};
+
+use crate::value_type::ValueType;
+use pagable_codec::{
+    ArcRef, Env, HandleNumber, Kind, NodeNumber, PagableDeserializer, PagableSerializer,
+};
+use pagable_flavors::Error;
+use pagable_traits::{
+    Canonical, Carried, OneMeaning, PagableDeserialize, PagableSerialize, ReadBack,
+};
+use std::alloc::Global;
+use std::marker::PhantomData;
+
+/// A loose reference to a shared value of type `T`. It holds no value: reading it reads nothing of the value, and pinning
+/// it gives the value.
+#[derive(Debug, Drop)]
+pub struct PagableArc<T> {
+    node: NodeNumber,
+    handle: HandleNumber,
+    value: PhantomData<T>,
+}
+
+/// The kind of loose references to values of type `T`.
+pub fn loose_kind_of<E: Env, T: ValueType<E>>() -> Kind
+    ensures { result.0 ≡ loose_kind T.NUMBER }
+{
+    Kind(3 * T::NUMBER + 1)
+}
+
+impl<T> PagableArc<T> {
+    /// The loose reference that this is, or None where it is of another kind.
+    pub fn from_reference<E: Env>(reference: ArcRef) -> Option<PagableArc<T>>
+    where
+        T: ValueType<E>,
+        ensures some { IfSome result (λ a. loose T.NUMBER a ≡ reference) }
+        ensures none { IfNone result (reference.kind.0 ≢ loose_kind T.NUMBER) }
+    {
+        if reference.kind != loose_kind_of::<E, T>() {
+            return None;
+        }
+        Some(PagableArc {
+            node: reference.node,
+            handle: reference.handle,
+            value: PhantomData,
+        })
+    }
+
+    /// The reference as values hold it.
+    pub fn reference<E: Env>(&self) -> ArcRef
+    where
+        T: ValueType<E>,
+        ensures { result ≡ loose T.NUMBER self.now }
+    {
+        ArcRef {
+            kind: loose_kind_of::<E, T>(),
+            node: self.node,
+            handle: self.handle,
+        }
+    }
+
+    /// Whether both refer to the same shared value.
+    pub fn ptr_eq(left: &PagableArc<T>, right: &PagableArc<T>) -> bool
+        ensures { result ≡ nat_eq left.now.node.0 right.now.node.0 }
+    {
+        left.node.0 == right.node.0
+    }
+}
+
+impl<E: Env, T: ValueType<E>> Carried<E> for PagableArc<T> {
+    ghost shape = { λ e. reference_shape (loose_kind T.NUMBER) };
+
+    ghost means = { Is (loose_means T.NUMBER) };
+
+    ghost has_meaning = { λ a. (loose_means T.NUMBER a, refl) };
+}
+
+impl<E: Env, T: ValueType<E>> OneMeaning<E> for PagableArc<T> {
+    ghost meaning = { loose_means T.NUMBER };
+
+    ghost is_meaning = { λ a. refl };
+
+    ghost single = { λ a m is. is };
+}
+
+impl<E: Env, T: ValueType<E>> Canonical<E> for PagableArc<T> {
+    ghost one_form = { λ e. reference_has_one_form (E.parts e) (loose_kind T.NUMBER) };
+}
+
+impl<E: Env, T: ValueType<E>> ReadBack<E> for PagableArc<T> {
+    ghost is_read = { λ e. reference_is_read (E.parts e) (loose_kind T.NUMBER) };
+}
+
+impl<E: Env, T: ValueType<E>> PagableSerialize<E> for PagableArc<T> {
+    ghost write_causes = { memory };
+
+    ghost write_causes_may_refuse = { memory_may_refuse_writing };
+
+    #[tactic(auto, using(pagable_codec::proofs::Writing::parts, pagable_codec::proofs::Writing::references))]
+    fn pagable_serialize<S: PagableSerializer<E>>(&self, serializer: &mut S) -> Result<(), Error> {
+        serializer.serialize_arc(self.reference::<E>())
+    }
+}
+
+impl<'de, E: Env, T: ValueType<E>> PagableDeserialize<'de, E> for PagableArc<T> {
+    ghost read_causes = { never };
+
+    ghost read_causes_are_own = { never_is_own_reading };
+
+    #[tactic(auto, unfolding(pagable_model::specs::Reading::read, pagable_model::specs::Reading::read_with), using(pagable_codec::proofs::Reading::parts))]
+    fn pagable_deserialize<D: PagableDeserializer<E>>(
+        _alloc: Global,
+        deserializer: &mut D,
+    ) -> Result<Self, Error> {
+        let reference = deserializer.deserialize_arc(loose_kind_of::<E, T>())?;
+        Ok(PagableArc {
+            node: reference.node,
+            handle: reference.handle,
+            value: PhantomData,
+        })
+    }
+}

@@ -1,0 +1,3 @@
+mod NextStep
+mod Needed
+mod Stepped

@@ -1,0 +1,71 @@
+-- From what reading gives to what the blob asks for next.
+use Rattle.std.proofs.Common.{◌≡◌, ℕ, ◌+◌, List, [], ◌∷◌, length, true, false, Option, Some, None, Result, Ok, Err, ◌⊎◌, inl, inr, refl, ap, subst, sym, ◌∙◌, slice_get}
+use Rattle.pagable_model.specs.declared.error.Error.{Error}
+use Rattle.pagable_model.specs.declared.error.Error.TheVariants as errors
+use Rattle.pagable_model.specs.declared.numbers.ArcRef.{ArcRef}
+use Rattle.pagable_model.specs.Meaning.{Meaning}
+use Rattle.pagable_model.specs.Blob.{Blob}
+use Rattle.pagable_model.specs.Refusals.{is_own_reading}
+use Rattle.pagable_model.specs.Shape.{Shape}
+use Rattle.pagable_model.specs.Reading.{Rest, read_typed}
+use Rattle.pagable_model.specs.Standing.{Answer, Standing, GivesSome, handles_at, rest_at}
+use Rattle.pagable_core.specs.Context.{at_front}
+use Rattle.pagable_core.specs.Context as context
+use Rattle.pagable_world.specs.World.{Values}
+use Rattle.pagable_world.specs.Loads.{answer_of, answers_from, asks_for, next_by, next_of, read_with, is_faulty}
+use Rattle.pagable_loads.specs.Got.{answer_at}
+use Rattle.pagable_loads.specs.Decoding.{Decodes, Answers, ReadsWith, Asks, is_asking}
+use Rattle.pagable_loads.specs.declared.decoding.Decoded.{Decoded}
+use Rattle.pagable_loads.specs.declared.decoding.Decoded.TheVariants as decoded
+
+-- answers by place, key and kind are those of the references got
+same_answers : (got : List ArcRef) (place : ℕ) (keys : List ℕ) → context.answers_from (answer_at got) place keys ≡ answers_from got place keys
+unfolding answers_from
+same_answers got place [] = refl
+same_answers got place (key ∷ keys) = ap (λ (rest : List Answer). (λ kind. answer_of (slice_get got place) kind) ∷ rest) (same_answers got (place + 1) keys)
+
+-- reading at the front of the blob, with these answers, is reading with these references
+pub reads_with : {X E : Type 0} (own : Error → Type 0) (means : X → Meaning ArcRef → Type 0) (nodes : E → ℕ → Option Shape) (parts : E → ℕ → Shape) (t : ℕ) (env other : E) (levels : ℕ) (got found : List ArcRef) (bytes keys : List ℕ) (blob : Blob) (st : Standing) (after : Rest Answer) (result : Result X Error)
+    → st ≡ at_front (answer_at found) bytes keys → levels ≡ 0 → other ≡ env → found ≡ got → bytes ≡ blob.bytes → keys ≡ blob.keys
+    → GivesSome own means after result (read_typed (handles_at levels (parts other)) (nodes other t) (rest_at st))
+    → GivesSome own means after result (read_with (record { nodes = nodes env; parts = parts env }) t blob got)
+reads_with own means nodes parts t env other levels got found bytes keys blob st after result s l e g b k h =
+    let P : List Answer → Type 0 = λ refs. GivesSome own means after result (read_typed (handles_at 0 (parts env)) (nodes env t) (let x : Rest Answer = record { bytes = blob.bytes; refs = refs } in x)) in
+    let there : P (context.answers_from (answer_at got) 0 blob.keys) = rw (s, l, e, g, b, k) at h in
+    subst P (same_answers got 0 blob.keys) there
+
+-- each other refusal is a fault
+faulty : (key : Option ℕ) (e : Error) → is_asking e ≡ false → next_by key (Err e) ≡ is_faulty e
+faulty key (errors.Storage k) other = absurd (cc)
+faulty key e other = refl
+
+-- a refusal that is none of Storage asks for nothing
+pub asks_nothing : (e : Error) → ((kind : ℕ) → e ≡ errors.Storage kind → ⊥) → is_asking e ≡ false
+asks_nothing (errors.Storage k) other = absurd (other k refl)
+asks_nothing e other = refl
+
+module _ {N : Type 0} (v : Values N) (t : ℕ) (blob : Blob) (got : List ArcRef) where
+  abbrev pub key : Option ℕ
+  key = slice_get blob.keys (length got)
+
+  pub is_read : (x : N) → v.node_type x ≡ t → ReadsWith v t blob got (Ok x) → Decodes v t blob got (decoded.Read x)
+  is_read x typed h = record { answers = record { own = h.gives.m; read = ap (next_by key) h.gives.gave; typed = typed; means = h.gives.is } }
+
+  wanted : (kind : ℕ) → ((e : Error) → v.read_causes t e → is_own_reading e ≡ true) → ReadsWith v t blob got (Err (errors.Storage kind)) → read_with v.types t blob got ≡ Err (errors.Storage kind)
+  wanted kind law r = elim r.gives [ inl h ↦ h | inr h ↦ absurd (let f = law (errors.Storage kind) h in cc) ]
+
+  asked : (kind : ℕ) (o : Option ℕ) (d : Decoded N) → next_of v.types t blob got ≡ asks_for kind o → Asks kind o d → Answers v t blob got d
+  asked kind None d next a = subst (Answers v t blob got) (sym a.asks_from) (inl next)
+  asked kind (Some k) d next a = subst (Answers v t blob got) (sym a.asks_from) next
+
+  pub is_wanted : (kind : ℕ) (e : Error) (d : Decoded N) → e ≡ errors.Storage kind → ((f : Error) → v.read_causes t f → is_own_reading f ≡ true) → Asks kind key d → ReadsWith v t blob got (Err e) → Decodes v t blob got d
+  is_wanted kind e d is law a h =
+      let there : ReadsWith v t blob got (Err (errors.Storage kind)) = subst (λ (f : Error). ReadsWith v t blob got (Err f)) is h in
+      record { answers = asked kind key d (ap (next_by key) (wanted kind law there)) a }
+
+  refused : (e : Error) → is_asking e ≡ false → (read_with v.types t blob got ≡ Err e) ⊎ v.read_causes t e → Answers v t blob got (decoded.Refused e)
+  refused e other (inl h) = inl (ap (next_by key) h ∙ faulty key e other)
+  refused e other (inr h) = inr h
+
+  pub is_refused : (e : Error) → is_asking e ≡ false → ReadsWith v t blob got (Err e) → Decodes v t blob got (decoded.Refused e)
+  is_refused e other h = record { answers = refused e other h.gives }

@@ -1,0 +1,237 @@
+-- What a step's call did is what the step is said to do.
+use Rattle.std.proofs.Common.{◌≡◌, ℕ, ◌+◌, ◌<◌, ◌≤◌, List, [], ◌∷◌, ◌++◌, length, true, false, Option, Some, None, Result, Ok, Err, inl, inr, refl, ap, sym, subst, ◌∙◌, arith}
+use Rattle.std.specs.Prelude.{not}
+use Rattle.pagable_model.specs.declared.error.Error.{Error}
+use Rattle.pagable_model.specs.declared.error.Error.TheVariants as errors
+use Rattle.pagable_model.specs.declared.numbers.ArcRef.{ArcRef}
+use Rattle.pagable_model.specs.declared.numbers.HandleNumber.{HandleNumber}
+use Rattle.pagable_model.specs.declared.numbers.Kind.{Kind}
+use Rattle.pagable_model.specs.Blob.{Blob}
+use Rattle.pagable_model.specs.Deep.{longest_path}
+use Rattle.either.specs.declared.Either.TheVariants as eithers
+use Rattle.pagable_world.specs.declared.calls.Want.TheVariants as wants
+use Rattle.pagable_world.specs.declared.events.LoadAnswer.{LoadAnswer}
+use Rattle.pagable_world.specs.declared.events.LoadAnswer.TheVariants as ends
+use Rattle.pagable_world.specs.declared.handles.Owner.{Owner}
+use Rattle.pagable_world.specs.declared.handles.Owner.TheVariants as owners
+use Rattle.pagable_world.specs.Kinds.{is_owner}
+use Rattle.pagable_world.specs.Plain.{if_there}
+use Rattle.pagable_world.specs.World.{Core, Root, of_cell, of_key, OpenLoad, Frame, Reading, Values}
+use Rattle.pagable_world.specs.Refusals.{OwnsLoad, refused_if, load_fault}
+use Rattle.pagable_world.specs.LoadCalls.{from_store, AskCall, AdoptCall, EndCall, HandOverCall, DropCall, LoadCloses}
+use Rattle.pagable_world.specs.Loads.{need_of, needs_nested, needs_lazy, root_frame, nested_frame, with_got, handles_of, MakesNode, ReadsNode, ReadsRoot, LoadIs, IsOfCell, IsOfKey, Meets, Does}
+use Rattle.pagable_world.specs.Pager.{PagerState, Moves, ReadingBrings, IsNewNode, IsCellOf}
+use Rattle.pagable_world.specs.Access.{tells, Told, Called, ReadingStep}
+use Rattle.pagable_loads.specs.declared.reading.Frame.{Frame as Held}
+use Rattle.pagable_loads.specs.declared.reading.Reading.{Reading as Own}
+use Rattle.pagable_loads.specs.Telling.{Brings, IsMade, AsksFor, TakesLazily, AdoptsValue}
+use Rattle.pagable_loads.specs.Frames.{frame_of, frames_of, onto, reading_of, is_cell, IsLoadOf}
+use Rattle.pagable_loads.specs.Stepping.{Met, Tries, Steps, Drops}
+use Rattle.pagable_loads.proofs.Needed.{length_onto}
+
+module _ {S : Type 0} where
+  pub told_map : {o n : Option S} {R Q : S → S → Type 0} → ((s t : S) → R s t → Q s t) → Told o n R → Told o n Q
+  told_map {o} {n} f h = record { holds = through o n f h.holds }
+    where
+      through : {R Q : S → S → Type 0} (o n : Option S) → ((s t : S) → R s t → Q s t) → tells o n R → tells o n Q
+      through None n f h = tt
+      through (Some s) None f h = h
+      through (Some s) (Some t) f h = f s t h
+
+  pub told_then : {o n m : Option S} {R T Q : S → S → Type 0} → ((s mid t : S) → R s mid → T mid t → Q s t) → Told o n R → Told n m T → Told o m Q
+  told_then {o} {n} {m} f h k = record { holds = through o n m f h.holds k.holds }
+    where
+      through : {R T Q : S → S → Type 0} (o n m : Option S) → ((s mid t : S) → R s mid → T mid t → Q s t) → tells o n R → tells n m T → tells o m Q
+      through None n m f h k = tt
+      through (Some s) None m f h k = absurd h
+      through (Some s) (Some mid) None f h k = k
+      through (Some s) (Some mid) (Some t) f h k = f s mid t h k
+
+module _ {N : Type 0} (E : Type 0) (v : Values N) (me : Owner) (own : Own) where
+  abbrev reading : Reading
+  reading = reading_of own
+
+  none_comes : {comes : ℕ → N → Type 0} {s t : PagerState N E} → Moves (λ n x. ⊥) s t → Moves comes s t
+  none_comes {s = s} m = record { each = λ n x is. elim (m.each n x is) [ inl was ↦ inl was | inr came ↦ absurd came.1 ]; environment = m.environment }
+
+  comes_as : {comes other : ℕ → N → Type 0} {s t : PagerState N E} → ((n : ℕ) (x : N) → comes n x → other n x) → Moves comes s t → Moves other s t
+  comes_as f m = record { each = λ n x is. elim (m.each n x is) [ inl was ↦ inl was | inr (none, came) ↦ inr (none, f n x came) ]; environment = m.environment }
+
+  met : {does : Core → Type 0} {s t : PagerState N E} {e : Error} → Called v does s t → Meets v s.core me reading e t.core → Met v me reading s e t
+  met c m = record { meets = m; moves = none_comes c.moves }
+
+  went : {does : Core → Type 0} {s t : PagerState N E} {answer : Option (LoadAnswer N)} {frames : List Frame} → Called v does s t → Does v s.core me reading answer frames t.core → ReadingStep v me reading s answer frames t
+  went c d = record { does = record { does = d }; moves = none_comes c.moves; whole = c.whole }
+
+  goes : {s t : PagerState N E} {answer : Option (LoadAnswer N)} {frames : List Frame} → (IsLoadOf s.core me own → ReadingStep v me reading s answer frames t) → Tries v me own s (Ok answer) frames t
+  goes f = record { does = f; meets = λ is. tt }
+
+  fails : {s t : PagerState N E} {e : Error} {frames : List Frame} → (IsLoadOf s.core me own → Met v me reading s e t) → Tries v me own s (Err e) frames t
+  fails f = record { does = λ is. tt; meets = f }
+
+  module _ (first : frames_of own.top own.below.items ≡ []) where
+    pub root_comes : (blob : Blob) (frames : List Frame) → frames ≡ root_frame own.key own.node_type blob ∷ [] → (s t : PagerState N E) → Called v (λ w'. AskCall s.core me own.load wants.Root (Ok (from_store blob)) w') s t → Tries v me own s (Ok None) frames t
+    root_comes blob frames is s t c = goes (λ o. went c (inl (record { load = o.load; blob = blob; first = first; open_load = o.owned.stands_open; asked = c.step; goes = is ∙ ap (λ k. root_frame k own.node_type blob ∷ []) (sym o.key) })))
+
+    pub root_refused : (e : Error) (frames : List Frame) (s t : PagerState N E) → Called v (λ w'. AskCall s.core me own.load wants.Root (Err e) w') s t → Tries v me own s (Err e) frames t
+    root_refused e frames s t c = fails (λ o. met c (inr (inl (first, c.step))))
+
+  module _ (kind : Kind) (key : ℕ) (top : Held) (under : List Held) (was : frames_of own.top own.below.items ≡ frame_of top ∷ onto [] under) where
+    got_goes : (w : Core) (r : ArcRef) (frames : List Frame) → frames ≡ record (frame_of top) { got = top.got.items ++ r ∷ [] } ∷ onto [] under → (m : IsMade w kind r) → frames ≡ with_got kind m.row reading.frames
+    got_goes w r frames is m = is ∙ ap (λ (x : ArcRef). record (frame_of top) { got = top.got.items ++ x ∷ [] } ∷ onto [] under) m.is ∙ ap (with_got kind m.row) (sym was)
+
+    deep : length reading.frames ≡ length under + 1
+    deep = let l = length_onto [] under in ap length was ∙ omega (arith, l)
+
+    module _ {B : Type 0} (see : B → Blob) (need : need_of v.types reading.frames ≡ needs_nested kind key) where
+      pub nested_known : (r : ArcRef) (frames : List Frame) → frames ≡ record (frame_of top) { got = top.got.items ++ r ∷ [] } ∷ onto [] under → (s t : PagerState N E) → Called v (λ w'. AsksFor see s.core me own.load kind key (Ok (eithers.Left r)) w') s t → Tries v me own s (Ok None) frames t
+      nested_known r frames is s t c = goes (λ o. went c (inr (inl (record { kind = kind; key = key; k = r.handle; row = c.step.made.row; needs = need; asked = c.step.asked; made = c.step.made.live; goes = got_goes t.core r frames is c.step.made }))))
+
+      pub nested_blob : (blob : B) (frames : List Frame) → frames ≡ nested_frame kind key (see blob) ∷ frame_of top ∷ onto [] under → length under < longest_path → (s t : PagerState N E) → Called v (λ w'. AsksFor see s.core me own.load kind key (Ok (eithers.Right blob)) w') s t → Tries v me own s (Ok None) frames t
+      nested_blob blob frames is short s t c = goes (λ o. went c (inr (inr (inl (record { kind = kind; key = key; blob = see blob; needs = need; short = omega (arith, deep, short); asked = c.step.asked; goes = is ∙ ap (λ fs. nested_frame kind key (see blob) ∷ fs) (sym was) })))))
+
+      pub nested_deep : (blob : B) (e : Error) (frames : List Frame) → e ≡ errors.TooDeep → longest_path ≤ length under → (s t : PagerState N E) → Called v (λ w'. AsksFor see s.core me own.load kind key (Ok (eithers.Right blob)) w') s t → Tries v me own s (Err e) frames t
+      nested_deep blob e frames is long s t c = fails (λ o. met c (inr (inr (inl (kind, key, need, inr (see blob, is, (omega (arith, deep, long)), c.step.asked))))))
+
+      pub nested_refused : (e : Error) (frames : List Frame) → (s t : PagerState N E) → Called v (λ w'. AsksFor see s.core me own.load kind key (Err e) w') s t → Tries v me own s (Err e) frames t
+      nested_refused e frames s t c = fails (λ o. met c (inr (inr (inl (kind, key, need, inl c.step.asked)))))
+
+    module _ (need : need_of v.types reading.frames ≡ needs_lazy kind key) where
+      pub lazy_comes : (r : ArcRef) (frames : List Frame) → frames ≡ record (frame_of top) { got = top.got.items ++ r ∷ [] } ∷ onto [] under → (s t : PagerState N E) → Called v (λ w'. TakesLazily s.core me own.load kind key (Ok r) w') s t → Tries v me own s (Ok None) frames t
+      lazy_comes r frames is s t c = goes (λ o. went c (inr (inr (inr (inl (record { kind = kind; key = key; k = r.handle; row = c.step.made.row; needs = need; asked = c.step.taken; made = c.step.made.live; goes = got_goes t.core r frames is c.step.made }))))))
+
+      pub lazy_refused : (e : Error) (frames : List Frame) (s t : PagerState N E) → Called v (λ w'. TakesLazily s.core me own.load kind key (Err e) w') s t → Tries v me own s (Err e) frames t
+      lazy_refused e frames s t c = fails (λ o. met c (inr (inr (inr (inl (kind, key, need, c.step.taken))))))
+
+  module _ (x : N) (node : ReadsNode v reading x) (top under : Held) (rest : List Held) (was : frames_of own.top own.below.items ≡ frame_of top ∷ frame_of under ∷ onto [] rest) where
+    both : frame_of top ∷ frame_of under ∷ onto [] rest ≡ node.top ∷ node.below
+    both = sym was ∙ node.frames
+
+    abbrev first_of : Frame → List Frame → Frame
+    first_of other [] = other
+    first_of other (f ∷ fs) = f
+
+    abbrev rest_of : List Frame → List Frame
+    rest_of [] = []
+    rest_of (f ∷ fs) = fs
+
+    top_is : frame_of top ≡ node.top
+    top_is = ap (first_of (frame_of top)) both
+
+    below_is : frame_of under ∷ onto [] rest ≡ node.below
+    below_is = ap rest_of both
+
+    brought : {s t : PagerState N E} → Moves (λ n y. (y ≡ x) × IsNewNode s.core n) s t → Moves (ReadingBrings v s.core reading) s t
+    brought {s} m = comes_as (λ n y came. inl (subst (ReadsNode v reading) (sym came.0) node, came.1)) m
+
+    adopted_as : {r : Result ArcRef (Error × N)} {w w' : Core} → AdoptsValue w me own.load top.kind top.key x (v.node_type x) (v.references x) r w' → AdoptsValue w me own.load node.top.kind node.top.key x (v.node_type x) (v.references x) r w'
+    adopted_as {r} {w} {w'} a = subst (λ (f : Frame). AdoptsValue w me own.load f.kind f.key x (v.node_type x) (v.references x) r w') top_is a
+
+    pub adopt_comes : (r : ArcRef) (frames : List Frame) → frames ≡ record (frame_of under) { got = under.got.items ++ r ∷ [] } ∷ onto [] rest → (s t : PagerState N E)
+        → Brings v (λ w'. AdoptsValue s.core me own.load top.kind top.key x (v.node_type x) (v.references x) (Ok r) w') (λ n y. (y ≡ x) × IsNewNode s.core n) s t → Tries v me own s (Ok None) frames t
+    adopt_comes r frames is s t c = goes (λ o. record { does = record { does = inr (inr (inr (inr made))) }; moves = brought c.moves; whole = c.whole })
+      where
+        a : AdoptsValue s.core me own.load node.top.kind node.top.key x (v.node_type x) (v.references x) (Ok r) t.core
+        a = adopted_as c.step
+
+        made : MakesNode v s.core me reading frames t.core
+        made =
+            record {
+              x = x;
+              reads_node = node;
+              k = r.handle;
+              row = a.made.row;
+              adopted = a.adopted;
+              made = a.made.live;
+              goes = is ∙ ap (λ (y : ArcRef). record (frame_of under) { got = under.got.items ++ y ∷ [] } ∷ onto [] rest) a.made.is ∙ ap (with_got node.top.kind a.made.row) below_is;
+            }
+
+    pub adopt_refused : (e : Error × N) (frames : List Frame) (s t : PagerState N E)
+        → Brings v (λ w'. AdoptsValue s.core me own.load top.kind top.key x (v.node_type x) (v.references x) (Err e) w') (λ n y. (y ≡ x) × IsNewNode s.core n) s t → Tries v me own s (Err e.0) frames t
+    adopt_refused e frames s t c = fails (λ o. record { meets = inr (inr (inr (inr (inl (record { x = x; reads_node = node; adopted = again a.adopted }))))); moves = brought c.moves })
+      where
+        a : AdoptsValue s.core me own.load node.top.kind node.top.key x (v.node_type x) (v.references x) (Err e) t.core
+        a = adopted_as c.step
+
+        again : AdoptCall s.core me own.load node.top.kind node.top.key x (v.node_type x) (v.references x) (Err e) t.core → AdoptCall s.core me own.load node.top.kind node.top.key x (v.node_type x) (v.references x) (Err (e.0, x)) t.core
+        again call = record { adopts = tt; refused = (refl, call.refused.1) }
+
+  cell_of : (root : Root) → is_cell root ≡ true → IsOfCell root
+  cell_of (of_cell node t h) is = tt
+  cell_of of_key is = absurd (cc)
+
+  key_of : (root : Root) → is_cell root ≡ false → IsOfKey root
+  key_of (of_cell node t h) is = absurd (cc)
+  key_of of_key is = tt
+
+  module _ (x : N) (root : ReadsRoot v reading x) (cell : own.for_cell ≡ true) where
+    for_cell : (w : Core) → IsLoadOf w me own → LoadIs w reading IsOfCell
+    for_cell w o = record { load = o.load; open_load = o.owned.stands_open; sort = cell_of o.load.root (o.sort ∙ cell) }
+
+    comes : {s t : PagerState N E} → Moves (λ n y. (y ≡ x) × IsCellOf s.core own.load n) s t → Moves (ReadingBrings v s.core reading) s t
+    comes {s} m = comes_as (λ n y came. inr (subst (ReadsRoot v reading) (sym came.0) root, came.1)) m
+
+    pub end_pins : (k : HandleNumber) (frames : List Frame) → frames ≡ [] → (s t : PagerState N E) → Brings v (λ w'. EndCall s.core me own.load x (v.node_type x) (v.references x) (Ok k) w') (λ n y. (y ≡ x) × IsCellOf s.core own.load n) s t → Tries v me own s (Ok (Some (ends.Pinned k))) frames t
+    end_pins k frames none s t c = goes (λ o. record { does = record { does = (record { x = x; reads_root = root; of_cell_load = for_cell s.core o; ended = c.step }, none) }; moves = comes c.moves; whole = c.whole })
+
+    pub end_closed : (e : Error) (frames : List Frame) → frames ≡ [] → (s t : PagerState N E) → Brings v (λ w'. EndCall s.core me own.load x (v.node_type x) (v.references x) (Err (e, None)) w') (λ n y. (y ≡ x) × IsCellOf s.core own.load n) s t → Tries v me own s (Ok (Some (ends.Refused e))) frames t
+    end_closed e frames none s t c = goes (λ o. record { does = record { does = (inr (record { x = x; reads_root = root; ended = c.step }), none) }; moves = comes c.moves; whole = c.whole })
+
+    pub end_refused : (e : Error) (y : N) (frames : List Frame) (s t : PagerState N E) → Brings v (λ w'. EndCall s.core me own.load x (v.node_type x) (v.references x) (Err (e, Some y)) w') (λ n z. (z ≡ x) × IsCellOf s.core own.load n) s t → Tries v me own s (Err e) frames t
+    end_refused e y frames s t c = fails (λ o. record { meets = inr (inr (inr (inr (inr (record { x = x; reads_root = root; refuses = inl (for_cell s.core o, again c.step) }))))); moves = comes c.moves })
+      where
+        again : EndCall s.core me own.load x (v.node_type x) (v.references x) (Err (e, Some y)) t.core → EndCall s.core me own.load x (v.node_type x) (v.references x) (Err (e, Some x)) t.core
+        again call = record { installs = tt; refused = (refl, call.refused.1) }
+
+  module _ (x : N) (root : ReadsRoot v reading x) (sort : own.for_cell ≡ false) (named : List HandleNumber) (is : named ≡ handles_of (v.references x)) where
+    for_key : (w : Core) → IsLoadOf w me own → LoadIs w reading IsOfKey
+    for_key w o = record { load = o.load; open_load = o.owned.stands_open; sort = key_of o.load.root (o.sort ∙ sort) }
+
+    pub hands_over : (frames : List Frame) → frames ≡ [] → (s t : PagerState N E) → Called v (λ w'. HandOverCall s.core me own.load named (Ok tt) w') s t → Tries v me own s (Ok (Some (ends.Read x))) frames t
+    hands_over frames none s t c = goes (λ o. went c (record { reads_root = root; of_key_load = for_key s.core o; handed = subst (λ hs. HandOverCall s.core me own.load hs (Ok tt) t.core) is c.step }, none))
+
+    pub hand_over_refused : (e : Error) (frames : List Frame) (s t : PagerState N E) → Called v (λ w'. HandOverCall s.core me own.load named (Err e) w') s t → Tries v me own s (Err e) frames t
+    hand_over_refused e frames s t c = fails (λ o. met c (inr (inr (inr (inr (inr (record { x = x; reads_root = root; refuses = inr (for_key s.core o, subst (λ hs. HandOverCall s.core me own.load hs (Err e) t.core) is c.step) })))))))
+
+  -- ---- a refusal gives the load up
+
+  owner_self : (o : Owner) → is_owner o o ≡ true
+  owner_self owners.Caller = refl
+  owner_self (owners.Value n) = grind arith
+  owner_self owners.List = refl
+  owner_self (owners.Load l) = grind arith
+  owner_self (owners.Worker n) = grind arith
+
+  usable_load : (w : Core) (load : OpenLoad) → OwnsLoad w me own.load load → load_fault w me own.load ≡ None
+  usable_load w load o = ap (λ (l : Option OpenLoad). if_there (λ (load : OpenLoad). refused_if (not (is_owner me load.owner)) errors.NotYours) (Some errors.NoSuchHandle) l) o.stands_open ∙ ap (λ owner. refused_if (not (is_owner me owner)) errors.NotYours) o.own ∙ ap (λ b. refused_if (not b) errors.NotYours) (owner_self me)
+
+  -- while it is met the load stays open
+  stays_open : (w w' : Core) (e : Error) → Meets v w me reading e w' → w'.loads own.load.0 ≡ w.loads own.load.0
+  stays_open w w' e (inl (why, a)) = a.loads own.load.0
+  stays_open w w' e (inr (inl (first, asked))) = elim asked.refused [ inl r ↦ r.stays.loads own.load.0 | inr (load, owned, f) ↦ f.asked.leaves.loads own.load.0 ]
+  stays_open w w' e (inr (inr (inl (kind, key, need, inl asked)))) = elim asked.refused [ inl r ↦ r.stays.loads own.load.0 | inr (load, owned, f) ↦ f.1.asked.leaves.loads own.load.0 ]
+  stays_open w w' e (inr (inr (inl (kind, key, need, inr (blob, is, long, asked))))) = let g = asked.gives.2.1 in g.asked.leaves.loads own.load.0
+  stays_open w w' e (inr (inr (inr (inl (kind, key, need, lazy))))) = lazy.refused.stays.loads own.load.0
+  stays_open w w' e (inr (inr (inr (inr (inl r))))) = r.adopted.refused.1.stays.loads own.load.0
+  stays_open w w' e (inr (inr (inr (inr (inr r))))) = elim r.refuses [ inl (is, ended) ↦ ended.refused.1.stays.loads own.load.0 | inr (is, handed) ↦ handed.refused.1.loads own.load.0 ]
+
+  no_moves : {comes : ℕ → N → Type 0} {s mid t : PagerState N E} → Moves comes s mid → Moves (λ n x. ⊥) mid t → Moves comes s t
+  no_moves m k = record { each = λ n x is. elim (k.each n x is) [ inl was ↦ m.each n x was | inr came ↦ absurd came.1 ]; environment = k.environment ∙ m.environment }
+
+  closes : (mid t : Core) (told : Result (Unit {0}) Error) (load : OpenLoad) → OwnsLoad mid me own.load load → DropCall mid me own.load told t → LoadCloses mid own.load told t
+  closes mid t told load o d = elim d.does [
+    | inl r ↦ absurd (let f : None ≡ Some r.e = sym (usable_load mid load o) ∙ r.why in cc)
+    | inr (other, owned, c) ↦ c
+  ]
+
+  pub gives_up : (e : Error) (frames none : List Frame) → none ≡ [] → (s mid t : PagerState N E) → Tries v me own s (Err e) frames mid → Drops v me own.load mid t → Steps v me own s (Some (ends.Refused e)) none t
+  gives_up e frames none is s mid t tried d = record {
+    does = λ o.
+        let m = tried.meets o in
+        let open_load : OwnsLoad mid.core me own.load o.load = record { stands_open = stays_open s.core mid.core e m.meets ∙ o.owned.stands_open; own = o.owned.own } in
+        record {
+          does = record { does = (inl (record { mid = mid.core; meets = m.meets; told = d.told; closes = closes mid.core t.core d.told o.load open_load d.call.step }), is) };
+          moves = no_moves m.moves d.call.moves;
+          whole = d.call.whole;
+        };
+  }

@@ -1,0 +1,57 @@
+-- What a load's step does, up to its refusal and with it, in the words of the world.
+use Rattle.std.specs.Prelude.{◌≡◌, ◌<◌, ◌++◌, List, [], ◌∷◌, Option, Result, IfOk, IfErr, vec_len, vec_capacity}
+use Rattle.pagable_model.specs.declared.error.Error.{Error}
+use Rattle.pagable_model.specs.declared.numbers.ArcRef.{ArcRef}
+use Rattle.pagable_model.specs.declared.numbers.LoadNumber.{LoadNumber}
+use Rattle.pagable_world.specs.declared.events.LoadAnswer.{LoadAnswer}
+use Rattle.pagable_world.specs.declared.handles.Owner.{Owner}
+use Rattle.pagable_world.specs.World.{Frame, Reading, Values}
+use Rattle.pagable_world.specs.LoadCalls.{DropCall}
+use Rattle.pagable_world.specs.Loads.{Meets}
+use Rattle.pagable_world.specs.Pager.{PagerState, Moves, ReadingBrings}
+use Rattle.pagable_world.specs.Access.{Called, ReadingStep}
+use Rattle.pagable_loads.specs.declared.reading.Frame.{Frame as Held}
+use Rattle.pagable_loads.specs.declared.reading.Reading.{Reading as Own}
+use Rattle.pagable_loads.specs.Frames.{IsLoadOf, reading_of, frame_of, frames_of, onto}
+
+-- a refusal was met, and the load is still open
+pub record Met {N E : Type 0} (v : Values N) (me : Owner) (reading : Reading) (s : PagerState N E) (e : Error) (t : PagerState N E) : Type 0 where
+  pub meets : Meets v s.core me reading e t.core
+  pub moves : Moves (ReadingBrings v s.core reading) s t
+
+-- A step, up to the refusal that it met. It is asked that the load is open, and what its own side says.
+pub record Tries {N E : Type 0} (v : Values N) (me : Owner) (own : Own) (s : PagerState N E) (r : Result (Option (LoadAnswer N)) Error) (frames : List Frame) (t : PagerState N E) : Type 0 where
+  pub does : IsLoadOf s.core me own → IfOk r (λ answer. ReadingStep v me (reading_of own) s answer frames t)
+  pub meets : IsLoadOf s.core me own → IfErr r (λ e. Met v me (reading_of own) s e t)
+
+-- A whole step of a load that is open, and is what its own side says.
+pub record Steps {N E : Type 0} (v : Values N) (me : Owner) (own : Own) (s : PagerState N E) (answer : Option (LoadAnswer N)) (frames : List Frame) (t : PagerState N E) : Type 0 where
+  pub does : IsLoadOf s.core me own → ReadingStep v me (reading_of own) s answer frames t
+
+-- the load is given up, whatever that is told
+pub record Drops {N E : Type 0} (v : Values N) (me : Owner) (l : LoadNumber) (s t : PagerState N E) : Type 0 where
+  pub told : Result (Unit {0}) Error
+  pub call : Called v (λ w'. DropCall s.core me l told w') s t
+
+-- it is the same load, after as many steps
+pub record IsSameLoad (old new : Own) : Type 0 where
+  pub load : new.load ≡ old.load
+  pub key : new.key ≡ old.key
+  pub node_type : new.node_type ≡ old.node_type
+  pub for_cell : new.for_cell ≡ old.for_cell
+  pub steps : new.steps ≡ old.steps
+
+-- the innermost blob was taken off, with a place for one more reference, and there is a place for it below
+pub record TakenOff (old new : Own) (top : Held) : Type 0 where
+  pub frames : frames_of old.top old.below.items ≡ frame_of top ∷ onto [] new.below.items
+  pub room : vec_len top.got < vec_capacity top.got
+  pub place : vec_len new.below < vec_capacity new.below
+
+-- the innermost blob and the one below it were taken off, with a place for one more reference in the latter
+pub record TakenTwo (old new : Own) (top under : Held) : Type 0 where
+  pub frames : frames_of old.top old.below.items ≡ frame_of top ∷ frame_of under ∷ onto [] new.below.items
+  pub room : vec_len under.got < vec_capacity under.got
+
+-- the blob is the innermost, and has got this reference besides
+pub record Gets (old new : Own) (top : Held) (r : ArcRef) : Type 0 where
+  pub frames : frames_of new.top new.below.items ≡ record (frame_of top) { got = top.got.items ++ r ∷ [] } ∷ onto [] old.below.items

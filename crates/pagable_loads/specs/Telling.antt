@@ -1,0 +1,92 @@
+-- What an access tells: for whom it acts and in which environment; and of its pager's state, where that is told, what each call does to it.
+use Rattle.std.specs.Prelude.{ℕ, ◌≡◌, List, Option, Some, None, Result, Ok, Err, IfOk}
+use Rattle.either.specs.declared.Either.{Either}
+use Rattle.either.specs.declared.Either.TheVariants as eithers
+use Rattle.pagable_codec.specs.declared.env.Env.{Ghosts as Environments}
+use Rattle.pagable_codec.specs.declared.hash.KeyHash.{Ghosts as Hashes}
+use Rattle.pagable_codec.specs.declared.nodes.NodeSet.{Ghosts as Nodes}
+use Rattle.pagable_model.specs.declared.error.Error.{Error}
+use Rattle.pagable_model.specs.declared.numbers.ArcRef.{ArcRef}
+use Rattle.pagable_model.specs.declared.numbers.HandleNumber.{HandleNumber}
+use Rattle.pagable_model.specs.declared.numbers.Kind.{Kind}
+use Rattle.pagable_model.specs.declared.numbers.LoadNumber.{LoadNumber}
+use Rattle.pagable_model.specs.Blob.{Blob}
+use Rattle.pagable_world.specs.declared.handles.HandleRow.{HandleRow}
+use Rattle.pagable_world.specs.declared.handles.Owner.{Owner}
+use Rattle.pagable_world.specs.declared.calls.Want.TheVariants as wants
+use Rattle.pagable_world.specs.World.{Core, Values, row_at}
+use Rattle.pagable_world.specs.LoadCalls.{Given, from_cache, from_store, AskCall, AdoptCall, LazyCall}
+use Rattle.pagable_world.specs.Pager.{PagerState, WellFormed, Moves}
+
+-- whose calls they are, and the environment of the values
+pub record Acting (E : Type 0) : Type 0 where
+  pub me : Owner
+  pub environment : E
+
+-- the values of an environment
+abbrev pub values_at : {N E H K V : Type 0} → Nodes N E N H K V → Environments E N H K V → Hashes H → E → Values N
+values_at n e h environment =
+    record {
+      node_type = n.type_of;
+      references = n.refs_of;
+      means = n.means;
+      read_causes = n.read_causes;
+      write_causes = n.write_causes;
+      types = record { nodes = n.shape_of environment; parts = e.parts environment };
+      hash = h.digest;
+    }
+
+-- P holds of the state, if it is told
+abbrev pub holds_of : {S : Type 0} → Option S → (S → Type 0) → Type 0
+holds_of None P = Unit {0}
+holds_of (Some s) P = P s
+
+pub record Tells {S : Type 0} (s : Option S) (P : S → Type 0) : Type 0 where
+  pub holds : holds_of s P
+
+-- A call that may bring a value: what it does to the plain world, and which value may come where.
+pub record Brings {N E : Type 0} (v : Values N) (does : Core → Type 0) (comes : ℕ → N → Type 0) (s s' : PagerState N E) : Type 0 where
+  pub step : does s'.core
+  pub moves : Moves comes s s'
+  pub whole : WellFormed v s'
+
+-- the reference is of this kind, and names a live handle with its node
+pub record IsMade (w : Core) (kind : Kind) (r : ArcRef) : Type 0 where
+  pub row : HandleRow
+  pub live : row_at w r.handle ≡ Some row
+  pub is : r ≡ record { kind = kind; node = row.node; handle = row.number }
+
+abbrev pub handle_of : {X : Type 0} → Result ArcRef X → Result HandleNumber X
+handle_of (Ok r) = Ok r.handle
+handle_of (Err e) = Err e
+
+abbrev pub found_as : {B : Type 0} → (B → Blob) → Either ArcRef B → Given
+found_as see (eithers.Left r) = from_cache r.handle
+found_as see (eithers.Right blob) = from_store (see blob)
+
+abbrev pub asked_as : {B : Type 0} → (B → Blob) → Result (Either ArcRef B) Error → Result Given Error
+asked_as see (Ok found) = Ok (found_as see found)
+asked_as see (Err e) = Err e
+
+abbrev pub IsFoundMade : {B : Type 0} → Core → Kind → Either ArcRef B → Type 0
+IsFoundMade w kind (eithers.Left r) = IsMade w kind r
+IsFoundMade w kind (eithers.Right blob) = Unit {0}
+
+abbrev pub blob_as : {B : Type 0} → (B → Blob) → Result B Error → Result Given Error
+blob_as see (Ok blob) = Ok (from_store (see blob))
+blob_as see (Err e) = Err e
+
+-- a load asks for a reference, and gets one of the cache's, with its node, or a blob
+pub record AsksFor {B : Type 0} (see : B → Blob) (w : Core) (me : Owner) (l : LoadNumber) (kind : Kind) (key : ℕ) (r : Result (Either ArcRef B) Error) (w' : Core) : Type 0 where
+  pub asked : AskCall w me l (wants.Nested kind key) (asked_as see r) w'
+  pub made : IfOk r (λ found. IsFoundMade w' kind found)
+
+-- a load takes a reference that is read later, with its node
+pub record TakesLazily (w : Core) (me : Owner) (l : LoadNumber) (kind : Kind) (key : ℕ) (r : Result ArcRef Error) (w' : Core) : Type 0 where
+  pub taken : LazyCall w me l kind key (handle_of r) w'
+  pub made : IfOk r (λ reference. IsMade w' kind reference)
+
+-- a load adopts what it read, and gets a reference with its node
+pub record AdoptsValue {N : Type 0} (w : Core) (me : Owner) (l : LoadNumber) (kind : Kind) (key : ℕ) (x : N) (node_type : ℕ) (references : List ArcRef) (r : Result ArcRef (Error × N)) (w' : Core) : Type 0 where
+  pub adopted : AdoptCall w me l kind key x node_type references (handle_of r) w'
+  pub made : IfOk r (λ reference. IsMade w' kind reference)

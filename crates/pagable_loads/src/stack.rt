@@ -1,0 +1,133 @@
+//! The blobs of a load, the innermost apart from those below it.
+
+ghost use Rattle.std.specs.Prelude.{◌≡◌, ◌<◌, ◌≤◌, ◌∷◌, [], length, vec_len, vec_capacity, IsSome, IfOk, IfErr, OnOk};
+ghost use Rattle.std.specs.Arc.{arc_value};
+ghost use Rattle.pagable_core.specs.Data.{blob_of};
+ghost use Rattle.pagable_model.specs.Deep.{longest_path};
+ghost use Rattle.pagable_world.specs.Loads.{root_frame, nested_frame, handles_of as all_handles};
+ghost use Rattle.pagable_world.specs.World.{one_more};
+ghost use Rattle.pagable_loads.specs.Frames.{frame_of, frames_of, onto};
+ghost use Rattle.pagable_loads.specs.Stepping.{IsSameLoad, TakenOff, TakenTwo, Gets};
+
+use crate::reading::{Frame, Reading};
+use pagable_codec::{ArcRef, Kind};
+use pagable_core::PagableData;
+use pagable_flavors::{DataKey, Error};
+use pagable_model::HandleNumber;
+use std::alloc::Global;
+use std::sync::Arc;
+
+impl Reading {
+    /// Takes the innermost blob off, with a place for one more reference, and makes a place for it below. Refused with OutOfMemory.
+    pub(crate) fn take_top(&mut self) -> Result<Frame, Error>
+        requires { IsSome self.old.top }
+        ensures ok { IfOk result (λ top. TakenOff self.old self.new top) }
+        ensures only { IfErr result (λ e. e ≡ Error.OutOfMemory) }
+        ensures same { IsSameLoad self.old self.new }
+    {
+        let Some(mut top) = self.top.take() else {
+            unreachable!();
+        };
+        top.got.reserve(1)?;
+        self.below.reserve(1)?;
+        Ok(top)
+    }
+
+    /// Takes the innermost blob off, and the one below it with a place for one more reference. Refused with OutOfMemory.
+    pub(crate) fn take_two(&mut self) -> Result<(Frame, Frame), Error>
+        requires top { IsSome self.old.top }
+        requires below { 0 < length self.old.below.items }
+        ensures ok { IfOk result (λ two. TakenTwo self.old self.new two.0 two.1) }
+        ensures only { IfErr result (λ e. e ≡ Error.OutOfMemory) }
+        ensures same { IsSameLoad self.old self.new }
+    {
+        let Some(top) = self.top.take() else {
+            unreachable!();
+        };
+        let Some(mut under) = self.below.pop() else {
+            unreachable!();
+        };
+        under.got.reserve(1)?;
+        Ok((top, under))
+    }
+
+    /// The blob is the innermost, and has got one more reference.
+    pub(crate) fn put_got(&mut self, top: Frame, reference: ArcRef)
+        requires { vec_len top.got < vec_capacity top.got }
+        ensures gets { Gets self.old self.new top reference }
+        ensures same { IsSameLoad self.old self.new }
+    {
+        let mut top = top;
+        top.got.push(reference).unwrap();
+        self.top = Some(top);
+    }
+
+    /// The root's blob is the only one.
+    pub(crate) fn put_root(&mut self, alloc: Global, blob: Arc<PagableData>)
+        ensures root { frames_of self.new.top self.new.below.items ≡ root_frame self.old.key self.old.node_type (blob_of (arc_value blob)) ∷ [] }
+        ensures same { IsSameLoad self.old self.new }
+    {
+        self.below = Vec::new(alloc);
+        self.top = Some(Frame {
+            kind: Kind(3),
+            key: self.key,
+            node_type: self.node_type,
+            blob,
+            got: Vec::new(alloc),
+        });
+    }
+
+    /// A reference's blob is the innermost, over the one that asked for it. Refused with TooDeep where it would be the 129th below the root.
+    pub(crate) fn put_blob(
+        &mut self,
+        alloc: Global,
+        top: Frame,
+        kind: Kind,
+        key: DataKey,
+        blob: Arc<PagableData>,
+    ) -> Result<(), Error>
+        requires { vec_len self.old.below < vec_capacity self.old.below }
+        ensures ok { OnOk result (frames_of self.new.top self.new.below.items ≡ nested_frame kind key (blob_of (arc_value blob)) ∷ frame_of top ∷ onto [] self.old.below.items) }
+        ensures short { OnOk result (length self.old.below.items < longest_path) }
+        ensures deep { IfErr result (λ e. e ≡ Error.TooDeep) }
+        ensures long { IfErr result (λ e. longest_path ≤ length self.old.below.items) }
+        ensures same { IsSameLoad self.old self.new }
+    {
+        if self.below.len() >= 128 {
+            return Err(Error::TooDeep);
+        }
+        self.below.push(top).unwrap();
+        self.top = Some(Frame {
+            kind,
+            key,
+            node_type: kind.0 / 3,
+            blob,
+            got: Vec::new(alloc),
+        });
+        Ok(())
+    }
+
+    /// Counts a step.
+    pub(crate) fn count(&mut self)
+        ensures steps { self.new.steps ≡ one_more self.old.steps }
+        ensures load { self.new.load ≡ self.old.load }
+        ensures key { self.new.key ≡ self.old.key }
+        ensures node_type { self.new.node_type ≡ self.old.node_type }
+        ensures for_cell { self.new.for_cell ≡ self.old.for_cell }
+        ensures frames { frames_of self.new.top self.new.below.items ≡ frames_of self.old.top self.old.below.items }
+    {
+        self.steps = self.steps.saturating_add(1);
+    }
+}
+
+/// The handles of references, in their order. Refused with OutOfMemory.
+pub(crate) fn handles_of(alloc: Global, references: &[ArcRef]) -> Result<Vec<HandleNumber>, Error>
+    ensures ok { IfOk result (λ handles. handles.items ≡ all_handles references.now) }
+    ensures only { IfErr result (λ e. e ≡ Error.OutOfMemory) }
+{
+    let mut handles = Vec::new(alloc);
+    for reference in references {
+        handles.push(reference.handle)?;
+    }
+    Ok(handles)
+}

@@ -1,0 +1,280 @@
+//! A load's steps, over an access to a pager.
+
+ghost use Rattle.std.specs.Prelude.{◌≡◌, ◌<◌, [], length, IsSome, Some, Result, Ok, true, false};
+ghost use Rattle.pagable_world.specs.World.{one_more};
+ghost use Rattle.pagable_world.specs.Loads.{need_of, needs_nested, needs_lazy, ReadsNode, ReadsRoot};
+ghost use Rattle.pagable_world.specs.Access.{Told};
+ghost use Rattle.pagable_world.specs.declared.events.LoadAnswer.TheVariants as ends;
+ghost use Rattle.pagable_loads.specs.Frames.{reading_of, frames_of};
+ghost use Rattle.pagable_loads.specs.Needing.{Needs, HasFrames};
+ghost use Rattle.pagable_loads.specs.Stepping.{IsSameLoad, Tries, Steps, Drops};
+ghost use Rattle.pagable_loads.specs.Telling.{values_at};
+
+use crate::access::Access;
+use crate::reading::{Need, Reading};
+use crate::stack::handles_of;
+use either::Either;
+use pagable_codec::{Env, Kind, NodeSet};
+use pagable_flavors::{DataKey, Error};
+use pagable_world::LoadAnswer;
+use std::alloc::Global;
+
+impl Reading {
+    // The root's blob comes.
+    fn step_root<E: Env, A: Access<E>>(
+        &mut self,
+        access: &mut A,
+        alloc: Global,
+    ) -> Result<Option<LoadAnswer<E::Node>>, Error>
+    where
+        E::Node: NodeSet<E>,
+        requires first { frames_of self.old.top self.old.below.items ≡ [] }
+        ensures step { Told (A.told access.old) (A.told access.new) (λ s t. Tries (values_at E.Node.NodeSet E.Env E.Hash.KeyHash (A.acting access.old).environment) (A.acting access.old).me self.old s result (frames_of self.new.top self.new.below.items) t) }
+        ensures same { IsSameLoad self.old self.new }
+        ensures acting { A.acting access.new ≡ A.acting access.old }
+        ensures lender { A.lender access.new ≡ A.lender access.old }
+    {
+        match access.load_root(alloc, self.load) {
+            Ok(blob) => {
+                self.put_root(alloc, blob);
+                Ok(None)
+            }
+            Err(e) => Err(e),
+        }
+    }
+
+    // A reference comes that is read together with the value: the cache's node, or a blob.
+    fn step_nested<E: Env, A: Access<E>>(
+        &mut self,
+        access: &mut A,
+        alloc: Global,
+        kind: Kind,
+        key: DataKey,
+    ) -> Result<Option<LoadAnswer<E::Node>>, Error>
+    where
+        E::Node: NodeSet<E>,
+        requires top { IsSome self.old.top }
+        requires need { need_of (values_at E.Node.NodeSet E.Env E.Hash.KeyHash (A.acting access.old).environment).types (frames_of self.old.top self.old.below.items) ≡ needs_nested kind key }
+        ensures step { Told (A.told access.old) (A.told access.new) (λ s t. Tries (values_at E.Node.NodeSet E.Env E.Hash.KeyHash (A.acting access.old).environment) (A.acting access.old).me self.old s result (frames_of self.new.top self.new.below.items) t) }
+        ensures same { IsSameLoad self.old self.new }
+        ensures acting { A.acting access.new ≡ A.acting access.old }
+        ensures lender { A.lender access.new ≡ A.lender access.old }
+    {
+        let load = self.load;
+        let top = match self.take_top() {
+            Ok(top) => top,
+            Err(e) => return Err(e),
+        };
+        match access.load_nested(alloc, load, kind, key) {
+            Ok(Either::Left(reference)) => {
+                self.put_got(top, reference);
+                Ok(None)
+            }
+            Ok(Either::Right(blob)) => match self.put_blob(alloc, top, kind, key, blob) {
+                Ok(()) => Ok(None),
+                Err(e) => Err(e),
+            },
+            Err(e) => Err(e),
+        }
+    }
+
+    // A reference comes that is read later.
+    fn step_lazy<E: Env, A: Access<E>>(
+        &mut self,
+        access: &mut A,
+        alloc: Global,
+        kind: Kind,
+        key: DataKey,
+    ) -> Result<Option<LoadAnswer<E::Node>>, Error>
+    where
+        E::Node: NodeSet<E>,
+        requires top { IsSome self.old.top }
+        requires need { need_of (values_at E.Node.NodeSet E.Env E.Hash.KeyHash (A.acting access.old).environment).types (frames_of self.old.top self.old.below.items) ≡ needs_lazy kind key }
+        ensures step { Told (A.told access.old) (A.told access.new) (λ s t. Tries (values_at E.Node.NodeSet E.Env E.Hash.KeyHash (A.acting access.old).environment) (A.acting access.old).me self.old s result (frames_of self.new.top self.new.below.items) t) }
+        ensures same { IsSameLoad self.old self.new }
+        ensures acting { A.acting access.new ≡ A.acting access.old }
+        ensures lender { A.lender access.new ≡ A.lender access.old }
+    {
+        let load = self.load;
+        let top = match self.take_top() {
+            Ok(top) => top,
+            Err(e) => return Err(e),
+        };
+        match access.load_lazy(alloc, load, kind, key) {
+            Ok(reference) => {
+                self.put_got(top, reference);
+                Ok(None)
+            }
+            Err(e) => Err(e),
+        }
+    }
+
+    // What the innermost blob was read as becomes a node for the blob below it.
+    fn step_adopt<E: Env, A: Access<E>>(
+        &mut self,
+        access: &mut A,
+        alloc: Global,
+        value: E::Node,
+    ) -> Result<Option<LoadAnswer<E::Node>>, Error>
+    where
+        E::Node: NodeSet<E>,
+        requires top { IsSome self.old.top }
+        requires below { 0 < length self.old.below.items }
+        requires node { ReadsNode (values_at E.Node.NodeSet E.Env E.Hash.KeyHash (A.acting access.old).environment) (reading_of self.old) value }
+        ensures step { Told (A.told access.old) (A.told access.new) (λ s t. Tries (values_at E.Node.NodeSet E.Env E.Hash.KeyHash (A.acting access.old).environment) (A.acting access.old).me self.old s result (frames_of self.new.top self.new.below.items) t) }
+        ensures same { IsSameLoad self.old self.new }
+        ensures acting { A.acting access.new ≡ A.acting access.old }
+        ensures lender { A.lender access.new ≡ A.lender access.old }
+    {
+        let load = self.load;
+        let (top, under) = match self.take_two() {
+            Ok(two) => two,
+            Err(e) => return Err(e),
+        };
+        match access.load_adopt(alloc, load, top.kind, top.key, value) {
+            Ok(reference) => {
+                self.put_got(under, reference);
+                Ok(None)
+            }
+            Err((e, _value)) => Err(e),
+        }
+    }
+
+    // The cell gets its value, and is pinned.
+    fn step_end<E: Env, A: Access<E>>(
+        &mut self,
+        access: &mut A,
+        alloc: Global,
+        value: E::Node,
+    ) -> Result<Option<LoadAnswer<E::Node>>, Error>
+    where
+        E::Node: NodeSet<E>,
+        requires root { ReadsRoot (values_at E.Node.NodeSet E.Env E.Hash.KeyHash (A.acting access.old).environment) (reading_of self.old) value }
+        requires sort { self.old.for_cell ≡ true }
+        ensures step { Told (A.told access.old) (A.told access.new) (λ s t. Tries (values_at E.Node.NodeSet E.Env E.Hash.KeyHash (A.acting access.old).environment) (A.acting access.old).me self.old s result (frames_of self.new.top self.new.below.items) t) }
+        ensures same { IsSameLoad self.old self.new }
+        ensures acting { A.acting access.new ≡ A.acting access.old }
+        ensures lender { A.lender access.new ≡ A.lender access.old }
+    {
+        match access.load_end(alloc, self.load, value) {
+            Ok(handle) => {
+                self.top = None;
+                Ok(Some(LoadAnswer::Pinned(handle)))
+            }
+            Err((e, back)) => match back {
+                Some(_value) => Err(e),
+                None => {
+                    self.top = None;
+                    Ok(Some(LoadAnswer::Refused(e)))
+                }
+            },
+        }
+    }
+
+    // The caller gets the value that was read, with its handles.
+    fn step_hand_over<E: Env, A: Access<E>>(
+        &mut self,
+        access: &mut A,
+        alloc: Global,
+        value: E::Node,
+    ) -> Result<Option<LoadAnswer<E::Node>>, Error>
+    where
+        E::Node: NodeSet<E>,
+        requires root { ReadsRoot (values_at E.Node.NodeSet E.Env E.Hash.KeyHash (A.acting access.old).environment) (reading_of self.old) value }
+        requires sort { self.old.for_cell ≡ false }
+        ensures step { Told (A.told access.old) (A.told access.new) (λ s t. Tries (values_at E.Node.NodeSet E.Env E.Hash.KeyHash (A.acting access.old).environment) (A.acting access.old).me self.old s result (frames_of self.new.top self.new.below.items) t) }
+        ensures same { IsSameLoad self.old self.new }
+        ensures acting { A.acting access.new ≡ A.acting access.old }
+        ensures lender { A.lender access.new ≡ A.lender access.old }
+    {
+        let references = match value.refs(alloc) {
+            Ok(references) => references,
+            Err(e) => return Err(e),
+        };
+        let named = match handles_of(alloc, references.as_slice()) {
+            Ok(named) => named,
+            Err(e) => return Err(e),
+        };
+        match access.load_take(self.load, named.as_slice()) {
+            Ok(()) => {
+                self.top = None;
+                Ok(Some(LoadAnswer::Read(value)))
+            }
+            Err(e) => Err(e),
+        }
+    }
+
+    // Meets what the load needs, by one call of the access at most.
+    fn meet<E: Env, A: Access<E>>(
+        &mut self,
+        access: &mut A,
+        alloc: Global,
+        need: Need<E::Node>,
+    ) -> Result<Option<LoadAnswer<E::Node>>, Error>
+    where
+        E::Node: NodeSet<E>,
+        requires need { Needs (values_at E.Node.NodeSet E.Env E.Hash.KeyHash (A.acting access.old).environment) (reading_of self.old) self.old.for_cell need }
+        requires stack { HasFrames self.old.top self.old.below.items need }
+        ensures step { Told (A.told access.old) (A.told access.new) (λ s t. Tries (values_at E.Node.NodeSet E.Env E.Hash.KeyHash (A.acting access.old).environment) (A.acting access.old).me self.old s result (frames_of self.new.top self.new.below.items) t) }
+        ensures same { IsSameLoad self.old self.new }
+        ensures acting { A.acting access.new ≡ A.acting access.old }
+        ensures lender { A.lender access.new ≡ A.lender access.old }
+    {
+        match need {
+            Need::Root => self.step_root(access, alloc),
+            Need::Nested(kind, key) => self.step_nested(access, alloc, kind, key),
+            Need::Lazy(kind, key) => self.step_lazy(access, alloc, kind, key),
+            Need::Adopt(value) => self.step_adopt(access, alloc, value),
+            Need::End(value) => self.step_end(access, alloc, value),
+            Need::HandOver(value) => self.step_hand_over(access, alloc, value),
+            Need::Refuse(e) => Err(e),
+        }
+    }
+
+    // A refusal was met: the load is given up, with all that it owns.
+    fn give_up<E: Env, A: Access<E>>(&mut self, access: &mut A)
+    where
+        E::Node: NodeSet<E>,
+        ensures drops { Told (A.told access.old) (A.told access.new) (λ s t. Drops (values_at E.Node.NodeSet E.Env E.Hash.KeyHash (A.acting access.old).environment) (A.acting access.old).me self.old.load s t) }
+        ensures none { frames_of self.new.top self.new.below.items ≡ [] }
+        ensures same { IsSameLoad self.old self.new }
+        ensures acting { A.acting access.new ≡ A.acting access.old }
+        ensures lender { A.lender access.new ≡ A.lender access.old }
+    {
+        let _told = access.load_drop(self.load);
+        self.top = None;
+    }
+
+    /// Makes the load's next step: one call of the access, and what was read of its innermost blob before that. Answers what ended the load, or None while there
+    /// is more. A step that is refused gives the load up, with all that it owns. That the load is open, and is the one that this reading began with, is what the
+    /// clause asks of a state that is told.
+    pub fn step<E: Env, A: Access<E>>(
+        &mut self,
+        access: &mut A,
+        alloc: Global,
+    ) -> Option<LoadAnswer<E::Node>>
+    where
+        E::Node: NodeSet<E>,
+        ensures step { Told (A.told access.old) (A.told access.new) (λ s t. Steps (values_at E.Node.NodeSet E.Env E.Hash.KeyHash (A.acting access.old).environment) (A.acting access.old).me self.old s result (frames_of self.new.top self.new.below.items) t) }
+        ensures steps { self.new.steps ≡ one_more self.old.steps }
+        ensures load { self.new.load ≡ self.old.load }
+        ensures key { self.new.key ≡ self.old.key }
+        ensures node_type { self.new.node_type ≡ self.old.node_type }
+        ensures for_cell { self.new.for_cell ≡ self.old.for_cell }
+        ensures acting { A.acting access.new ≡ A.acting access.old }
+        ensures lender { A.lender access.new ≡ A.lender access.old }
+    {
+        let need = self.next(access.env(), alloc);
+        match self.meet(access, alloc, need) {
+            Ok(answer) => {
+                self.count();
+                answer
+            }
+            Err(e) => {
+                self.give_up(access);
+                self.count();
+                Some(LoadAnswer::Refused(e))
+            }
+        }
+    }
+}

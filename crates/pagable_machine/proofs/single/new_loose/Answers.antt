@@ -1,7 +1,0 @@
-use Rattle.pagable_machine.proofs.Leading.{loose-leads}
-use Rattle.pagable_machine.proofs.single.new_loose.Goals as goal
-
-pub returns-clause-leads : goal.returns-clause-leads
-returns-clause-leads g c =
-    let e = c.new_loose.ensures in
-    loose-leads _ _ _ c.args.node c.new_loose.result e.alone e.trees e.err (g.met.E.Node.NodeSet.has_meaning c.args.node) (g.met.E.Node.NodeSet.refers c.args.node)

@@ -1,0 +1,138 @@
+-- What a load has read becomes a node, and what becomes of the pager then.
+use Rattle.std.proofs.Common.{◌≡◌, ℕ, ◌+◌, Bool, true, false, if◌then◌else◌, List, refl, ap, ◌∙◌, sym, subst, Option, Some, None, Ok, Err, nat_eq, inl, arith}
+use Rattle.std.specs.Prelude.{◌≢◌, not, Result, IfOk, IfErr, IfSome, IfNone, OnOk, OnErr}
+use Rattle.pagable_model.specs.declared.error.Error.TheVariants as errors
+use Rattle.std.specs.HashMap.{get}
+use Rattle.pagable_model.specs.declared.data_key.OptionalDataKey.{OptionalDataKey}
+use Rattle.pagable_model.specs.declared.numbers.ArcRef.{ArcRef}
+use Rattle.pagable_model.specs.declared.numbers.Kind.{Kind}
+use Rattle.pagable_model.specs.declared.numbers.LoadNumber.{LoadNumber}
+use Rattle.pagable_model.specs.declared.numbers.HandleNumber.{HandleNumber}
+use Rattle.pagable_world.specs.declared.handles.Owner.{Owner}
+use Rattle.pagable_world.specs.declared.handles.Owner.TheVariants as owners
+use Rattle.pagable_world.specs.Plain.{Error, type_of, if_there}
+use Rattle.pagable_world.specs.Kinds.{mode_of, is_owner}
+use Rattle.pagable_world.specs.World.{Core, OpenLoad, Last, Alike, usable}
+use Rattle.pagable_world.specs.Refusals.{Refused, load_fault, closed_fault, refused_if}
+use Rattle.pagable_world.specs.Calls.{with_handle, with_node, with_cached, next_node}
+use Rattle.pagable_world.specs.LoadCalls.{adopted, adopt_fault, AdoptCall, Adopts}
+use Rattle.pagable_world.specs.Pager.{IsNewNode, Moves}
+use Rattle.pagable_steps.proofs.BirthCalls.{adopts-new}
+use Rattle.pagable_steps.proofs.FallingCalls.{adopted_known}
+use Rattle.pagable_steps.proofs.Keeping.{stayed}
+use Rattle.pagable_steps.proofs.SparedParts.{spares-alike}
+use Rattle.pagable_tables.specs.declared.tables.Tables.{Tables}
+use Rattle.pagable_tables.specs.ByNumber.{counts_at}
+use Rattle.pagable_tables.specs.Core.{IsWhole}
+use Rattle.pagable_tables.specs.Falling.{Sheds}
+use Rattle.pagable_tables.specs.Later.{AreLater}
+use Rattle.pagable_tables.specs.Bearing.{OnlyRoom}
+use Rattle.pagable_tables.proofs.Opened.{earlier-first, told-later}
+use Rattle.pagable_tables.proofs.Worlds.{still}
+use Rattle.pagable_pager.specs.View.{PagerView, Telling, Spelling, ValuesByNode, IsPager, OnlyLess, core_in, state_in, value_in, values_of}
+use Rattle.pagable_pager.proofs.Shed.{shed, whole-over}
+use Rattle.pagable_pager.proofs.Births.{told, roomier, moved-in, unmoved}
+use Rattle.pagable_pager.proofs.Shut.{adopts-bare, bare-alike}
+
+-- the new node has the next number
+pub adopted-node : (w : Core) {w' : Core} (l : LoadNumber) (kind : Kind) (key : ℕ) (own : OptionalDataKey) (rs : List ArcRef) → Alike (adopted w l kind key own rs) w' → w'.last.node ≡ w.last.node + 1
+adopted-node w l kind key own rs a = ap (λ (x : Last). x.node) a.last ∙ split w.closed
+  where
+    made : Core
+    made = with_handle (with_node w (type_of kind.0) own rs) (next_node w) (mode_of kind.0) (owners.Load l)
+
+    split : (b : Bool) → (if b then made else with_cached made kind key (next_node w)).last.node ≡ w.last.node + 1
+    split true = refl
+    split false = refl
+
+module _ {N S E : Type 0} (tells : Telling S) (g : Spelling N E) (p : PagerView N S E) (is : IsPager tells g p) (t : Tables) (values : ValuesByNode N)
+    (whole : IsWhole t) (later : AreLater t) (sheds : Sheds (counts_at p.tables.holdings.nodes) (get nat_eq p.values) (counts_at t.holdings.nodes) (get nat_eq values)) where
+  abbrev after : PagerView N S E
+  after = record p { tables = t; values = values }
+
+  -- a refusal, or nothing, leaves the pager in step
+  pub stays-so : Alike (core_in tells p) (core_in tells after) → IsPager tells g after
+  stays-so a = shed tells g p is t values whole later sheds (λ shut. bare-alike a (is.state.whole.shut shut)) (λ left. stayed is.state (spares-alike a) left)
+
+  -- and so does what was read and dropped
+  pub known-so : {me : Owner} {l : LoadNumber} {kind : Kind} {key u n : ℕ} {rs : List ArcRef} {k : HandleNumber} → Adopts (core_in tells p) me l kind key u rs k (core_in tells after)
+      → usable (core_in tells p) kind.0 key ≡ Some n → IsPager tells g after
+  known-so a known = shed tells g p is t values whole later sheds (λ shut. adopts-bare shut (is.state.whole.shut shut) a) (λ left. adopted_known is.state left a known)
+
+  pub found-so : (me : Owner) (l : LoadNumber) (kind : Kind) (key u : ℕ) (rs : List ArcRef) (cause before : Option Error) (r : Result (Option HandleNumber) Error)
+      → IfOk r (λ found. IfSome found (λ k. Adopts (core_in tells p) me l kind key u rs k (core_in tells after))) → IfOk r (λ found. IfSome found (λ k. (n : ℕ) × (usable (core_in tells p) kind.0 key ≡ Some n)))
+      → IfOk r (λ found. IfNone found (t ≡ p.tables)) → IfErr r (λ e. Refused cause before (Unit {0}) (core_in tells p) e (core_in tells after)) → IsPager tells g after
+  found-so me l kind key u rs cause before (Ok (Some k)) known given same refused = known-so known given.1
+  found-so me l kind key u rs cause before (Ok None) known given same refused = stays-so (subst (λ (x : Tables). Alike (core_in tells p) (core_in tells (record p { tables = x; values = values }))) (sym same) (still (core_in tells p)))
+  found-so me l kind key u rs cause before (Err e) known given same refused = stays-so refused.stays
+
+-- why what a load has read becomes no node, where its references weren't had
+pub unlisted-gone : (w : Core) (l : LoadNumber) (kind : Kind) (key u : ℕ) (rs : List ArcRef) → w.loads l.0 ≡ None → Refused (adopt_fault w owners.Caller l kind key u rs) (closed_fault w l) (Unit {0}) w errors.NoSuchHandle w
+unlisted-gone w l kind key u rs gone =
+    let is : load_fault w owners.Caller l ≡ Some errors.NoSuchHandle = ap (if_there (λ (load : OpenLoad). refused_if (not (is_owner owners.Caller load.owner)) errors.NotYours) (Some errors.NoSuchHandle)) gone in
+    record { why = inl (earlier-first (load_fault w owners.Caller l) _ errors.NoSuchHandle is (λ f late. omega (arith))); stays = still w }
+
+-- the value of a load is read as a node that the cache gives
+pub known-call : {N : Type 0} (w w' : Core) (x : N) (l : LoadNumber) (kind : Kind) (key u v : ℕ) (rs qs : List ArcRef) (k : HandleNumber) → u ≡ v → rs ≡ qs → Adopts w owners.Caller l kind key u rs k w' → AdoptCall w owners.Caller l kind key x v qs (Ok k) w'
+known-call w w' x l kind key u v rs qs k typed listed a = record { adopts = subst (λ t. Adopts w owners.Caller l kind key t qs k w') typed (subst (λ z. Adopts w owners.Caller l kind key u z k w') listed a); refused = tt }
+
+-- or it is refused
+pub refused-call : {N : Type 0} (w w' : Core) (x y : N) (l : LoadNumber) (kind : Kind) (key u v : ℕ) (rs qs : List ArcRef) (e : Error) → y ≡ x → u ≡ v → rs ≡ qs
+    → Refused (adopt_fault w owners.Caller l kind key u rs) (load_fault w owners.Caller l) (Unit {0}) w e w' → AdoptCall w owners.Caller l kind key x v qs (Err (e, y)) w'
+refused-call w w' x y l kind key u v rs qs e back typed listed r =
+    record { adopts = tt; refused = (back, told-later owners.Caller l (subst (λ t. Refused (adopt_fault w owners.Caller l kind key t qs) (load_fault w owners.Caller l) (Unit {0}) w e w') typed (subst (λ z. Refused (adopt_fault w owners.Caller l kind key u z) (load_fault w owners.Caller l) (Unit {0}) w e w') listed r))) }
+
+-- fewer values are there, and no other
+pub less-moves : {N S E : Type 0} (tells : Telling S) {comes : ℕ → N → Type 0} (p q : PagerView N S E) → OnlyLess p q → Moves comes (state_in tells p) (state_in tells q)
+less-moves tells p q less = record { each = λ n x has. inl (less.values n x has); environment = less.environment }
+
+-- what is told where nothing was found
+pub none-so : {X P : Type 0} (found : Option X) → found ≡ None → IfNone found P → P
+none-so None e p = p
+none-so (Some x) e p = absurd (cc)
+
+-- what a call does from where another left all as it was
+pub same-moves : {N S E : Type 0} (tells : Telling S) (p q r : PagerView N S E) (x : N) → q ≡ p → Moves (λ n y. (y ≡ x) × IsNewNode (core_in tells q) n) (state_in tells q) (state_in tells r)
+    → Moves (λ n y. (y ≡ x) × IsNewNode (core_in tells p) n) (state_in tells p) (state_in tells r)
+same-moves tells p q r x same moves = subst (λ u. Moves (λ n y. (y ≡ x) × IsNewNode (core_in tells u) n) (state_in tells u) (state_in tells r)) same moves
+
+module _ {N S E : Type 0} (tells : Telling S) (g : Spelling N E) (p : PagerView N S E) (is : IsPager tells g p) (t : Tables) (values : ValuesByNode N) (whole : IsWhole t) (later : AreLater t)
+    (l : LoadNumber) (kind : Kind) (key u : ℕ) (rs : List ArcRef) (x : N) (typed : u ≡ g.type_of x) (listed : rs ≡ g.refs_of x) (unknown : usable (core_in tells p) kind.0 key ≡ None) where
+  abbrev afterwards : PagerView N S E
+  afterwards = record p { tables = t; values = values }
+
+  abbrev next : ℕ
+  next = p.tables.last_node + 1
+
+  abbrev Adopted : Result HandleNumber (Error × N) → Type 0
+  Adopted r = IfOk r (λ k. Adopts (core_in tells p) owners.Caller l kind key u rs k (core_in tells afterwards))
+
+  abbrev Room : Result HandleNumber (Error × N) → Type 0
+  Room r = OnErr r (OnlyRoom (core_in tells p) (core_in tells afterwards))
+
+  abbrev Here : Result HandleNumber (Error × N) → Type 0
+  Here r = OnOk r (value_in values next ≡ Some x)
+
+  abbrev Others : Result HandleNumber (Error × N) → Type 0
+  Others r = OnOk r ((n : ℕ) → n ≢ next → value_in values n ≡ value_in p.values n)
+
+  abbrev Kept : Result HandleNumber (Error × N) → Type 0
+  Kept r = OnErr r ((n : ℕ) → value_in values n ≡ value_in p.values n)
+
+  -- the pager is in step
+  pub new-so : (r : Result HandleNumber (Error × N)) → Adopted r → Room r → Here r → Others r → Kept r → IsPager tells g afterwards
+  new-so (Ok k) adopts room here others kept =
+      let a : Adopts (core_in tells p) owners.Caller l kind key (g.type_of x) (g.refs_of x) k (core_in tells afterwards) =
+      subst (λ v. Adopts (core_in tells p) owners.Caller l kind key v (g.refs_of x) k (core_in tells afterwards)) typed (subst (λ z. Adopts (core_in tells p) owners.Caller l kind key u z k (core_in tells afterwards)) listed adopts) in
+      let core = whole-over t (tells.stored p.storage) (tells.closed p.storage) (tells.failed p.storage) whole (λ shut. adopts-bare shut (is.state.whole.shut shut) a) in
+      record { tables = whole; later = later; state = adopts-new {v = values_of g p.environment} {s = state_in tells p} {s' = state_in tells afterwards} is.state a unknown (told tells g p is t values x here others) whole.steady.fits.pinned core }
+  new-so (Err (e, y)) adopts room here others kept = roomier tells g p is t values whole later room kept
+
+  pub new-moves : (r : Result HandleNumber (Error × N)) → Here r → Others r → Kept r → Moves (λ n y. (y ≡ x) × IsNewNode (core_in tells p) n) (state_in tells p) (state_in tells afterwards)
+  new-moves (Ok k) here others kept = moved-in tells g p is t values x here others
+  new-moves (Err (e, y)) here others kept = unmoved tells g p is t values kept
+
+  pub new-call : (r : Result HandleNumber (Error × N)) → Adopted r → IfErr r (λ e. Refused (adopt_fault (core_in tells p) owners.Caller l kind key u rs) (load_fault (core_in tells p) owners.Caller l) (Unit {0}) (core_in tells p) e.0 (core_in tells afterwards)) → IfErr r (λ e. e.1 ≡ x)
+      → AdoptCall (core_in tells p) owners.Caller l kind key x (g.type_of x) (g.refs_of x) r (core_in tells afterwards)
+  new-call (Ok k) adopts refused back = known-call (core_in tells p) (core_in tells afterwards) x l kind key u (g.type_of x) rs (g.refs_of x) k typed listed adopts
+  new-call (Err (e, y)) adopts refused back = refused-call (core_in tells p) (core_in tells afterwards) x y l kind key u (g.type_of x) rs (g.refs_of x) e back typed listed refused

@@ -1,0 +1,38 @@
+-- What a load asks for, by the tables first and then by the storage.
+use Rattle.std.proofs.Common.{◌≡◌, ℕ, Ok, Err, Some, None, Result, refl, subst, inl}
+use Rattle.std.specs.Prelude.{Option}
+use Rattle.pagable_model.specs.declared.numbers.HandleNumber.{HandleNumber}
+use Rattle.pagable_model.specs.declared.numbers.Kind.{Kind}
+use Rattle.pagable_model.specs.declared.numbers.LoadNumber.{LoadNumber}
+use Rattle.pagable_world.specs.declared.handles.Owner.{Owner}
+use Rattle.pagable_world.specs.declared.calls.Want.TheVariants as wants
+use Rattle.pagable_world.specs.Plain.{Error}
+use Rattle.pagable_world.specs.World.{Core}
+use Rattle.pagable_world.specs.Pager.{IsWhole}
+use Rattle.pagable_world.specs.LoadCalls.{AskCall, from_cache}
+use Rattle.pagable_steps.proofs.Spared.{Spares}
+use Rattle.pagable_steps.proofs.SparedParts.{spares-alike}
+use Rattle.pagable_steps.proofs.SparedLoads.{asks}
+use Rattle.pagable_tables.specs.Asking.{AsksKnown}
+use Rattle.pagable_pager.proofs.Shut.{IsBare, bare-alike}
+
+module _ {w w' : Core} {me : Owner} {l : LoadNumber} {kind : Kind} {key : ℕ} where
+  pub known-found : {k : HandleNumber} (found : Option HandleNumber) → found ≡ Some k → AsksKnown w me l kind key (Ok found) w' → AskCall w me l (wants.Nested kind key) (Ok (from_cache k)) w'
+  known-found found some known =
+      let c = subst (λ f. AsksKnown w me l kind key (Ok f) w') some known in
+      let (load, own, (n, is, next, leaves)) = c.gives in
+      record { gives = (load, own, record { n = n; known = is; next = next; leaves = leaves }); refused = tt }
+
+  known-refused : {e : Error} → AsksKnown w me l kind key (Err e) w' → AskCall w me l (wants.Nested kind key) (Err e) w'
+  known-refused c = record { gives = tt; refused = inl c.refused }
+
+  module _ (whole : IsWhole w) where
+    pub known-spares : (r : Result (Option HandleNumber) Error) → AsksKnown w me l kind key r w' → Spares w w'
+    known-spares (Ok (Some k)) c = asks whole (Ok (from_cache k)) (known-found (Some k) refl c)
+    known-spares (Ok None) c = spares-alike c.gives.2.1
+    known-spares (Err e) c = asks whole (Err e) (known-refused c)
+
+  pub known-bare : (r : Result (Option HandleNumber) Error) → AsksKnown w me l kind key r w' → IsBare w → IsBare w'
+  known-bare (Ok (Some k)) c b = bare-alike c.gives.2.3 b
+  known-bare (Ok None) c b = bare-alike c.gives.2.1 b
+  known-bare (Err e) c b = bare-alike c.refused.stays b

@@ -1,0 +1,39 @@
+-- A pager of nothing is a new one.
+use Rattle.std.proofs.Common.{◌≡◌, ℕ, false, [], refl, ap, ◌∙◌, None, nat_eq}
+use Rattle.std.specs.Option.{option_map}
+use Rattle.std.specs.Arc.{arc_value}
+use Rattle.std.specs.HashMap.{get}
+use Rattle.pagable_model.specs.declared.numbers.NodeNumber.{NodeNumber}
+use Rattle.pagable_world.specs.Plain.{is_in}
+use Rattle.pagable_world.specs.Pager.{IsNew}
+use Rattle.pagable_tables.specs.Live.{live}
+use Rattle.pagable_tables.specs.ByNumber.{counts_at, load_at, known_at}
+use Rattle.pagable_tables.specs.Falling.{cell_in, pins_in}
+use Rattle.pagable_tables.specs.Core.{load_in}
+use Rattle.pagable_pager.specs.View.{PagerView, Telling, state_in, value_in}
+
+in-none : (v : ℕ) → is_in [] v ≡ false
+unfolding is_in
+in-none v = refl
+
+module _ {N S E : Type 0} (tells : Telling S) (p : PagerView N S E) (rows : p.tables.holdings.handles.places.items ≡ []) (nodes : (n : ℕ) → counts_at p.tables.holdings.nodes n ≡ None)
+    (list : p.tables.holdings.list.items ≡ []) (cache : (kind key : ℕ) → known_at p.tables.cache kind key ≡ None) (none : (n : ℕ) → get nat_eq p.values n ≡ None) where
+  no-value : (n : ℕ) → value_in p.values n ≡ None
+  no-value n = ap (option_map arc_value) (none n)
+
+  known-none : (kind key : ℕ) → option_map (λ (m : NodeNumber). m.0) (known_at p.tables.cache kind key) ≡ None
+  known-none kind key = ap (option_map (λ (m : NodeNumber). m.0)) (cache kind key)
+
+  pub is-new : ((l : ℕ) → load_at p.tables.loads l ≡ None) → p.tables.workers.items ≡ [] → (p.tables.last_node ≡ 0) × (p.tables.holdings.last_handle ≡ 0) × (p.tables.last_load ≡ 0) × (p.tables.last_worker ≡ 0) → IsNew (state_in tells p)
+  is-new loads workers last =
+      record {
+        rows = ap live rows;
+        cells = λ n. ap cell_in (nodes n);
+        list = list;
+        cache = known-none;
+        loads = λ l. ap (option_map load_in) (loads l);
+        workers = λ v. ap (λ ws. is_in ws v) workers ∙ in-none v;
+        last = rw (last.0, last.1, last.2, last.3) refl;
+        counts = λ n. ap pins_in (nodes n);
+        values = no-value;
+      }

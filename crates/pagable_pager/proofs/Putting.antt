@@ -1,0 +1,250 @@
+-- A value comes to a load's cell, and others go with their nodes.
+use Rattle.std.proofs.Common.{◌≡◌, ℕ, ◌==◌, ◌&&◌, Bool, true, false, Ok, Err, refl, ap, sym, ◌∙◌, subst, Some, None, Option, List, if◌then◌else◌, inl, inr, nat_eq, arith}
+use Rattle.std.specs.Prelude.{◌≢◌, ◌⊎◌, Result, is_some, nat_lt, not}
+use Rattle.std.specs.Arc.{arc_value}
+use Rattle.std.specs.HashMap.{get}
+use Rattle.std.proofs.lemmas.Bool.{cases_eq}
+use Rattle.std.proofs.lemmas.Bool.Decides.{nat_tests}
+use Rattle.pagable_model.specs.declared.numbers.ArcRef.{ArcRef}
+use Rattle.pagable_model.specs.declared.numbers.NodeNumber.{NodeNumber}
+use Rattle.pagable_world.specs.declared.handles.Owner.TheVariants as owners
+use Rattle.pagable_model.specs.declared.error.Error.TheVariants as errors
+use Rattle.pagable_world.specs.Plain.{HandleNumber, LoadNumber, Error, if_there, updated}
+use Rattle.pagable_world.specs.World.{Core, OpenLoad, Alike, is_here}
+use Rattle.pagable_world.specs.Refusals.{OwnsLoad, Refused, load_fault, closed_fault, refused_if}
+use Rattle.pagable_world.specs.LoadCalls.{DropCall, EndCall, EndRefused, Installs, MayEnd, end_fault}
+use Rattle.pagable_world.specs.Kinds.{held, is_owner}
+use Rattle.pagable_world.specs.Pager as pager
+use Rattle.pagable_world.specs.Pager.{IsCellOf, Moves, WellFormed}
+use Rattle.pagable_laws.proofs.Taking.{row-held}
+use Rattle.pagable_steps.proofs.Installing.{installed_away, installed_there}
+use Rattle.pagable_tables.specs.declared.installing.Ending.{Ending}
+use Rattle.pagable_tables.specs.declared.tables.Tables.{Tables}
+use Rattle.pagable_tables.specs.ByNumber.{counts_at}
+use Rattle.pagable_tables.specs.Falling.{Sheds, has_value}
+use Rattle.pagable_tables.specs.Core.{IsWhole, plain_of}
+use Rattle.pagable_tables.specs.Later.{AreLater}
+use Rattle.pagable_tables.specs.Ready.{IsReady, IsVain, IsWider, ShedsBeside, Unends, has_come}
+use Rattle.pagable_tables.specs.declared.installing.Unended.{Unended}
+use Rattle.pagable_tables.proofs.Installed.{installs-wider, may-wider, not-so, so-then}
+use Rattle.pagable_tables.proofs.Opened.{earlier-first}
+use Rattle.pagable_tables.proofs.Worlds.{still}
+use Rattle.pagable_steps.proofs.FallingCalls.{end_refused}
+use Rattle.pagable_steps.proofs.Spared.{spared}
+use Rattle.pagable_steps.proofs.SparedParts.{spares-alike}
+use Rattle.pagable_pager.specs.View.{PagerView, Telling, Spelling, ValuesByNode, IsPager, core_in, state_in, value_in, values_of}
+use Rattle.pagable_pager.specs.Puts.{PutsIn, with_value}
+use Rattle.pagable_pager.proofs.Shed.{here-in, here-told, less, shed, some-map, left-map, whole-over}
+use Rattle.pagable_pager.proofs.Shut.{bare-alike, end-refused-bare, installed-bare}
+
+-- the value comes
+module _ {N : Type 0} (t t' : Tables) (old mid new : ValuesByNode N) (node : NodeNumber) (x : N) (here : value_in mid node.0 ≡ Some x) (others : (n : ℕ) → n ≢ node.0 → value_in mid n ≡ value_in old n) where
+  put-there : (n : ℕ) → value_in mid n ≡ updated node.0 (Some x) (value_in old) n
+  put-there n = elim (cases_eq n node.0) [
+    | inl e ↦ let h : (n == node.0) ≡ true = grind (arith, nat_tests) in rw h (ap (value_in mid) e ∙ here)
+    | inr e ↦ let h : (n == node.0) ≡ false = grind (arith, nat_tests) in rw h (others n e)
+  ]
+
+  come : ((n : ℕ) → is_some (value_in old n) ≡ has_value (counts_at t.holdings.nodes n)) → (n : ℕ) → is_some (get nat_eq mid n) ≡ has_come (counts_at t.holdings.nodes) node n
+  come was n = sym (some-map arc_value (get nat_eq mid n)) ∙ ap is_some (put-there n) ∙ by (n == node.0)
+    where
+      by : (b : Bool) → is_some (if b then Some x else value_in old n) ≡ (if b then true else has_value (counts_at t.holdings.nodes n))
+      by true = refl
+      by false = was n
+
+  pub puts : ShedsBeside node (counts_at t.holdings.nodes) (get nat_eq mid) (counts_at t'.holdings.nodes) (get nat_eq new) → PutsIn true node.0 x t old t' new
+  puts sheds =
+      record {
+        left = λ was n.
+            let left = sheds.left (come was) n in
+            left-map arc_value (has_value (counts_at t'.holdings.nodes n)) (get nat_eq mid n) (get nat_eq new n) left.0 left.1
+            ∙ ap (λ o. if has_value (counts_at t'.holdings.nodes n) then o else None) (put-there n);
+      }
+
+-- the value is dropped, as its node has one
+pub drops : {N : Type 0} (t t' : Tables) (old new : ValuesByNode N) (node : NodeNumber) (x : N) → has_value (counts_at t.holdings.nodes node.0) ≡ true
+    → ShedsBeside node (counts_at t.holdings.nodes) (get nat_eq old) (counts_at t'.holdings.nodes) (get nat_eq new) → PutsIn false node.0 x t old t' new
+drops t t' old new node x there sheds =
+    record {
+      left = λ was n.
+          let left = sheds.left (λ m. sym (some-map arc_value (get nat_eq old m)) ∙ was m ∙ by m (m == node.0) refl) n in
+          left-map arc_value (has_value (counts_at t'.holdings.nodes n)) (get nat_eq old n) (get nat_eq new n) left.0 left.1;
+    }
+  where
+    by : (m : ℕ) (b : Bool) → (m == node.0) ≡ b → has_value (counts_at t.holdings.nodes m) ≡ (if b then true else has_value (counts_at t.holdings.nodes m))
+    by m true e = let n : m ≡ node.0 = grind (arith, nat_tests) in ap (λ k. has_value (counts_at t.holdings.nodes k)) n ∙ there
+    by m false e = refl
+
+-- a node that has its value by the world has it by its counts
+pub beside-there : (t : Tables) (l : LoadNumber) (node_type : ℕ) (refs : List ArcRef) (r : Ending) → IsWhole t → IsReady (plain_of t) owners.Caller l node_type refs r → r.is_away ≡ false
+    → has_value (counts_at t.holdings.nodes r.row.node.0) ≡ true
+beside-there t l node_type refs r whole ready here =
+    let n = r.row.node.0 in
+    let p = plain_of t in
+    let some = row-held p r.row.number r.row ready.owned.live in
+    let yes : nat_lt 0 (held n p.rows) ≡ true = grind (arith, nat_tests) in
+    let is = so-then (is_here p n) (sym ready.away ∙ here) in
+    sym (here-told (counts_at t.holdings.nodes n) p n refl (sym (whole.steady.fits.pinned n))) ∙ ap (λ b. b && is_here p n) (whole.core.handles.live n ∙ yes) ∙ is
+
+-- the pager after a load has ended with a pin
+module _ {N S E : Type 0} (tells : Telling S) (g : Spelling N E) (p : PagerView N S E) (is : IsPager tells g p) (l : LoadNumber) (x : N) (t1 t2 : Tables) (values : ValuesByNode N) (r : Ending) (k : HandleNumber)
+    (wider : IsWider (core_in tells p) (core_in tells (record p { tables = t1 }))) (nodes : t1.holdings.nodes ≡ p.tables.holdings.nodes)
+    (ready : IsReady (core_in tells (record p { tables = t1 })) owners.Caller l (g.type_of x) (g.refs_of x) r)
+    (installs : Installs (core_in tells (record p { tables = t1 })) owners.Caller l r.row.node r.row.number k (g.refs_of x) (core_in tells (record p { tables = t2; values = values })))
+    (whole2 : IsWhole t2) (later2 : AreLater t2) (puts : PutsIn r.is_away r.row.node.0 x t1 p.values t2 values) where
+  abbrev w : Core
+  w = core_in tells p
+
+  abbrev p' : PagerView N S E
+  p' = record p { tables = t2; values = values }
+
+  abbrev w' : Core
+  w' = core_in tells p'
+
+  may : MayEnd w owners.Caller l r.row.node r.row.number (g.type_of x) (g.refs_of x)
+  may = may-wider wider ready.may
+
+  was : Installs w owners.Caller l r.row.node r.row.number k (g.refs_of x) w'
+  was = installs-wider wider installs
+
+  pub end-call : EndCall w owners.Caller l x (g.type_of x) (g.refs_of x) (Ok k) w'
+  end-call = record { installs = (r.row.node, r.row.number, may, was); refused = tt }
+
+  whole' : pager.IsWhole w'
+  whole' = whole-over t2 (tells.stored p.storage) (tells.closed p.storage) (tells.failed p.storage) whole2 (λ shut. installed-bare shut (is.state.whole.shut shut) was)
+
+  kept : (n : ℕ) → is_some (value_in p.values n) ≡ has_value (counts_at t1.holdings.nodes n)
+  kept n = is.state.valued n ∙ here-in tells g p is n ∙ ap (λ ns. has_value (counts_at ns n)) (sym nodes)
+
+  swept : (b : Bool) → r.is_away ≡ b → (n : ℕ) → value_in values n ≡ (if is_some (w'.cells n) && is_here w' n then with_value b r.row.node.0 x (value_in p.values) n else None)
+  swept b e n =
+      puts.left kept n ∙ ap (λ d. if has_value (counts_at t2.holdings.nodes n) then with_value d r.row.node.0 x (value_in p.values) n else None) e
+      ∙ ap (λ d. if d then with_value b r.row.node.0 x (value_in p.values) n else None) (sym (here-told (counts_at t2.holdings.nodes n) w' n refl (sym (whole2.steady.fits.pinned n))))
+
+  same-here : is_here (core_in tells (record p { tables = t1 })) r.row.node.0 ≡ is_here w r.row.node.0
+  same-here = ap (λ v. is_here v r.row.node.0) wider.same
+
+  away : r.is_away ≡ true → is_here w r.row.node.0 ≡ false
+  away e = sym same-here ∙ not-so (is_here (core_in tells (record p { tables = t1 })) r.row.node.0) (sym ready.away ∙ e)
+
+  pub ended-so : IsPager tells g p'
+  ended-so = record { tables = whole2; later = later2; state = by r.is_away refl }
+    where
+      by : (b : Bool) → r.is_away ≡ b → WellFormed (values_of g p.environment) (state_in tells p')
+      by true e = installed_away is.state may was (away e) (swept true e) whole2.steady.fits.pinned whole'
+      by false e =
+          installed_there is.state may was (sym same-here ∙ so-then (is_here (core_in tells (record p { tables = t1 })) r.row.node.0) (sym ready.away ∙ e)) (swept false e) whole2.steady.fits.pinned whole'
+
+  pub moves : Moves (λ n y. (y ≡ x) × IsCellOf w l n) (state_in tells p) (state_in tells p')
+  moves = record { each = λ n y some. by n y r.is_away refl (is_some (w'.cells n) && is_here w' n) (sym (swept r.is_away refl n) ∙ some); environment = refl }
+    where
+      none-there : (o : Option N) → is_some o ≡ false → o ≡ None
+      none-there None e = refl
+      none-there (Some y) e = absurd (cc)
+
+      and-false : (b d : Bool) → d ≡ false → (b && d) ≡ false
+      and-false true d e = e
+      and-false false d e = refl
+
+      same-some : (a b : N) → Some a ≡ Some b → b ≡ a
+      same-some a b e = sym (ap (λ (o : Option N). elim o [ None ↦ a | Some y ↦ y ]) e)
+
+      comes : (n : ℕ) (y : N) → r.is_away ≡ true → (b : Bool) → (n == r.row.node.0) ≡ b → (if b then Some x else value_in p.values n) ≡ Some y
+          → (value_in p.values n ≡ Some y) ⊎ ((value_in p.values n ≡ None) × ((y ≡ x) × IsCellOf w l n))
+      comes n y e true here some =
+          let m : r.row.node.0 ≡ n = grind (arith, nat_tests) in
+          let gone : is_some (value_in p.values n) ≡ false =
+          subst (λ i. is_some (value_in p.values i) ≡ false) m (is.state.valued r.row.node.0 ∙ and-false (is_some (w.cells r.row.node.0)) (is_here w r.row.node.0) (away e)) in
+          inr (
+            none-there (value_in p.values n) gone,
+            (same-some x y some, record { load = may.load; node = r.row.node; t = g.type_of x; h = r.row.number; open_load = may.owned.stands_open; root = may.of_node; is = m }),
+          )
+      comes n y e false here some = inl some
+
+      by : (n : ℕ) (y : N) (b : Bool) → r.is_away ≡ b → (d : Bool) → (if d then with_value b r.row.node.0 x (value_in p.values) n else None) ≡ Some y
+          → (value_in p.values n ≡ Some y) ⊎ ((value_in p.values n ≡ None) × ((y ≡ x) × IsCellOf w l n))
+      by n y b e false some = absurd (cc)
+      by n y true e true some = comes n y e (n == r.row.node.0) refl some
+      by n y false e true some = inl some
+
+pub caller-owns : {w : Core} {l : LoadNumber} {load : OpenLoad} → OwnsLoad w owners.Caller l load → load_fault w owners.Caller l ≡ None
+caller-owns o =
+    ap (if_there (λ (load : OpenLoad). refused_if (not (is_owner owners.Caller load.owner)) errors.NotYours) (Some errors.NoSuchHandle)) o.stands_open
+    ∙ ap (λ owner. refused_if (not (is_owner owners.Caller owner)) errors.NotYours) o.own
+
+-- an own load is open
+pub owned-open : {w : Core} {l : LoadNumber} {load : OpenLoad} → OwnsLoad w owners.Caller l load → closed_fault w l ≡ None
+owned-open o = ap (if_there (λ (load : OpenLoad). None) (Some errors.NoSuchHandle)) o.stands_open
+
+-- why a load doesn't end with a value whose references weren't had
+pub unread-gone : (w : Core) (l : LoadNumber) (t : ℕ) (refs : List ArcRef) → w.loads l.0 ≡ None → Refused (end_fault w owners.Caller l t refs) (closed_fault w l) (Unit {0}) w errors.NoSuchHandle w
+unread-gone w l t refs gone =
+    let is : load_fault w owners.Caller l ≡ Some errors.NoSuchHandle = ap (if_there (λ (load : OpenLoad). refused_if (not (is_owner owners.Caller load.owner)) errors.NotYours) (Some errors.NoSuchHandle)) gone in
+    record { why = inl (earlier-first (load_fault w owners.Caller l) _ errors.NoSuchHandle is (λ f late. omega (arith))); stays = still w }
+
+pub unread-open : (w : Core) (l : LoadNumber) (load : OpenLoad) (cause : Option Error) → w.loads l.0 ≡ Some load → Refused cause (closed_fault w l) (Unit {0}) w errors.OutOfMemory w
+unread-open w l load cause is = record { why = inr (refl, ap (if_there (λ (load : OpenLoad). None) (Some errors.NoSuchHandle)) is, tt); stays = still w }
+
+-- a load whose end is in vain is closed
+pub vain : {N : Type 0} {w v w' : Core} {l : LoadNumber} {t : ℕ} {refs : List ArcRef} {e : Error} (x : N) (r : Result (Unit {0}) Error) → IsVain w owners.Caller l t refs e × (v ≡ w) → DropCall v owners.Caller l r w'
+    → EndRefused w owners.Caller l x t refs e None w'
+vain {w = w} {v} {w'} {l} x r (is, same) drop =
+    let d : DropCall w owners.Caller l r w' = subst (λ u. DropCall u owners.Caller l r w') same drop in
+    elim d.does [
+      | inl refused ↦ absurd (let a = sym refused.why ∙ caller-owns is.may.owned in cc)
+      | inr (load, own, falls) ↦ record { node = is.node; h = is.h; may = is.may; why = is.why; told = r; closes = falls }
+    ]
+
+pub wider-alike : {w v : Core} → IsWider w v → Alike w v
+wider-alike {w} {v} wider =
+    let s = still w in
+    subst (Alike w) (sym wider.same)
+    (record {
+      rows = s.rows;
+      cells = s.cells;
+      list = s.list;
+      cache = record { gives = s.cache.gives; only = s.cache.only };
+      stored = s.stored;
+      closed = s.closed;
+      failures = s.failures;
+      loads = s.loads;
+      workers = s.workers;
+      last = s.last;
+      places = wider.more;
+    })
+
+-- memory is wanting for the value
+module _ {N S E : Type 0} (tells : Telling S) (g : Spelling N E) (p : PagerView N S E) (is : IsPager tells g p) (t1 t2 : Tables) (values : ValuesByNode N)
+    (wider : IsWider (core_in tells p) (core_in tells (record p { tables = t1 }))) (same : t2 ≡ t1) (kept : (n : ℕ) → value_in values n ≡ value_in p.values n) (whole2 : IsWhole t2) (later2 : AreLater t2) where
+  pub stays-alike : Alike (core_in tells p) (core_in tells (record p { tables = t2; values = values }))
+  stays-alike = subst (λ (t : Tables). Alike (core_in tells p) (core_in tells (record p { tables = t; values = values }))) (sym same) (wider-alike wider)
+
+  pub stays-so : IsPager tells g (record p { tables = t2; values = values })
+  stays-so =
+      record {
+        tables = whole2;
+        later = later2;
+        state = spared (values_of g p.environment) (state_in tells p) (state_in tells (record p { tables = t2; values = values })) is.state (spares-alike stays-alike) kept whole2.steady.fits.pinned
+            (whole-over t2 (tells.stored p.storage) (tells.closed p.storage) (tells.failed p.storage) whole2 (λ shut. bare-alike stays-alike (is.state.whole.shut shut)));
+      }
+
+-- types and references as they are told
+pub unends-told : (w v : Core) (l : LoadNumber) (u : Unended) (t t' : ℕ) (refs refs' : List ArcRef) → t ≡ t' → refs ≡ refs' → Unends w owners.Caller l t refs u v → Unends w owners.Caller l t' refs' u v
+unends-told w v l u t t' refs refs' typed named is = subst (λ k. Unends w owners.Caller l k refs' u v) typed (subst (λ k. Unends w owners.Caller l t k u v) named is)
+
+pub ready-told : {w : Core} {l : LoadNumber} {t t' : ℕ} {refs refs' : List ArcRef} {r : Ending} → t ≡ t' → refs ≡ refs' → IsReady w owners.Caller l t refs r → IsReady w owners.Caller l t' refs' r
+ready-told {w} {l} {t} {t'} {refs} {refs'} {r} typed named is = subst (λ k. IsReady w owners.Caller l k refs' r) typed (subst (λ k. IsReady w owners.Caller l t k r) named is)
+
+-- the load doesn't end with the value
+module _ {N S E : Type 0} (tells : Telling S) (g : Spelling N E) (p : PagerView N S E) (is : IsPager tells g p) (t1 t2 : Tables) (values : ValuesByNode N) (nodes : t1.holdings.nodes ≡ p.tables.holdings.nodes)
+    (sheds : Sheds (counts_at t1.holdings.nodes) (get nat_eq p.values) (counts_at t2.holdings.nodes) (get nat_eq values)) where
+  gone : Sheds (counts_at p.tables.holdings.nodes) (get nat_eq p.values) (counts_at t2.holdings.nodes) (get nat_eq values)
+  gone = subst (λ ns. Sheds (counts_at ns) (get nat_eq p.values) (counts_at t2.holdings.nodes) (get nat_eq values)) nodes sheds
+
+  pub refused-so : (l : LoadNumber) (x : N) (t : ℕ) (refs : List ArcRef) (e : Error) (back : Option N) → IsWhole t2 → AreLater t2
+      → EndCall (core_in tells p) owners.Caller l x t refs (Err (e, back)) (core_in tells (record p { tables = t2; values = values })) → IsPager tells g (record p { tables = t2; values = values })
+  refused-so l x t refs e back whole2 later2 call =
+      shed tells g p is t2 values whole2 later2 gone (λ shut. end-refused-bare shut (is.state.whole.shut shut) e back call) (λ left. end_refused is.state left e back call)
+
+  pub refused-moves : (comes : ℕ → N → Type 0) → Moves comes (state_in tells p) (state_in tells (record p { tables = t2; values = values }))
+  refused-moves comes = record { each = λ n y some. inl (less tells g p is t2 values gone n y some); environment = refl }

@@ -1,0 +1,104 @@
+-- Values that went with their nodes leave the pager in step.
+use Rattle.std.proofs.Common.{◌≡◌, ℕ, ◌&&◌, ◌||◌, Bool, true, false, [], refl, ap, sym, ◌∙◌, Some, None, Option, if◌then◌else◌, inl, inr, nat_eq, suc, zero, arith}
+use Rattle.std.specs.Prelude.{◌⊎◌, is_some, nat_lt, not}
+use Rattle.std.proofs.lemmas.Bool.Decides.{nat_tests}
+use Rattle.std.specs.Option.{option_map}
+use Rattle.std.specs.Arc.{arc_value}
+use Rattle.std.specs.HashMap.{get}
+use Rattle.pagable_world.specs.Kinds.{has_key, is_pinning, mode_of, pins}
+use Rattle.pagable_world.specs.Plain.{Blob}
+use Rattle.pagable_world.specs.World.{Core, is_here, usable}
+use Rattle.pagable_world.specs.Pager as pager
+use Rattle.pagable_world.specs.Pager.{WellFormed}
+use Rattle.pagable_laws.proofs.Usable.{entered-of}
+use Rattle.pagable_steps.proofs.Keeping.{Leaves}
+use Rattle.pagable_steps.proofs.SparedLists.{known-here}
+use Rattle.pagable_tables.specs.declared.rows.Counts.{Counts}
+use Rattle.pagable_tables.specs.declared.tables.Tables.{Tables}
+use Rattle.pagable_tables.specs.ByNumber.{counts_at}
+use Rattle.pagable_tables.specs.Falling.{AreKept, Sheds, has_value, pins_in, cell_in, key_in}
+use Rattle.pagable_tables.specs.Later.{AreLater}
+use Rattle.pagable_tables.specs.Core.{IsWhole, core_of, plain_of}
+use Rattle.pagable_pager.specs.View.{PagerView, Telling, Spelling, ValuesByNode, IsPager, core_in, state_in, value_in, values_of}
+
+-- the plain world is whole, whatever is stored, if nothing is listed or known once the storage is closed
+pub whole-over : (t : Tables) (stored : ℕ → Option Blob) (closed : Bool) (failures : ℕ) → IsWhole t
+    → (closed ≡ true → (t.holdings.list.items ≡ []) × ((kind key : ℕ) → (plain_of t).cache kind key ≡ None)) → pager.IsWhole (core_of t stored closed failures)
+whole-over t stored closed failures whole shut =
+    let is = whole.core in
+    let h = is.handles in
+    let o = is.owners_there in
+    let l = is.loads in
+    record {
+      handles = record { ordered = h.ordered; numbered = h.numbered; nodes_numbered = h.nodes_numbered; within = h.within; live = h.live; uniform = h.uniform; unkeyed = h.unkeyed; places = h.places };
+      owners_there = record { listed = o.listed; waiting = o.waiting; loads = o.loads; workers = o.workers };
+      loads = record { numbered = l.numbered; owned = l.owned; roots = λ n load node k q there root. let r = l.roots n load node k q there root in record { typed = r.typed; begun = r.begun; given = r.given } };
+      cache = λ kind key n known. let c = is.cache kind key n known in record { given = c.given; typed = c.typed; shares = c.shares };
+      workers_numbered = is.workers_numbered;
+      shut = shut;
+    }
+
+has-key : (k : ℕ) → has_key (key_in k) ≡ nat_lt 0 k
+has-key zero = refl
+has-key (suc k) = grind (arith, nat_tests)
+
+-- whether a node has its value in memory, by its counts
+pub here-told : (o : Option Counts) (w : Core) (n : ℕ) → w.cells n ≡ cell_in o → pins n w.rows ≡ pins_in o → (is_some (w.cells n) && is_here w n) ≡ has_value o
+here-told None w n cell pinned = rw cell refl
+here-told (Some c) w n cell pinned = rw cell (ap (λ k. nat_lt 0 k || not (has_key (key_in c.key))) pinned ∙ ap (λ b. nat_lt 0 c.pins || not b) (has-key c.key))
+
+pub some-map : {X Y : Type 0} (f : X → Y) (o : Option X) → is_some (option_map f o) ≡ is_some o
+some-map f None = refl
+some-map f (Some x) = refl
+
+pub left-map : {X Y : Type 0} (f : X → Y) (b : Bool) (old new : Option X) → ((new ≡ old) ⊎ (new ≡ None)) → is_some new ≡ b → option_map f new ≡ (if b then option_map f old else None)
+left-map f true old new (inl eq) some = ap (option_map f) eq
+left-map f true old new (inr eq) some = absurd (let e = sym (ap is_some eq) ∙ some in cc)
+left-map f false old None which some = refl
+left-map f false old (Some x) which some = absurd (cc)
+
+module _ {N S E : Type 0} (tells : Telling S) (g : Spelling N E) (p : PagerView N S E) (is : IsPager tells g p) where
+  pub here-in : (n : ℕ) → (is_some ((core_in tells p).cells n) && is_here (core_in tells p) n) ≡ has_value (counts_at p.tables.holdings.nodes n)
+  here-in n = here-told (counts_at p.tables.holdings.nodes n) (core_in tells p) n refl (sym (is.tables.steady.fits.pinned n))
+
+  -- the value is in memory of a node that the cache gives for handles that pin
+  pub known-valued : (kind key n : ℕ) → usable (core_in tells p) kind key ≡ Some n → is_pinning (mode_of kind) ≡ true → has_value (counts_at p.tables.holdings.nodes n) ≡ true
+  known-valued kind key n known pinning = sym (here-in n) ∙ both _ _ (entered-of kind key n (core_in tells p) known).there (known-here is.state.whole kind key n known pinning)
+    where
+      both : (a b : Bool) → a ≡ true → b ≡ true → (a && b) ≡ true
+      both true b e f = f
+      both false b e f = absurd (cc)
+
+  pub kept-in : AreKept (counts_at p.tables.holdings.nodes) (get nat_eq p.values)
+  kept-in n falls = sym (some-map arc_value (get nat_eq p.values n)) ∙ is.state.valued n ∙ here-in n
+
+  -- what is left
+  pub leaves : (t : Tables) (values : ValuesByNode N) → IsWhole t → Sheds (counts_at p.tables.holdings.nodes) (get nat_eq p.values) (counts_at t.holdings.nodes) (get nat_eq values) → pager.IsWhole (core_in tells (record p { tables = t; values = values }))
+      → Leaves (value_in p.values) (state_in tells (record p { tables = t; values = values }))
+  leaves t values whole sheds core =
+      let left = sheds.left kept-in in
+      let w' = core_in tells (record p { tables = t; values = values }) in
+      record {
+        swept = λ n.
+            left-map arc_value (has_value (counts_at t.holdings.nodes n)) (get nat_eq p.values n) (get nat_eq values n) (left n).0 (left n).1
+            ∙ ap (λ b. if b then value_in p.values n else None) (sym (here-told (counts_at t.holdings.nodes n) w' n refl (sym (whole.steady.fits.pinned n))));
+        counted = whole.steady.fits.pinned;
+        whole = core;
+      }
+
+  -- what is left leaves the pager in step
+  pub shed : (t : Tables) (values : ValuesByNode N) → IsWhole t → AreLater t → Sheds (counts_at p.tables.holdings.nodes) (get nat_eq p.values) (counts_at t.holdings.nodes) (get nat_eq values)
+      → ((core_in tells p).closed ≡ true → (t.holdings.list.items ≡ []) × ((kind key : ℕ) → (plain_of t).cache kind key ≡ None))
+      → (Leaves (value_in p.values) (state_in tells (record p { tables = t; values = values })) → WellFormed (values_of g p.environment) (state_in tells (record p { tables = t; values = values }))) → IsPager tells g (record p { tables = t; values = values })
+  shed t values whole later sheds shut state = record { tables = whole; later = later; state = state (leaves t values whole sheds (whole-over t (tells.stored p.storage) (tells.closed p.storage) (tells.failed p.storage) whole shut)) }
+
+  -- no value came
+  pub less : (t : Tables) (values : ValuesByNode N) → Sheds (counts_at p.tables.holdings.nodes) (get nat_eq p.values) (counts_at t.holdings.nodes) (get nat_eq values) → (n : ℕ) (x : N) → value_in values n ≡ Some x → value_in p.values n ≡ Some x
+  less t values sheds n x some = elim (sheds.left kept-in n).0 [
+    | inl eq ↦ sym (ap (option_map arc_value) eq) ∙ some
+    | inr eq ↦ absurd (let e : None ≡ Some x = sym (ap (option_map arc_value) eq) ∙ some in cc)
+  ]
+
+-- cells are listed while the storage isn't closed
+pub told-open : {b closed : Bool} → b ≡ closed → not b ≡ not closed
+told-open e = ap not e

@@ -1,0 +1,95 @@
+-- Once the storage is closed nothing comes to the list or the cache.
+use Rattle.std.proofs.Common.{◌≡◌, ℕ, ◌<◌, Bool, true, false, if◌then◌else◌, Ok, Err, List, [], ◌∷◌, ◌++◌, refl, ap, sym, ◌∙◌, Some, None, inl, inr, arith}
+use Rattle.std.specs.Prelude.{Option, Result, map, filter, not}
+use Rattle.std.proofs.lemmas.Bool.Decides.{nat_tests}
+use Rattle.std.proofs.lemmas.List.Sums.{sum_by-cons}
+use Rattle.pagable_model.specs.declared.data_key.OptionalDataKey.TheVariants as optional
+use Rattle.pagable_model.specs.declared.numbers.ArcRef.{ArcRef}
+use Rattle.pagable_model.specs.declared.numbers.HandleNumber.{HandleNumber}
+use Rattle.pagable_model.specs.declared.numbers.Kind.{Kind}
+use Rattle.pagable_model.specs.declared.numbers.LoadNumber.{LoadNumber}
+use Rattle.pagable_model.specs.declared.numbers.NodeNumber.{NodeNumber}
+use Rattle.pagable_world.specs.declared.handles.Owner.TheVariants as owners
+use Rattle.pagable_world.specs.declared.handles.HandleRow.{HandleRow}
+use Rattle.pagable_world.specs.declared.handles.Owner.{Owner}
+use Rattle.pagable_world.specs.Plain.{Error, one, type_of}
+use Rattle.pagable_world.specs.Kinds.{is_at, held, mode_of}
+use Rattle.pagable_world.specs.World.{Core, Alike}
+use Rattle.pagable_world.specs.Cascade.{Falls}
+use Rattle.pagable_world.specs.Calls.{with_cached, with_cached_if_open, with_handle, with_node, next_node, ReleaseCall, UnpinCall, SetKeyCall, ScheduleCall, OfferCall}
+use Rattle.pagable_world.specs.LoadCalls.{Adopts, first_key, LazyCall, DropCall, HandOverCall, EndCall, Installs}
+
+-- nothing is listed or known
+abbrev pub IsBare : Core → Type 0
+IsBare w = (w.list ≡ []) × ((kind key : ℕ) → w.cache kind key ≡ None)
+
+none-known : (found : Option ℕ) → ((n : ℕ) → found ≡ Some n → None ≡ Some n) → found ≡ None
+none-known None h = refl
+none-known (Some n) h = let e = h n refl in absurd (cc)
+
+pub bare-alike : {w w' : Core} → Alike w w' → IsBare w → IsBare w'
+bare-alike {w} {w'} a b = (a.list ∙ b.0, λ kind key. none-known (w'.cache kind key) (λ n is. sym (b.1 kind key) ∙ a.cache.only kind key n is))
+
+no-entries : (es : List HandleRow) → ((n : ℕ) → 0 < held n es → ⊥) → es ≡ []
+no-entries [] none = refl
+no-entries (h ∷ hs) none = absurd (none h.node.0 (let a = sum_by-cons (λ x. one (is_at h.node.0 x)) h hs in grind (arith, nat_tests)))
+
+pub bare-fell : {before u w' : Core} {given : ℕ → Bool} {r : Result (Unit {0}) Error} → Falls before u given r w' → u.closed ≡ true → IsBare u → IsBare w'
+bare-fell {u = u} {w'} f closed b =
+    let none : f.entries ≡ [] = no-entries f.entries (λ n some. let e : true ≡ false = sym closed ∙ (f.only n some).0.stands_open in absurd (cc)) in (
+      f.leaves.list ∙ ap (λ (qs : List HandleNumber). filter (λ (q : HandleNumber). not (f.gone q.0)) qs ++ map (λ (h : HandleRow). h.number) f.entries) b.0 ∙ ap (map (λ (h : HandleRow). h.number)) none,
+      λ kind key. none-known (w'.cache kind key) (λ n is. sym (b.1 kind key) ∙ f.leaves.cache.only kind key n is),
+    )
+
+bare-cached : (w : Core) (kind : Kind) (key : ℕ) (n : NodeNumber) → w.closed ≡ true → IsBare w → IsBare (with_cached_if_open w kind key n)
+bare-cached w kind key n closed b = split w.closed closed
+  where
+    split : (c : Bool) → c ≡ true → IsBare (if c then w else with_cached w kind key n)
+    split true e = b
+    split false e = absurd (cc)
+
+module _ {w w' : Core} (closed : w.closed ≡ true) (b : IsBare w) where
+  pub released-bare : {me : Owner} {h : HandleNumber} {r : Result (Unit {0}) Error} → ReleaseCall w me h r w' → IsBare w'
+  released-bare c = elim c.does [ inl refused ↦ bare-alike refused.stays b | inr (row, owns, f) ↦ bare-fell f closed b ]
+
+  pub unpinned-bare : {me : Owner} {h : HandleNumber} {r : Result (Unit {0}) Error} → UnpinCall w me h r w' → IsBare w'
+  unpinned-bare c = elim c.does [ inl refused ↦ bare-alike refused.stays b | inr (row, owns, inl (mode, told, a)) ↦ bare-alike a b | inr (row, owns, inr (mode, f)) ↦ bare-fell f closed b ]
+
+  pub key-set-bare : {me : Owner} {h : HandleNumber} {key : ℕ} {r : Result (Unit {0}) Error} → SetKeyCall w me h key r w' → IsBare w'
+  key-set-bare c = elim c.does [ inl refused ↦ bare-alike refused.stays b | inr (row, owns, inl (mode, told, a)) ↦ bare-alike a b | inr (row, owns, inr (loose, f)) ↦ bare-fell f closed b ]
+
+  pub scheduled-bare : {me : Owner} {h : HandleNumber} (r : Result (Unit {0}) Error) → ScheduleCall w me h r w' → IsBare w'
+  scheduled-bare (Ok u) c = elim c.moves.2 [ inl (stands_open, a) ↦ absurd (let e : true ≡ false = sym closed ∙ stands_open in cc) | inr (shut, f) ↦ bare-fell f.falls closed b ]
+  scheduled-bare (Err e) c = bare-alike c.refused.stays b
+
+  pub offered-bare : {me : Owner} {kind : Kind} {key : ℕ} {h : HandleNumber} (r : Result (Option HandleNumber) Error) → OfferCall w me kind key h r w' → IsBare w'
+  offered-bare (Ok None) c = absurd (let e : true ≡ false = sym closed ∙ c.answers.3.0 in cc)
+  offered-bare (Ok (Some k)) c = elim c.answers.3 [ inl (shut, same, a) ↦ bare-alike a b | inr (stands_open, makes) ↦ absurd (let e : true ≡ false = sym closed ∙ stands_open in cc) ]
+  offered-bare (Err e) c = bare-alike c.refused.stays b
+
+  pub dropped-bare : {me : Owner} {l : LoadNumber} {r : Result (Unit {0}) Error} → DropCall w me l r w' → IsBare w'
+  dropped-bare c = elim c.does [ inl refused ↦ bare-alike refused.stays b | inr (load, owns, f) ↦ bare-fell f closed b ]
+
+  pub handed-bare : {me : Owner} {l : LoadNumber} {hs : List HandleNumber} (r : Result (Unit {0}) Error) → HandOverCall w me l hs r w' → IsBare w'
+  handed-bare (Ok u) c = bare-fell c.hands.1.falls closed b
+  handed-bare (Err e) c = bare-alike c.refused.1 b
+
+  pub lazy-bare : {me : Owner} {l : LoadNumber} {kind : Kind} {key : ℕ} (r : Result HandleNumber Error) → LazyCall w me l kind key r w' → IsBare w'
+  lazy-bare {l = l} {kind} {key} (Ok k) c = elim c.makes.3 [
+    | inl gets ↦ bare-alike gets.leaves b
+    | inr (none, few, next, leaves) ↦ bare-alike leaves (bare-cached (with_handle (with_node w (type_of kind.0) (optional.Some key) []) (next_node w) (mode_of kind.0) (owners.Load l)) kind key (next_node w) closed b)
+  ]
+  lazy-bare (Err e) c = bare-alike c.refused.stays b
+
+  pub installed-bare : {me : Owner} {l : LoadNumber} {node : NodeNumber} {h k : HandleNumber} {references : List ArcRef} → Installs w me l node h k references w' → IsBare w'
+  installed-bare i = elim i.falls [ inl (away, f) ↦ bare-fell f.falls closed b | inr (here, f) ↦ bare-fell f.falls closed b ]
+
+  pub end-refused-bare : {N : Type 0} {me : Owner} {l : LoadNumber} {x : N} {t : ℕ} {references : List ArcRef} (e : Error) (back : Option N) → EndCall w me l x t references (Err (e, back)) w' → IsBare w'
+  end-refused-bare e (Some y) c = bare-alike c.refused.1.stays b
+  end-refused-bare e None c = bare-fell c.refused.closes closed b
+
+  pub adopts-bare : {me : Owner} {l : LoadNumber} {kind : Kind} {key t : ℕ} {rs : List ArcRef} {k : HandleNumber} → Adopts w me l kind key t rs k w' → IsBare w'
+  adopts-bare {l = l} {kind} {key} {rs = rs} a = elim a.makes [
+    | inl (n, usable, f) ↦ bare-fell f.falls closed b
+    | inr (none, few, leaves) ↦ bare-alike leaves (bare-cached (with_handle (with_node w (type_of kind.0) (first_key kind.0 key) rs) (next_node w) (mode_of kind.0) (owners.Load l)) kind key (next_node w) closed b)
+  ]

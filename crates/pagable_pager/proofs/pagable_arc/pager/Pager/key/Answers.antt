@@ -1,5 +1,0 @@
-use Rattle.std.proofs.Common.{rules}
-use Rattle.pagable_pager.proofs.pagable_arc.pager.Pager.key.Goals as goal
-
-pub returns : goal.returns
-returns g c = search rules

@@ -1,0 +1,29 @@
+use Rattle.std.proofs.Common.{refl}
+use Rattle.pagable_world.specs.declared.handles.Owner.TheVariants as owners
+use Rattle.pagable_world.specs.Refusals.{load_fault}
+use Rattle.pagable_world.specs.LoadCalls.{adopt_fault}
+use Rattle.pagable_tables.specs.Core.{core_of}
+use Rattle.pagable_tables.proofs.Stays.{eager-pins}
+use Rattle.pagable_pager.proofs.Adopting.{found-so}
+use Rattle.pagable_pager.proofs.Shed.{told-open, less, known-valued}
+use Rattle.pagable_pager.proofs.pager.Pager.adopt_known.Goals as goal
+
+pub adopt_if_known-requires-clause-valued : goal.adopt_if_known-requires-clause-valued
+adopt_if_known-requires-clause-valued g c n known eager = known-valued _ _ _ c.self.invariant c.args.kind.0 c.args.key n known (eager-pins c.args.kind.0 eager)
+
+pub invariant_of-self : goal.invariant_of-self
+invariant_of-self g c =
+    let e = c.adopt_if_known.ensures in
+    let w = core_of c.self.inside.tables (g.S.PagableStorage.stored c.self.inside.storage) (g.S.PagableStorage.is_closed c.self.inside.storage) (g.S.PagableStorage.failed c.self.inside.storage) in
+    found-so _ _ _ c.self.invariant c.adopt_if_known.new.t c.adopt_if_known.new.values e.whole e.later e.sheds owners.Caller c.args.load c.args.kind c.args.key c.args.node_type c.args.references.now
+    (adopt_fault w owners.Caller c.args.load c.args.kind c.args.key c.args.node_type c.args.references.now) (load_fault w owners.Caller c.args.load) c.adopt_if_known.result
+    (e.known (g.S.PagableStorage.stored c.self.inside.storage) (g.S.PagableStorage.is_closed c.self.inside.storage) (g.S.PagableStorage.failed c.self.inside.storage) (told-open c.has_closed-lists.ensures)) e.given e.same (e.refused (g.S.PagableStorage.stored c.self.inside.storage) (g.S.PagableStorage.is_closed c.self.inside.storage) (g.S.PagableStorage.failed c.self.inside.storage))
+
+pub returns-clause-known : goal.returns-clause-known
+returns-clause-known g c = rw (← c.self.view_is) (c.adopt_if_known.ensures.known (g.S.PagableStorage.stored c.self.inside.storage) (g.S.PagableStorage.is_closed c.self.inside.storage) (g.S.PagableStorage.failed c.self.inside.storage) (told-open c.has_closed-lists.ensures))
+
+pub returns-clause-only : goal.returns-clause-only
+returns-clause-only g c = rw (← c.self.view_is) (record { values = less _ _ _ c.self.invariant c.adopt_if_known.new.t c.adopt_if_known.new.values c.adopt_if_known.ensures.sheds; storage = refl; environment = refl })
+
+pub returns-clause-fresh : goal.returns-clause-fresh
+returns-clause-fresh g c = rw (← c.self.view_is) c.adopt_if_known.ensures.fresh

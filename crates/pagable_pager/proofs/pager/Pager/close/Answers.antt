@@ -1,0 +1,23 @@
+use Rattle.std.proofs.Common.{refl}
+use Rattle.pagable_pager.proofs.Closed.{shut-call, shut-pager}
+use Rattle.pagable_pager.proofs.Shed.{less}
+use Rattle.pagable_pager.proofs.pager.Pager.close.Goals as goal
+
+pub invariant_of-self : goal.invariant_of-self
+invariant_of-self g c =
+    let is = c.self.invariant in
+    let e = c.close-2.ensures in
+    let s = c.close.ensures in
+    shut-pager _ _ _ is c.close.new.self c.close-2.new.t c.close-2.new.values e.whole (e.later is.later) e.sheds
+    (shut-call (g.S.PagableStorage.stored c.self.inside.storage) (g.S.PagableStorage.stored c.close.new.self) (g.S.PagableStorage.is_closed c.self.inside.storage) (g.S.PagableStorage.is_closed c.close.new.self) (g.S.PagableStorage.failed c.self.inside.storage) (g.S.PagableStorage.failed c.close.new.self)
+    c.self.inside.tables c.close-2.new.t s.empty s.closed (e.closed _ _ _ _ s.later))
+
+pub returns-clause-step : goal.returns-clause-step
+returns-clause-step g c =
+    let e = c.close-2.ensures in
+    let s = c.close.ensures in
+    rw (← c.self.view_is) (shut-call (g.S.PagableStorage.stored c.self.inside.storage) (g.S.PagableStorage.stored c.close.new.self) (g.S.PagableStorage.is_closed c.self.inside.storage) (g.S.PagableStorage.is_closed c.close.new.self) (g.S.PagableStorage.failed c.self.inside.storage) (g.S.PagableStorage.failed c.close.new.self)
+    c.self.inside.tables c.close-2.new.t s.empty s.closed (e.closed _ _ _ _ s.later))
+
+pub returns-clause-only : goal.returns-clause-only
+returns-clause-only g c = rw (← c.self.view_is) (record { values = less _ _ _ c.self.invariant c.close-2.new.t c.close-2.new.values c.close-2.ensures.sheds; environment = refl })

@@ -1,0 +1,10 @@
+use Rattle.std.proofs.Common.{refl}
+use Rattle.pagable_pager.specs.View.{telling}
+use Rattle.pagable_pager.proofs.Empty.{is-new}
+use Rattle.pagable_pager.proofs.pager.Pager.new.Goals as goal
+
+pub returns-clause-empty : goal.returns-clause-empty
+returns-clause-empty g c =
+    let e = c.new.ensures in
+    is-new (telling g.S.PagableStorage.stored g.S.PagableStorage.is_closed g.S.PagableStorage.failed) (record { tables = c.new.result; values = c.new-2.result; storage = c.args.storage; environment = c.args.env })
+    e.rows e.nodes e.list e.cache (λ n. rw c.new-2.ensures.empty refl) e.loads e.workers e.last

@@ -1,0 +1,13 @@
+use Rattle.pagable_steps.proofs.SparedLists.{reserves}
+use Rattle.pagable_tables.proofs.keeps.CacheCalls.{reserve-whole}
+use Rattle.pagable_pager.proofs.Spared.{held}
+use Rattle.pagable_pager.proofs.pager.Pager.reserve.Goals as goal
+
+pub invariant_of-self : goal.invariant_of-self
+invariant_of-self g c =
+    let is = c.self.invariant in
+    let step = c.reserve.ensures.reserved _ _ _ in
+    held _ _ _ is c.reserve.new.t c.reserve.ensures.whole (c.reserve.ensures.later is.later) (reserves step) (reserve-whole c.args.more c.reserve.result is.state.whole step)
+
+pub returns-clause-step : goal.returns-clause-step
+returns-clause-step g c = rw (← c.self.view_is) (c.reserve.ensures.reserved (g.S.PagableStorage.stored c.self.inside.storage) (g.S.PagableStorage.is_closed c.self.inside.storage) (g.S.PagableStorage.failed c.self.inside.storage))

@@ -1,0 +1,119 @@
+-- What contracts see of a pager, and the plain state that it tells.
+use Rattle.std.specs.Arc.{arc_value}
+use Rattle.std.specs.declared.sync.Arc.{Arc}
+use Rattle.std.specs.Global.{Global}
+use Rattle.std.specs.declared.hash.FoldHasher.{FoldHasher}
+use Rattle.std.specs.declared.hash.BuildHasherDefault.{BuildHasherDefault}
+use Rattle.std.specs.HashMap.{HashMap, get}
+use Rattle.std.specs.Option.{option_map}
+use Rattle.std.specs.Prelude.{ℕ, ◌≡◌, Bool, List, Option, Some, nat_eq}
+use Rattle.either.specs.declared.Either.{Either}
+use Rattle.either.specs.declared.Either.TheVariants as eithers
+use Rattle.pagable_model.specs.declared.numbers.ArcRef.{ArcRef}
+use Rattle.pagable_model.specs.declared.numbers.HandleNumber.{HandleNumber}
+use Rattle.pagable_world.specs.Plain.{Blob, Error, Meaning, Shape}
+use Rattle.pagable_world.specs.World.{Core, Values}
+use Rattle.pagable_world.specs.LoadCalls.{Given, from_cache, from_store}
+use Rattle.pagable_world.specs.Pager.{PagerState, WellFormed}
+use Rattle.pagable_tables.specs.declared.tables.Tables.{Tables}
+use Rattle.pagable_tables.specs.ByNumber.{counts_at}
+use Rattle.pagable_tables.specs.Falling.{pins_in}
+use Rattle.pagable_tables.specs.Core.{core_of}
+use Rattle.pagable_tables.specs.Later.{AreLater}
+use Rattle.pagable_tables.specs.Core as tables
+
+abbrev pub ValuesByNode : Type 0 → Type 0
+ValuesByNode N = HashMap ℕ (Arc N Global) (BuildHasherDefault FoldHasher)
+
+-- the tables, the values in memory by the numbers of their nodes, the storage and the environment
+pub record PagerView (N S E : Type 0) : Type 0 where
+  pub tables : Tables
+  pub values : ValuesByNode N
+  pub storage : S
+  pub environment : E
+
+-- the value of a node
+abbrev pub value_in : {N : Type 0} → ValuesByNode N → ℕ → Option N
+value_in values n = option_map arc_value (get nat_eq values n)
+
+-- What a storage tells: what it holds under each key, whether it was closed, and how often it failed.
+pub record Telling (S : Type 0) : Type 0 where
+  pub stored : S → ℕ → Option Blob
+  pub closed : S → Bool
+  pub failed : S → ℕ
+
+-- the plain world, and the plain state
+abbrev pub core_in : {N S E : Type 0} → Telling S → PagerView N S E → Core
+core_in tells p = core_of p.tables (tells.stored p.storage) (tells.closed p.storage) (tells.failed p.storage)
+
+abbrev pub state_in : {N S E : Type 0} → Telling S → PagerView N S E → PagerState N E
+state_in tells p = record { core = core_in tells p; counts = λ n. pins_in (counts_at p.tables.holdings.nodes n); values = value_in p.values; environment = p.environment }
+
+abbrev pub telling : {S : Type 0} → (S → ℕ → Option Blob) → (S → Bool) → (S → ℕ) → Telling S
+telling stored closed failed = record { stored = stored; closed = closed; failed = failed }
+
+-- What an environment's values are: their types and references, what they may mean, and why reading and writing may be refused; and how they are spelled.
+pub record Spelling (N E : Type 0) : Type 1 where
+  pub type_of : N → ℕ
+  pub refs_of : N → List ArcRef
+  pub means : N → Meaning ArcRef → Type 0
+  pub read_causes : ℕ → Error → Type 0
+  pub write_causes : ℕ → Error → Type 0
+  pub shape_of : E → ℕ → Option Shape
+  pub parts : E → ℕ → Shape
+  pub hash : List ℕ → List ℕ
+
+abbrev pub values_of : {N E : Type 0} → Spelling N E → E → Values N
+values_of g e =
+    record {
+      node_type = g.type_of;
+      references = g.refs_of;
+      means = g.means;
+      read_causes = g.read_causes;
+      write_causes = g.write_causes;
+      types = record { nodes = g.shape_of e; parts = g.parts e };
+      hash = g.hash;
+    }
+
+abbrev pub spelling : {N E : Type 0} → (N → ℕ) → (N → List ArcRef) → (N → Meaning ArcRef → Type 0) → (ℕ → Error → Type 0) → (ℕ → Error → Type 0) → (E → ℕ → Option Shape) → (E → ℕ → Shape) → (List ℕ → List ℕ) → Spelling N E
+spelling type_of refs_of means read_causes write_causes shape_of parts hash =
+    record { type_of = type_of; refs_of = refs_of; means = means; read_causes = read_causes; write_causes = write_causes; shape_of = shape_of; parts = parts; hash = hash }
+
+-- the tables are whole, what loads own has come since they began, and the plain state
+pub record IsPager {N S E : Type 0} (tells : Telling S) (g : Spelling N E) (p : PagerView N S E) : Type 0 where
+  pub tables : tables.IsWhole p.tables
+  pub later : AreLater p.tables
+  pub state : WellFormed (values_of g p.environment) (state_in tells p)
+
+-- values, storage and environment are the same
+pub record OnlyTables {N S E : Type 0} (old new : PagerView N S E) : Type 0 where
+  pub values : new.values ≡ old.values
+  pub storage : new.storage ≡ old.storage
+  pub environment : new.environment ≡ old.environment
+
+-- tables, values and environment are the same
+pub record OnlyStorage {N S E : Type 0} (old new : PagerView N S E) : Type 0 where
+  pub tables : new.tables ≡ old.tables
+  pub values : new.values ≡ old.values
+  pub environment : new.environment ≡ old.environment
+
+-- storage and environment are the same, and each value that is there was there before
+pub record OnlyLess {N S E : Type 0} (old new : PagerView N S E) : Type 0 where
+  pub values : (n : ℕ) (x : N) → value_in new.values n ≡ Some x → value_in old.values n ≡ Some x
+  pub storage : new.storage ≡ old.storage
+  pub environment : new.environment ≡ old.environment
+
+-- the environment is the same, and each value that is there was there before
+pub record FewerValues {N S E : Type 0} (old new : PagerView N S E) : Type 0 where
+  pub values : (n : ℕ) (x : N) → value_in new.values n ≡ Some x → value_in old.values n ≡ Some x
+  pub environment : new.environment ≡ old.environment
+
+-- values and environment are the same
+pub record SameValues {N S E : Type 0} (old new : PagerView N S E) : Type 0 where
+  pub values : new.values ≡ old.values
+  pub environment : new.environment ≡ old.environment
+
+-- what a load's asking gives, as it is seen
+abbrev pub given_as : {B : Type 0} → (B → Blob) → Either HandleNumber B → Given
+given_as see (eithers.Left k) = from_cache k
+given_as see (eithers.Right blob) = from_store (see blob)

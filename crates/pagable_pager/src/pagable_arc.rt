@@ -1,4 +1,0 @@
-//! The pager.
-
-pub mod pager;
-pub mod values;

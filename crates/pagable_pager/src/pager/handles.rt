@@ -1,0 +1,81 @@
+//! Handles that come to live nodes, and what is asked of them.
+
+ghost use Rattle.std.specs.Prelude.{◌≡◌};
+ghost use Rattle.pagable_world.specs.declared.handles.Owner.TheVariants as owners;
+ghost use Rattle.pagable_world.specs.Calls.{CloneCall, PinCall, LoosenCall, CountCall, KeyCall, AwayCall, NodeCall, TypeCall};
+ghost use Rattle.pagable_pager.specs.View.{core_in, telling, OnlyTables};
+
+use crate::pager::Pager;
+use pagable_codec::{Env, NodeSet};
+use pagable_core::PagableStorage;
+use pagable_model::{Error, HandleNumber, NodeNumber, OptionalDataKey};
+use pagable_tables::{lookups, making, pinning, turning};
+use pagable_world::Pinning;
+use pagable_world::handles::Owner;
+
+impl<E: Env, S: PagableStorage<E>> Pager<E, S>
+where
+    E::Node: NodeSet<E>,
+{
+    /// One more handle of the node of a live handle, of the same mode, which is the caller's: a clone of a pinning handle pins. Refused with NoSuchHandle,
+    /// NumbersSpent and OutOfMemory.
+    pub fn clone(&mut self, handle: HandleNumber) -> Result<HandleNumber, Error>
+        ensures step { CloneCall (core_in (telling S.stored S.is_closed S.failed) self.old) owners.Caller handle result (core_in (telling S.stored S.is_closed S.failed) self.new) }
+        ensures only { OnlyTables self.old self.new }
+    {
+        making::clone(&mut self.tables, Owner::Caller, handle)
+    }
+
+    /// A Pinned handle becomes a loose pinned one, and keeps its number. It takes no memory. Refused with NoSuchHandle, NotYours, and WrongMode where the handle
+    /// isn't Pinned.
+    pub fn into_pagable(&mut self, handle: HandleNumber) -> Result<HandleNumber, Error>
+        ensures step { LoosenCall (core_in (telling S.stored S.is_closed S.failed) self.old) owners.Caller handle result (core_in (telling S.stored S.is_closed S.failed) self.new) }
+        ensures only { OnlyTables self.old self.new }
+    {
+        turning::into_pagable(&mut self.tables, Owner::Caller, handle)
+    }
+
+    /// A loose handle becomes pinned, and a new Pinned handle is answered; or the key under which the value has to be loaded first, where it isn't in memory,
+    /// and then nothing changes. Refused with NoSuchHandle, NotYours, WrongMode where the handle isn't loose, NumbersSpent and OutOfMemory.
+    pub fn pin(&mut self, handle: HandleNumber) -> Result<Pinning, Error>
+        ensures step { PinCall (core_in (telling S.stored S.is_closed S.failed) self.old) owners.Caller handle result (core_in (telling S.stored S.is_closed S.failed) self.new) }
+        ensures only { OnlyTables self.old self.new }
+    {
+        pinning::pin(&mut self.tables, Owner::Caller, handle)
+    }
+
+    /// How many handles pin the node. Refused with NoSuchHandle.
+    pub fn count(&self, handle: HandleNumber) -> Result<u64, Error>
+        ensures { CountCall (core_in (telling S.stored S.is_closed S.failed) self.now) handle result }
+    {
+        lookups::count(&self.tables, handle)
+    }
+
+    /// The node's key, if it has one. Refused with NoSuchHandle.
+    pub fn key(&self, handle: HandleNumber) -> Result<OptionalDataKey, Error>
+        ensures { KeyCall (core_in (telling S.stored S.is_closed S.failed) self.now) handle result }
+    {
+        lookups::key(&self.tables, handle)
+    }
+
+    /// Whether the node's value isn't in memory. Refused with NoSuchHandle.
+    pub fn is_paged_out(&self, handle: HandleNumber) -> Result<bool, Error>
+        ensures { AwayCall (core_in (telling S.stored S.is_closed S.failed) self.now) handle result }
+    {
+        lookups::is_paged_out(&self.tables, handle)
+    }
+
+    /// The node of a handle. Refused with NoSuchHandle.
+    pub fn node_of(&self, handle: HandleNumber) -> Result<NodeNumber, Error>
+        ensures { NodeCall (core_in (telling S.stored S.is_closed S.failed) self.now) handle result }
+    {
+        lookups::node_of(&self.tables, handle)
+    }
+
+    /// The number of the node's value type, or None where the node is gone.
+    pub fn node_live(&self, node: NodeNumber) -> Option<u32>
+        ensures { TypeCall (core_in (telling S.stored S.is_closed S.failed) self.now) node result }
+    {
+        lookups::node_live(&self.tables, node)
+    }
+}

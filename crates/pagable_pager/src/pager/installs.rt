@@ -1,0 +1,228 @@
+//! Loads of cells that end with a value.
+
+ghost use Rattle.std.specs.Prelude.{◌≡◌, ◌≢◌, ◌<◌, ℕ, Bool, Option, Some, IfOk, IfErr, OnOk, OnErr, List, [], not, nat_eq, true, false};
+ghost use Rattle.std.specs.Arc.{arc_value};
+ghost use Rattle.std.specs.HashMap.{get, spare};
+ghost use Rattle.pagable_world.specs.declared.handles.Owner.TheVariants as owners;
+ghost use Rattle.pagable_world.specs.Plain.{Blob};
+ghost use Rattle.pagable_world.specs.World.{Core};
+ghost use Rattle.pagable_world.specs.LoadCalls.{EndCall, EndRefused, Installs, end_fault};
+ghost use Rattle.pagable_world.specs.Refusals.{Refused, closed_fault};
+ghost use Rattle.pagable_model.specs.declared.numbers.ArcRef.{ArcRef};
+ghost use Rattle.pagable_world.specs.Pager.{IsCellOf, Moves};
+ghost use Rattle.pagable_tables.specs.Core.{core_of, IsWhole};
+ghost use Rattle.pagable_tables.specs.Later.{AreLater};
+ghost use Rattle.pagable_tables.specs.ByNumber.{counts_at};
+ghost use Rattle.pagable_tables.specs.Falling.{Sheds};
+ghost use Rattle.pagable_tables.specs.Ready.{IsReady, HasPlace, Unends};
+ghost use Rattle.pagable_pager.specs.View.{core_in, state_in, telling, value_in};
+ghost use Rattle.pagable_pager.specs.Puts.{PutsIn};
+
+use crate::pager::Pager;
+use indexmap::IndexMap;
+use pagable_codec::{Env, NodeSet};
+use pagable_core::PagableStorage;
+use pagable_model::{ArcRef, Error, HandleNumber, LoadNumber};
+use pagable_tables::installing::{Ending, Unended};
+use pagable_tables::tables::Tables;
+use pagable_tables::{ending, installing, loads};
+use pagable_world::handles::Owner;
+use std::alloc::{AllocError, Global};
+use std::sync::Arc;
+
+/// Room for one more value.
+fn make_room<N>(values: &mut IndexMap<u64, Arc<N>>) -> Result<(), AllocError>
+    ensures same { (n : ℕ) → value_in values.new n ≡ value_in values.old n }
+    ensures room { OnOk result (0 < spare values.new) }
+{
+    values.reserve(1)
+}
+
+/// A value is in memory from now on, under its node's number.
+fn keep<N: Drop>(values: &mut IndexMap<u64, Arc<N>>, node: u64, value: Arc<N>)
+    requires { 0 < spare values.old }
+    ensures here { value_in values.new node ≡ Some (arc_value value) }
+    ensures others { (n : ℕ) → n ≢ node → value_in values.new n ≡ value_in values.old n }
+{
+    let Ok(_) = values.insert(node, value) else {
+        unreachable!();
+    };
+}
+
+/// The value comes to the load's cell, which has none, and the load ends. Refused by memory alone, and the value comes back.
+fn put<N: Drop>(
+    tables: &mut Tables,
+    values: &mut IndexMap<u64, Arc<N>>,
+    alloc: Global,
+    load: LoadNumber,
+    node_type: u32,
+    references: Vec<ArcRef>,
+    value: N,
+    ending: Ending,
+    lists: bool,
+) -> Result<HandleNumber, N>
+    requires whole { IsWhole tables.old }
+    requires later { AreLater tables.old }
+    requires ready { (stored : ℕ → Option Blob) (closed : Bool) (failures : ℕ) → IsReady (core_of tables.old stored closed failures) owners.Caller load node_type references.items ending }
+    requires place { HasPlace tables.old load ending }
+    requires away { ending.is_away ≡ true }
+    ensures installs { IfOk result (λ k. (stored : ℕ → Option Blob) (closed : Bool) (failures : ℕ) → lists ≡ not closed
+        → Installs (core_of tables.old stored closed failures) owners.Caller load ending.row.node ending.row.number k references.items (core_of tables.new stored closed failures)) }
+    ensures whole { IsWhole tables.new }
+    ensures later { AreLater tables.new }
+    ensures puts { OnOk result (PutsIn true ending.row.node.0 value tables.old values.old tables.new values.new) }
+    ensures back { IfErr result (λ x. x ≡ value) }
+    ensures tables { OnErr result (tables.new ≡ tables.old) }
+    ensures kept { OnErr result ((n : ℕ) → value_in values.new n ≡ value_in values.old n) }
+{
+    let Ok(()) = make_room(values) else {
+        return Err(value);
+    };
+    let value = match Arc::new(alloc, value) {
+        Ok(value) => value,
+        Err(refused) => return Err(refused.value),
+    };
+    keep(values, ending.row.node.0, value);
+    Ok(installing::install(
+        tables,
+        values,
+        Owner::Caller,
+        load,
+        node_type,
+        references,
+        ending,
+        lists,
+    ))
+}
+
+/// The load ends: the value comes to its cell, or is dropped where that has one. Refused by memory alone, and the value comes back.
+fn finish<N: Drop>(
+    tables: &mut Tables,
+    values: &mut IndexMap<u64, Arc<N>>,
+    alloc: Global,
+    load: LoadNumber,
+    node_type: u32,
+    references: Vec<ArcRef>,
+    value: N,
+    ending: Ending,
+    lists: bool,
+) -> Result<HandleNumber, N>
+    requires whole { IsWhole tables.old }
+    requires later { AreLater tables.old }
+    requires ready { (stored : ℕ → Option Blob) (closed : Bool) (failures : ℕ) → IsReady (core_of tables.old stored closed failures) owners.Caller load node_type references.items ending }
+    requires place { HasPlace tables.old load ending }
+    ensures installs { IfOk result (λ k. (stored : ℕ → Option Blob) (closed : Bool) (failures : ℕ) → lists ≡ not closed
+        → Installs (core_of tables.old stored closed failures) owners.Caller load ending.row.node ending.row.number k references.items (core_of tables.new stored closed failures)) }
+    ensures whole { IsWhole tables.new }
+    ensures later { AreLater tables.new }
+    ensures puts { OnOk result (PutsIn ending.is_away ending.row.node.0 value tables.old values.old tables.new values.new) }
+    ensures back { IfErr result (λ x. x ≡ value) }
+    ensures tables { OnErr result (tables.new ≡ tables.old) }
+    ensures kept { OnErr result ((n : ℕ) → value_in values.new n ≡ value_in values.old n) }
+{
+    if ending.is_away {
+        return put(
+            tables, values, alloc, load, node_type, references, value, ending, lists,
+        );
+    }
+    Ok(installing::end_beside(
+        tables,
+        values,
+        Owner::Caller,
+        load,
+        node_type,
+        &references,
+        ending,
+        lists,
+    ))
+}
+
+/// The load doesn't end with the value: it stays open and the value comes back, or it is closed with all that it owns, where its end is in vain.
+fn give_back<N: Drop>(
+    tables: &mut Tables,
+    values: &mut IndexMap<u64, Arc<N>>,
+    load: LoadNumber,
+    value: N,
+    unended: Unended,
+    lists: bool,
+) -> (Error, Option<N>)
+    requires whole { IsWhole tables.old }
+    requires later { AreLater tables.old }
+    ensures refused { (w : Core) (node_type : ℕ) (references : List ArcRef) (stored : ℕ → Option Blob) (closed : Bool) (failures : ℕ) → lists ≡ not closed
+        → Unends w owners.Caller load node_type references unended (core_of tables.old stored closed failures)
+        → EndRefused w owners.Caller load value node_type references result.0 result.1 (core_of tables.new stored closed failures) }
+    ensures whole { IsWhole tables.new }
+    ensures later { AreLater tables.new }
+    ensures sheds { Sheds (counts_at tables.old.holdings.nodes) (get nat_eq values.old) (counts_at tables.new.holdings.nodes) (get nat_eq values.new) }
+{
+    match unended {
+        Unended::Refused(e) => (e, Some(value)),
+        Unended::InVain(e) => {
+            let _ = ending::load_drop(tables, values, Owner::Caller, load, lists);
+            (e, None)
+        }
+    }
+}
+
+impl<E: Env, S: PagableStorage<E>> Pager<E, S>
+where
+    E::Node: NodeSet<E>,
+{
+    /// The load ends with a value that has these references.
+    fn end_with(
+        &mut self,
+        alloc: Global,
+        load: LoadNumber,
+        value: E::Node,
+        references: Vec<ArcRef>,
+    ) -> Result<HandleNumber, (Error, Option<E::Node>)>
+        requires { references.items ≡ E.Node.refs_of value }
+        ensures step { EndCall (core_in (telling S.stored S.is_closed S.failed) self.old) owners.Caller load value (E.Node.type_of value) (E.Node.refs_of value) result (core_in (telling S.stored S.is_closed S.failed) self.new) }
+        ensures moves { Moves (λ n x. (x ≡ value) × IsCellOf (core_in (telling S.stored S.is_closed S.failed) self.old) load n) (state_in (telling S.stored S.is_closed S.failed) self.old) (state_in (telling S.stored S.is_closed S.failed) self.new) }
+    {
+        let lists = !self.storage.has_closed();
+        let (tables, values) = (&mut self.tables, &mut self.values);
+        let (me, node_type) = (Owner::Caller, value.node_type());
+        let ready = match installing::prepare_end(tables, me, load, node_type, &references) {
+            Ok(ready) => ready,
+            Err(unended) => return Err(give_back(tables, values, load, value, unended, lists)),
+        };
+        let handle = match finish(
+            tables, values, alloc, load, node_type, references, value, ready, lists,
+        ) {
+            Ok(handle) => handle,
+            Err(value) => return Err((Error::OutOfMemory, Some(value))),
+        };
+        Ok(handle)
+    }
+
+    /// Why a load doesn't end with a value whose references can't be listed: it isn't open, or memory is wanting.
+    fn unread(&self, load: LoadNumber) -> Error
+        ensures { (node_type : ℕ) (references : List ArcRef) → Refused (end_fault (core_in (telling S.stored S.is_closed S.failed) self.now) owners.Caller load node_type references) (closed_fault (core_in (telling S.stored S.is_closed S.failed) self.now) load) (Unit {0}) (core_in (telling S.stored S.is_closed S.failed) self.now) result (core_in (telling S.stored S.is_closed S.failed) self.now) }
+    {
+        match loads::load_of(&self.tables.loads, load.0) {
+            Some(_) => Error::OutOfMemory,
+            None => Error::NoSuchHandle,
+        }
+    }
+
+    /// Ends a load of a cell with its value, which the load read: the handle that began it is pinned, a Pinned one is made and answered, and what the load still owns
+    /// is given up. The value comes into the cell with the handles of its references; where the cell has its value already, it is dropped. Asks that the value is
+    /// what the cell's key reads as. A refusal gives the value back and leaves the load open: NoSuchHandle and NotYours, of the load and of the references;
+    /// WrongMode where the load is of a key, and of a reference; WrongKind of another type; NumbersSpent and OutOfMemory. Where the handle that began it is gone or
+    /// another's, the load is closed with all that it owns, the value is dropped, and NoSuchHandle or NotYours comes alone.
+    pub fn load_end(
+        &mut self,
+        alloc: Global,
+        load: LoadNumber,
+        value: E::Node,
+    ) -> Result<HandleNumber, (Error, Option<E::Node>)>
+        ensures step { EndCall (core_in (telling S.stored S.is_closed S.failed) self.old) owners.Caller load value (E.Node.type_of value) (E.Node.refs_of value) result (core_in (telling S.stored S.is_closed S.failed) self.new) }
+        ensures moves { Moves (λ n x. (x ≡ value) × IsCellOf (core_in (telling S.stored S.is_closed S.failed) self.old) load n) (state_in (telling S.stored S.is_closed S.failed) self.old) (state_in (telling S.stored S.is_closed S.failed) self.new) }
+    {
+        match value.refs(alloc) {
+            Ok(references) => self.end_with(alloc, load, value, references),
+            Err(_) => Err((self.unread(load), Some(value))),
+        }
+    }
+}

@@ -1,0 +1,143 @@
+//! Loads, by steps.
+
+ghost use Rattle.std.specs.Prelude.{◌≡◌, IfOk, IfNone};
+ghost use Rattle.std.specs.Arc.{arc_value};
+ghost use Rattle.pagable_core.specs.Data.{blob_of};
+ghost use Rattle.pagable_world.specs.declared.handles.Owner.TheVariants as owners;
+ghost use Rattle.pagable_world.specs.declared.calls.Want.TheVariants as wants;
+ghost use Rattle.pagable_world.specs.World.{seen_as};
+ghost use Rattle.pagable_world.specs.LoadCalls.{AskCall, BeginCall, BeginKeyCall, LazyCall};
+ghost use Rattle.pagable_tables.specs.Asking.{AsksKnown};
+ghost use Rattle.pagable_pager.specs.View.{core_in, telling, given_as, OnlyTables, OnlyStorage, SameValues};
+
+use crate::pager::Pager;
+use either::Either;
+use pagable_codec::{Env, NodeSet};
+use pagable_core::{PagableData, PagableStorage};
+use pagable_model::{DataKey, Error, HandleNumber, Kind, LoadNumber};
+use pagable_tables::{adopting, begins, loading};
+use pagable_world::handles::Owner;
+use pagable_world::{Beginning, Want};
+use std::alloc::Global;
+use std::sync::Arc;
+
+impl<E: Env, S: PagableStorage<E>> Pager<E, S>
+where
+    E::Node: NodeSet<E>,
+{
+    /// A load of a key, without a cell. Refused with NumbersSpent and OutOfMemory.
+    pub fn load_key(&mut self, key: DataKey) -> Result<Beginning, Error>
+        ensures step { BeginKeyCall (core_in (telling S.stored S.is_closed S.failed) self.old) owners.Caller key result (core_in (telling S.stored S.is_closed S.failed) self.new) }
+        ensures only { OnlyTables self.old self.new }
+    {
+        begins::load_key(&mut self.tables, Owner::Caller, key)
+    }
+
+    /// A load of a loose handle's cell, with an unpinned clone of the handle; or InMemory, where the value needn't be read. Refused with NoSuchHandle, NotYours,
+    /// WrongMode where the handle isn't loose, NumbersSpent and OutOfMemory.
+    pub fn load_begin(&mut self, handle: HandleNumber) -> Result<Beginning, Error>
+        ensures step { BeginCall (core_in (telling S.stored S.is_closed S.failed) self.old) owners.Caller handle result (core_in (telling S.stored S.is_closed S.failed) self.new) }
+        ensures only { OnlyTables self.old self.new }
+    {
+        loading::load_begin(&mut self.tables, Owner::Caller, handle)
+    }
+
+    /// The blob of the load's own key.
+    fn fetch_root(
+        &mut self,
+        alloc: Global,
+        load: LoadNumber,
+    ) -> Result<Either<HandleNumber, Arc<PagableData>>, Error>
+        ensures step { AskCall (core_in (telling S.stored S.is_closed S.failed) self.old) owners.Caller load wants.Root (seen_as (given_as (λ d. blob_of (arc_value d))) result) (core_in (telling S.stored S.is_closed S.failed) self.new) }
+        ensures only { OnlyStorage self.old self.new }
+    {
+        let row = match loading::load_row(&self.tables, Owner::Caller, load) {
+            Ok(row) => row,
+            Err(e) => return Err(e),
+        };
+        let blob = match self.fetch(alloc, row.key) {
+            Ok(blob) => blob,
+            Err(e) => return Err(e),
+        };
+        Ok(Either::Right(blob))
+    }
+
+    /// A handle of the load's, of the node that the cache gives; or None where it gives none.
+    fn load_known(
+        &mut self,
+        load: LoadNumber,
+        kind: Kind,
+        key: DataKey,
+    ) -> Result<Option<HandleNumber>, Error>
+        ensures step { AsksKnown (core_in (telling S.stored S.is_closed S.failed) self.old) owners.Caller load kind key result (core_in (telling S.stored S.is_closed S.failed) self.new) }
+        ensures none { IfOk result (λ found. IfNone found (core_in (telling S.stored S.is_closed S.failed) self.new ≡ core_in (telling S.stored S.is_closed S.failed) self.old)) }
+        ensures only { OnlyTables self.old self.new }
+    {
+        loading::load_known(&mut self.tables, Owner::Caller, load, kind, key)
+    }
+
+    /// The node, or else the blob, of a reference.
+    fn fetch_nested(
+        &mut self,
+        alloc: Global,
+        load: LoadNumber,
+        kind: Kind,
+        key: DataKey,
+    ) -> Result<Either<HandleNumber, Arc<PagableData>>, Error>
+        ensures step { AskCall (core_in (telling S.stored S.is_closed S.failed) self.old) owners.Caller load (wants.Nested kind key) (seen_as (given_as (λ d. blob_of (arc_value d))) result) (core_in (telling S.stored S.is_closed S.failed) self.new) }
+        ensures only { SameValues self.old self.new }
+    {
+        match self.load_known(load, kind, key) {
+            Ok(Some(known)) => return Ok(Either::Left(known)),
+            Ok(None) => {}
+            Err(e) => return Err(e),
+        }
+        let blob = match self.fetch(alloc, key) {
+            Ok(blob) => blob,
+            Err(e) => return Err(e),
+        };
+        Ok(Either::Right(blob))
+    }
+
+    /// What a load asks for: the blob of its own key; of a reference a handle of the node that the cache gives, which the load owns, or else the blob. Refused
+    /// with NoSuchHandle and NotYours; with NumbersSpent and OutOfMemory where a handle can't be made; and with NoData, OutOfMemory and Storage, as the storage
+    /// refuses a blob.
+    pub fn load_fetch(
+        &mut self,
+        alloc: Global,
+        load: LoadNumber,
+        want: Want,
+    ) -> Result<Either<HandleNumber, Arc<PagableData>>, Error>
+        ensures step { AskCall (core_in (telling S.stored S.is_closed S.failed) self.old) owners.Caller load want (seen_as (given_as (λ d. blob_of (arc_value d))) result) (core_in (telling S.stored S.is_closed S.failed) self.new) }
+        ensures only { SameValues self.old self.new }
+    {
+        match want {
+            Want::Root => self.fetch_root(alloc, load),
+            Want::Nested(kind, key) => self.fetch_nested(alloc, load, kind, key),
+        }
+    }
+
+    /// A reference through a loose handle, of which nothing is read: a handle, which the load owns, of the cell that the cache gives, or of a new one that has this
+    /// key and no value. Refused with NoSuchHandle, NotYours, WrongKind where the kind isn't a loose one, NumbersSpent and OutOfMemory.
+    pub fn load_lazy(
+        &mut self,
+        alloc: Global,
+        load: LoadNumber,
+        kind: Kind,
+        key: DataKey,
+    ) -> Result<HandleNumber, Error>
+        ensures step { LazyCall (core_in (telling S.stored S.is_closed S.failed) self.old) owners.Caller load kind key result (core_in (telling S.stored S.is_closed S.failed) self.new) }
+        ensures only { OnlyTables self.old self.new }
+    {
+        let lists = !self.storage.has_closed();
+        adopting::load_lazy(
+            &mut self.tables,
+            Owner::Caller,
+            load,
+            kind,
+            key,
+            lists,
+            alloc,
+        )
+    }
+}

@@ -1,6 +1,0 @@
-//! The pager over the tables: values in memory while a handle pins them, in step with tables of who holds them, over a storage of blobs.
-#![tactic(auto)]
-
-pub mod pager;
-
-pub use pager::Pager;

@@ -1,0 +1,212 @@
+-- The entries of the list are given up one after the other, while no cell is listed.
+use Rattle.std.proofs.Common.{◌≡◌, ℕ, ◌+◌, ◌<◌, ◌≤◌, ◌==◌, ◌&&◌, ◌||◌, Bool, true, false, not, if◌then◌else◌, List, [], ◌∷◌, ◌++◌, suc, zero, filter, length, map, Some, None, refl, ap, sym, ◌∙◌, subst, arith}
+use Rattle.std.specs.Prelude.{Option, Result, Ok, Err, nat_lt, vec_capacity}
+use Rattle.std.proofs.lemmas.Bool.Decides.{nat_tests}
+use Rattle.std.proofs.lemmas.List.{append-nil}
+use Rattle.std.proofs.lemmas.List.Sums.{sum_by-cons, sum_by-append, sum_by_push}
+use Rattle.pagable_model.specs.declared.error.Error.{Error}
+use Rattle.pagable_model.specs.declared.numbers.HandleNumber.{HandleNumber}
+use Rattle.pagable_world.specs.declared.handles.HandleRow.{HandleRow}
+use Rattle.pagable_world.specs.declared.handles.Owner.TheVariants as owners
+use Rattle.pagable_world.specs.Plain.{Blob, Among, one, times, if_there}
+use Rattle.pagable_world.specs.Kinds.{is_at, is_handle, is_owned_by, find_row, held}
+use Rattle.pagable_world.specs.World.{Core}
+use Rattle.pagable_world.specs.Calls.{shut as shut_world}
+use Rattle.pagable_world.specs.Cascade.{FallsAnyhow, left_rows, nobody, TellsListing}
+use Rattle.pagable_world.specs.LoadCalls.{is_owned_in}
+use Rattle.pagable_world.specs.Pager as pager
+use Rattle.pagable_tables.specs.declared.holdings.Holdings.{Holdings}
+use Rattle.pagable_tables.specs.declared.tables.Tables.{Tables}
+use Rattle.pagable_tables.specs.Core.{core_of, IsWhole}
+use Rattle.pagable_tables.specs.Live.{live}
+use Rattle.pagable_tables.specs.Onward.{told_by, SoFar}
+use Rattle.pagable_tables.specs.Closing.{entered, with_list, AreEntries}
+use Rattle.pagable_tables.proofs.keeps.Rests.{found-so}
+use Rattle.pagable_tables.proofs.keeps.Rows.{counted, only-row}
+use Rattle.pagable_tables.proofs.Begun.{begins, begun, shut-then}
+use Rattle.pagable_tables.proofs.Going.{IsApart}
+use Rattle.pagable_tables.proofs.Left.{and_one, kept-more}
+use Rattle.pagable_tables.proofs.Regiven.{regiven}
+
+pub no-entries : (es : List HandleRow) → ((n : ℕ) → 0 < held n es → ⊥) → es ≡ []
+no-entries [] none = refl
+no-entries (h ∷ hs) none = absurd (none h.node.0 (let a = sum_by-cons (λ x. one (is_at h.node.0 x)) h hs in grind (arith, nat_tests)))
+
+-- what is found of a number that hasn't gone
+find-kept : (gone : ℕ → Bool) (q : ℕ) (rows : List HandleRow) → gone q ≡ false → find_row q (left_rows gone rows) ≡ find_row q rows
+unfolding find_row
+find-kept gone q [] kept = refl
+find-kept gone q (x ∷ xs) kept = at (gone x.number.0) refl (is_handle q x) refl (find-kept gone q xs kept)
+  where
+    at : (a : Bool) → gone x.number.0 ≡ a → (b : Bool) → is_handle q x ≡ b → find_row q (left_rows gone xs) ≡ find_row q xs
+        → find_row q (if not a then x ∷ left_rows gone xs else left_rows gone xs) ≡ (if b then Some x else find_row q xs)
+    at true e true i rest = let n : x.number.0 ≡ q = grind (arith, nat_tests) in let f : true ≡ false = sym e ∙ ap gone n ∙ kept in absurd (cc)
+    at true e false i rest = rest
+    at false e b i rest = ap (λ b. if b then Some x else find_row q (left_rows gone xs)) i ∙ ap (λ r. if b then Some x else r) rest
+
+filter-le : (p : HandleNumber → Bool) (xs : List HandleNumber) → length (filter p xs) ≤ length xs
+filter-le p [] = omega arith
+filter-le p (x ∷ xs) = at (p x) (filter-le p xs)
+  where
+    at : (b : Bool) → length (filter p xs) ≤ length xs → length (if b then x ∷ filter p xs else filter p xs) ≤ length (x ∷ xs)
+    at true le = omega arith
+    at false le = omega arith
+
+-- where all is kept, so is the front
+front-kept : (p : HandleNumber → Bool) (xs ys : List HandleNumber) → xs ++ ys ≡ filter p (xs ++ ys) → xs ≡ filter p xs
+front-kept p [] ys is = refl
+front-kept p (x ∷ xs) ys is = at (λ e. front-kept p xs ys e) (p x) is
+  where
+    at : (xs ++ ys ≡ filter p (xs ++ ys) → xs ≡ filter p xs) → (b : Bool) → x ∷ (xs ++ ys) ≡ (if b then x ∷ filter p (xs ++ ys) else filter p (xs ++ ys)) → x ∷ xs ≡ (if b then x ∷ filter p xs else filter p xs)
+    at rest true is = let e : xs ++ ys ≡ filter p (xs ++ ys) = cc in ap (λ l. x ∷ l) (rest e)
+    at rest false is = let a = ap length is in let b = filter-le p (xs ++ ys) in absurd (omega arith)
+
+module _ {before w : Core} {given : ℕ → Bool} {t : Holdings} (f : SoFar before w given false t) where
+  shut : w.closed ≡ true
+  shut = shut-then false w.closed refl f.begins.open_storage
+
+  none-came : f.entries ≡ []
+  none-came = no-entries f.entries (λ n some. let e : true ≡ false = sym shut ∙ (f.only n some).0.stands_open in absurd (cc))
+
+  -- a handle that the list owned, and doesn't now, has gone
+  pub went : (q : ℕ) → is_owned_in w owners.List q ≡ true → if_there (is_owned_by owners.List) false (find_row q (live t.handles.places.items)) ≡ false → SoFar before w (and_one given q) false t
+  went q owned none = regiven before w given (and_one given q) false t f less (λ r e. grind (arith, nat_tests))
+    where
+      gone : f.gone q ≡ true
+      gone = at (f.gone q) refl
+        where
+          at : (b : Bool) → f.gone q ≡ b → f.gone q ≡ true
+          at true e = e
+          at false e =
+              let a : find_row q (live t.handles.places.items) ≡ find_row q w.rows =
+              ap (find_row q) (f.rows ∙ ap (λ es. left_rows f.gone w.rows ++ es) none-came ∙ append-nil (left_rows f.gone w.rows)) ∙ find-kept f.gone q w.rows e in
+              let g : true ≡ false = sym owned ∙ sym (ap (if_there (is_owned_by owners.List) false) a) ∙ none in
+              absurd (cc)
+
+      less : (r : ℕ) → and_one given q r ≡ true → (given r || f.gone r) ≡ true
+      less r e = at (r == q) refl
+        where
+          at : (b : Bool) → (r == q) ≡ b → (given r || f.gone r) ≡ true
+          at true i = let n : r ≡ q = grind (arith, nat_tests) in let g : f.gone r ≡ true = ap f.gone n ∙ gone in grind (arith, nat_tests)
+          at false i = grind (arith, nat_tests)
+
+  -- one that was an entry goes apart from the list
+  pub entry-apart : (q : ℕ) → entered q w.list ≡ 0 → IsApart before w given false t f q
+  entry-apart q none = record { unentered = ap (times (is_handle q)) none-came; kept = kept-more f.gone q w.list none }
+
+-- no cell must be listed once the storage is closed
+tells-shut : (before w w' u u' : Core) (entries : List HandleRow) (r : Result (Unit {0}) Error) → w.closed ≡ true → u.closed ≡ true → TellsListing before w entries r w' → TellsListing before u entries r u'
+tells-shut before w w' u u' entries (Ok v) a b tells = record { all = λ n must. let e : true ≡ false = sym b ∙ must.stands_open in absurd (cc); not_all = tt }
+tells-shut before w w' u u' entries (Err e) a b tells = record { all = tt; not_all = let (n, must, none, why) = tells.not_all in let e : true ≡ false = sym a ∙ must.stands_open in absurd (cc) }
+
+-- the last entries leave the list
+pub unlist : (before w : Core) (given : ℕ → Bool) (t t' : Holdings) (last : List HandleNumber) → SoFar before (with_list w t.list.items) given false t → t' ≡ record t { list = t'.list }
+    → t.list.items ≡ t'.list.items ++ last → vec_capacity t'.list ≡ vec_capacity t.list → SoFar before (with_list w t'.list.items) given false t'
+unlist before w given t t' last f same items capacity =
+    subst (SoFar before (with_list w t'.list.items) given false) (sym same)
+    (record {
+      begins = record {
+        open_storage = f.begins.open_storage;
+        fewer = f.begins.fewer;
+        shared = f.begins.shared;
+        uniform = f.begins.uniform;
+        listed = λ q. let a = f.begins.listed q in let b = ap (entered q) items in let c = sum_by-append (λ (h : HandleNumber). one (h.0 == q)) t'.list.items last in omega arith;
+      };
+      gone = f.gone;
+      entries = f.entries;
+      rows = f.rows;
+      list = front-kept (λ (q : HandleNumber). not (f.gone q.0)) t'.list.items last (subst (λ l. l ≡ filter (λ (q : HandleNumber). not (f.gone q.0)) l) items all)
+          ∙ sym (append-nil _) ∙ ap (λ es. filter (λ (q : HandleNumber). not (f.gone q.0)) t'.list.items ++ map (λ (h : HandleRow). h.number) es) (sym (none-came f));
+      last = f.last;
+      within = f.within;
+      places = record { handles = f.places.handles; entries = let a = f.places.entries in omega arith };
+      cells = f.cells;
+      holds = f.holds;
+      least = f.least;
+      new = f.new;
+      only = λ n some. let e : true ≡ false = sym (shut f) ∙ (f.only n some).0.stands_open in absurd (cc);
+      tells = tells-shut before (with_list w t.list.items) _ _ _ f.entries (told_by t.unlisted) (shut f) (shut f) f.tells;
+      few = f.few;
+    })
+  where
+    all : t.list.items ≡ filter (λ (q : HandleNumber). not (f.gone q.0)) t.list.items
+    all = f.list ∙ ap (λ es. filter (λ (q : HandleNumber). not (f.gone q.0)) t.list.items ++ map (λ (h : HandleRow). h.number) es) (none-came f) ∙ append-nil _
+
+-- what has been given of a list, of which so much is left
+abbrev pub given_up : List HandleNumber → List HandleNumber → ℕ → Bool
+given_up list left q = nat_lt (entered q left) (entered q list)
+
+pub none-given-up : (before w : Core) (t : Holdings) (list : List HandleNumber) → SoFar before w nobody false t → SoFar before w (given_up list list) false t
+none-given-up before w t list f = regiven before w nobody (given_up list list) false t f (λ r e. absurd (grind (arith, nat_tests))) (λ r e. absurd (cc))
+
+pub one-given-up : (before w : Core) (t : Holdings) (list left : List HandleNumber) (x : HandleNumber) → ((q : ℕ) → entered q (left ++ x ∷ []) ≤ entered q list)
+    → SoFar before w (λ q. given_up list (left ++ x ∷ []) q || q == x.0) false t → SoFar before w (given_up list left) false t
+one-given-up before w t list left x le f = regiven before w (λ q. given_up list (left ++ x ∷ []) q || q == x.0) (given_up list left) false t f less more
+  where
+    pushed : (r : ℕ) → entered r (left ++ x ∷ []) ≡ entered r left + one (x.0 == r)
+    pushed r = sum_by_push (λ (h : HandleNumber). one (h.0 == r)) left x
+
+    bits : (a b c : ℕ) (e : Bool) → b ≡ a + one e → b ≤ c → ((nat_lt b c || e) ≡ nat_lt a c)
+    bits a b c true is le = grind (arith, nat_tests)
+    bits a b c false is le = grind (arith, nat_tests)
+
+    same : (r : ℕ) → (given_up list (left ++ x ∷ []) r || r == x.0) ≡ given_up list left r
+    same r =
+        let s : (r == x.0) ≡ (x.0 == r) = grind (arith, nat_tests) in
+        ap (λ b. given_up list (left ++ x ∷ []) r || b) s ∙ bits (entered r left) (entered r (left ++ x ∷ [])) (entered r list) (x.0 == r) (pushed r) (le r)
+
+    less : (r : ℕ) → given_up list left r ≡ true → ((given_up list (left ++ x ∷ []) r || r == x.0) || f.gone r) ≡ true
+    less r e = ap (λ b. b || f.gone r) (same r ∙ e)
+
+    more : (r : ℕ) → (given_up list (left ++ x ∷ []) r || r == x.0) ≡ true → given_up list left r ≡ true
+    more r e = sym (same r) ∙ e
+
+-- the list's handles of one number
+abbrev lists : ℕ → HandleRow → Bool
+lists q h = is_handle q h && is_owned_by owners.List h
+
+-- the list of a whole world has each of its entries once, and owns it
+pub are-entries : {w : Core} → pager.IsWhole w → AreEntries w
+are-entries {w} whole =
+    record {
+      once = λ q. at q (times (lists q) w.rows) refl;
+      owned = λ q is. let (x, among, number, own) = row q (let a = whole.owners_there.listed q in grind (arith, nat_tests)) in
+          ap (if_there (is_owned_by owners.List) false) (found-so q w.rows x whole.handles.ordered among number) ∙ own;
+    }
+  where
+    row : (q : ℕ) → 0 < times (lists q) w.rows → (x : HandleRow) × Among w.rows x × (x.number.0 ≡ q) × (is_owned_by owners.List x ≡ true)
+    row q some = let (x, among, counts) = counted (λ h. one (lists q h)) w.rows some in let (a, b) = both (is_handle q x) (is_owned_by owners.List x) counts in (x, among, grind (arith, nat_tests), b)
+      where
+        both : (a b : Bool) → 0 < one (a && b) → (a ≡ true) × (b ≡ true)
+        both true true p = (refl, refl)
+        both true false p = absurd (omega arith)
+        both false b p = absurd (omega arith)
+
+    at : (q k : ℕ) → times (lists q) w.rows ≡ k → entered q w.list ≤ 1
+    at q zero e = let a = whole.owners_there.listed q in omega arith
+    at q (suc k) e =
+        let (x, among, number, own) = row q (omega arith) in
+        let a = only-row (λ h. one (lists q h)) w.rows x whole.handles.ordered among (λ y other. let o : (y.number.0 == q) ≡ false = grind (arith, nat_tests) in ap (λ b. one (b && is_owned_by owners.List y)) o) in
+        let b = whole.owners_there.listed q in
+        let c = small (lists q x) in
+        omega arith
+      where
+        small : (b : Bool) → one b ≤ 1
+        small true = omega arith
+        small false = omega arith
+
+-- where nothing has gone of a whole world, nothing has of the one that is shut, while the list is still there
+pub begun-shut : (t : Tables) (stored : ℕ → Option Blob) (closed : Bool) (failures failures' : ℕ) → IsWhole t
+    → SoFar (core_of t stored closed failures) (with_list (shut_world (core_of t stored closed failures) failures') t.holdings.list.items) nobody false (record t.holdings { unlisted = None })
+begun-shut t stored closed failures failures' whole =
+    let w = core_of t stored closed failures in
+    let b = begins t stored closed (not closed) failures whole refl in
+    begun w (with_list (shut_world w failures') t.holdings.list.items) false (record t.holdings { unlisted = None })
+    (record { open_storage = refl; fewer = b.fewer; shared = b.shared; uniform = b.uniform; listed = b.listed })
+    refl refl refl whole.core.handles.within.0 (record { handles = omega arith; entries = omega arith }) (λ n. refl) refl
+    (λ n must. let a = must.pinned in let z = must.unpinned in absurd (omega arith))
+
+-- the cache is told anew
+pub cache-anew : (before u w' : Core) (given : ℕ → Bool) (cache : ℕ → ℕ → Option ℕ) → ((kind key : ℕ) → w'.cache kind key ≡ cache kind key) → FallsAnyhow before u given w'
+    → FallsAnyhow before u given (record w' { cache = cache })
+cache-anew before u w' given cache same falls = subst (λ c. FallsAnyhow before u given (record w' { cache = c })) (λ i kind key. same kind key i) falls

@@ -1,0 +1,342 @@
+-- A load of a cell ends with a pin, and gives up what it still owns. The pin stays, so that cells are listed as of the world before.
+use Rattle.std.proofs.Common.{◌≡◌, ℕ, ◌+◌, ◌<◌, ◌≤◌, ◌==◌, ◌&&◌, Bool, true, false, not, List, [], ◌∷◌, ◌++◌, length, refl, ap, sym, ◌∙◌, subst, arith, Option, Some, None, inl, inr, if◌then◌else◌}
+use Rattle.std.specs.Prelude.{◌≢◌, Result, vec_capacity}
+use Rattle.std.specs.Option.{option_map}
+use Rattle.std.specs.List.{AllPairs}
+use Rattle.std.proofs.lemmas.Bool.Decides.{nat_tests}
+use Rattle.std.proofs.lemmas.List.Sums.{sum_by_push}
+use Rattle.pagable_model.specs.declared.error.Error.{Error}
+use Rattle.pagable_model.specs.declared.numbers.ArcRef.{ArcRef}
+use Rattle.pagable_model.specs.declared.numbers.HandleNumber.{HandleNumber}
+use Rattle.pagable_model.specs.declared.numbers.LoadNumber.{LoadNumber}
+use Rattle.pagable_model.specs.declared.numbers.NodeNumber.{NodeNumber}
+use Rattle.pagable_world.specs.declared.handles.HandleRow.{HandleRow}
+use Rattle.pagable_world.specs.declared.handles.Owner.{Owner}
+use Rattle.pagable_world.specs.declared.handles.Owner.TheVariants as owners
+use Rattle.pagable_world.specs.declared.rows.Mode.TheVariants as modes
+use Rattle.pagable_world.specs.Plain.{Blob, Among, one, times}
+use Rattle.pagable_world.specs.Kinds.{find_row, pins, sharing, is_handle, is_owner, is_owned_by, is_pin, is_share, owner_value}
+use Rattle.pagable_world.specs.Pager.{IsHandleBefore, MayOwnLoad}
+use Rattle.pagable_world.specs.World.{Core, Last, Alike}
+use Rattle.pagable_world.specs.Cascade.{Falls, nobody}
+use Rattle.pagable_world.specs.Refusals.{references_fault}
+use Rattle.pagable_world.specs.Calls.{moved, row_of, is_named_by, with_handle, with_mode}
+use Rattle.pagable_world.specs.LoadCalls.{is_owned_in, without_load, with_pin, Installs, MayEnd}
+use Rattle.pagable_world.specs.Plain.{changed}
+use Rattle.pagable_tables.specs.declared.holdings.Holdings.{Holdings}
+use Rattle.pagable_tables.specs.declared.rows.Counts.{Counts}
+use Rattle.pagable_tables.specs.declared.rows.LoadRow.{LoadRow}
+use Rattle.pagable_tables.specs.declared.tables.Tables.{Tables}
+use Rattle.pagable_tables.specs.Live.{live}
+use Rattle.pagable_tables.specs.ByNumber.{counts_at, load_at}
+use Rattle.pagable_tables.specs.Falling.{cell_in, has_value, is_valued, pins_in}
+use Rattle.pagable_tables.specs.Onward.{with_tables, is_plain_pin, SoFar}
+use Rattle.pagable_tables.specs.Core.{core_of, plain_of, load_in, IsWhole, MayHold}
+use Rattle.pagable_tables.specs.Ready.{IsWider, has_come}
+use Rattle.pagable_tables.proofs.Begun.{begins, begun}
+use Rattle.pagable_tables.proofs.Coming.{turned}
+use Rattle.pagable_tables.proofs.Dropped.{load-closed, owned-given}
+use Rattle.pagable_tables.proofs.Joined.{moved-turned, turned-sum}
+use Rattle.pagable_tables.proofs.Named.{moved-nobody, named-none}
+use Rattle.pagable_tables.proofs.Newer.{OnlyNewer, loaded-mode, newer-then, newer-moved, newer-mode, newer-handle, newer-falls}
+use Rattle.pagable_tables.proofs.Regiven.{loaded, loaded-here, loaded-none}
+use Rattle.pagable_tables.proofs.Stays.{seen-before, stays-pinned, not-named}
+use Rattle.pagable_tables.proofs.Swapped.{same-value}
+use Rattle.pagable_tables.proofs.Taken.{moved-times, loaded-moved, no-load}
+use Rattle.pagable_tables.proofs.Upheld.{references-placed}
+use Rattle.pagable_tables.proofs.keeps.BirthCalls.{named-unlisted}
+use Rattle.pagable_tables.proofs.keeps.Comes.{not-list, not-a-value}
+use Rattle.pagable_tables.proofs.keeps.LoadCalls.{may-hold}
+use Rattle.pagable_tables.proofs.keeps.Moved.{moved-to-value}
+use Rattle.pagable_tables.proofs.keeps.Rows.{among-map, found-among, once, ordered-map, sum-map}
+
+-- Of other nodes the same handles pin, and are Shared.
+module _ (h : HandleNumber) (node : NodeNumber) (rows : List HandleRow) (of : (y : HandleRow) → Among rows y → is_handle h.0 y ≡ true → y.node ≡ node) (n : ℕ) (other : (node.0 == n) ≡ false) where
+  abbrev to : HandleRow → HandleRow
+  to y = if is_handle h.0 y then turned y else y
+
+  pub other-pins : pins n (changed (is_handle h.0) turned rows) ≡ pins n rows
+  other-pins = sum-map (λ y. one (is_pin n y)) (λ y. one (is_pin n y)) to rows (λ y among. by y among (is_handle h.0 y) refl)
+    where
+      by : (y : HandleRow) → Among rows y → (b : Bool) → is_handle h.0 y ≡ b → one (is_pin n (if b then turned y else y)) ≡ one (is_pin n y)
+      by y among true e = let s : (y.node.0 == n) ≡ false = ap (λ (m : NodeNumber). m.0 == n) (of y among e) ∙ other in rw s refl
+      by y among false e = refl
+
+  pub other-shares : sharing n (changed (is_handle h.0) turned rows) ≡ sharing n rows
+  other-shares = sum-map (λ y. one (is_share n y)) (λ y. one (is_share n y)) to rows (λ y among. by y among (is_handle h.0 y) refl)
+    where
+      by : (y : HandleRow) → Among rows y → (b : Bool) → is_handle h.0 y ≡ b → one (is_share n (if b then turned y else y)) ≡ one (is_share n y)
+      by y among true e = let s : (y.node.0 == n) ≡ false = ap (λ (m : NodeNumber). m.0 == n) (of y among e) ∙ other in rw s refl
+      by y among false e = refl
+
+loaded-beside : (l : LoadNumber) (q : ℕ) (rows : List HandleRow) (x : HandleRow) → is_owner (owners.Load l) x.owner ≡ false → loaded l q (rows ++ x ∷ []) ≡ loaded l q rows
+loaded-beside l q [] x other = loaded-here l q x [] ∙ by (is_handle q x) ∙ sym (loaded-none l q)
+  where
+    by : (b : Bool) → (if b then is_owner (owners.Load l) x.owner else loaded l q []) ≡ false
+    by true = other
+    by false = loaded-none l q
+loaded-beside l q (y ∷ ys) x other =
+    loaded-here l q y (ys ++ x ∷ []) ∙ ap (λ b. if is_handle q y then is_owner (owners.Load l) y.owner else b) (loaded-beside l q ys x other) ∙ sym (loaded-here l q y ys)
+
+and-none : (b : Bool) → one (b && false) ≡ 0
+and-none true = refl
+and-none false = refl
+
+row-of : (rows : List HandleRow) → AllPairs IsHandleBefore rows → (row : HandleRow) → find_row row.number.0 rows ≡ Some row → (z : HandleRow) → Among rows z → is_handle row.number.0 z ≡ true
+    → z.node ≡ row.node
+row-of rows ordered row found z among is =
+    let f = found-among row.number.0 rows row found in
+    let n : z.number.0 ≡ row.number.0 = grind (arith, nat_tests) in
+    ap (λ (r : HandleRow). r.node) (once rows ordered z row among f.0 n)
+
+-- t1 is t with the pins; then the handles that the references name move to the node's value, and what the load still owns goes.
+module _ (t t1 : Tables) (stored : ℕ → Option Blob) (closed lists : Bool) (failures : ℕ) (was : IsWhole t) (whole : IsWhole t1) (e : lists ≡ not closed) (row : HandleRow)
+    (found : find_row row.number.0 (live t.holdings.handles.places.items) ≡ Some row) (me : Owner) (may : MayOwnLoad (plain_of t) me) (l : LoadNumber) (rs : List ArcRef)
+    (good : references_fault (plain_of t) (owners.Load l) [] rs ≡ None)
+    (a : Alike (with_handle (with_mode (core_of t stored closed failures) row.number modes.LoosePinned) row.node modes.Pinned me) (core_of t1 stored closed failures))
+    (same : t1 ≡ record t { holdings = t1.holdings }) where
+  abbrev h : HandleNumber
+  h = row.number
+
+  abbrev s : ℕ → Bool
+  s = is_named_by rs
+
+  abbrev o : Owner
+  o = owner_value row.node.0
+
+  holder : MayHold (plain_of t) me
+  holder = may-hold (plain_of t) me may
+
+  spared : s (t.holdings.last_handle + 1) ≡ false
+  spared = not-named (plain_of t) l rs was.core.handles good (t.holdings.last_handle + 1) (omega arith)
+
+  listed : (q : ℕ) → times (λ (h : HandleNumber). h.0 == q) t.holdings.list.items ≡ times (λ h. is_handle q h && is_owned_by owners.List h) (moved s o (live t.holdings.handles.places.items))
+  listed = (moved-to-value was.core s (named-unlisted was.core (owners.Load l) rs refl good) row.node.0).owners_there.listed
+
+  unlisted : is_owner owners.List me ≡ false
+  unlisted = not-list (plain_of t) me holder
+
+  unvalued : is_valued me ≡ false
+  unvalued = not-a-value (plain_of t) me holder
+
+  unloaded : is_owner (owners.Load l) me ≡ false
+  unloaded = no-load (plain_of t) me l may
+
+  abbrev w : Core
+  w = core_of t stored closed failures
+
+  abbrev x : HandleRow
+  x = row_of (t.holdings.last_handle + 1) row.node modes.Pinned me
+
+  abbrev rows0 : List HandleRow
+  rows0 = moved s o w.rows
+
+  abbrev mid : List HandleRow
+  mid = changed (is_handle h.0) turned rows0
+
+  abbrev u : Core
+  u = with_pin (record (without_load w l) { rows = rows0 }) h row.node me
+
+  abbrev given : ℕ → Bool
+  given q = is_owned_in w (owners.Load l) q && not (s q)
+
+  of : (y : HandleRow) → Among rows0 y → is_handle h.0 y ≡ true → y.node ≡ row.node
+  of y among is =
+      let old = among-map (λ (z : HandleRow). if s z.number.0 then record z { owner = o } else z) w.rows y among in
+      by old.0 old.1 (s old.0.number.0) old.2
+    where
+      by : (z : HandleRow) → Among w.rows z → (b : Bool) → y ≡ (if b then record z { owner = o } else z) → y.node ≡ row.node
+      by z there true eq = ap (λ (r : HandleRow). r.node) eq ∙ row-of w.rows was.core.handles.ordered row found z there (sym (ap (is_handle h.0) eq) ∙ is)
+      by z there false eq = ap (λ (r : HandleRow). r.node) eq ∙ row-of w.rows was.core.handles.ordered row found z there (sym (ap (is_handle h.0) eq) ∙ is)
+
+  come : moved s o (live t1.holdings.handles.places.items) ≡ u.rows
+  come = ap (moved s o) a.rows ∙ moved-turned s o h.0 x w.rows spared
+
+  as-moved : (f : HandleRow → Bool) → ((y : HandleRow) → f (record y { owner = o }) ≡ f y) → times f u.rows ≡ times f (live t1.holdings.handles.places.items)
+  as-moved f keeps = ap (times f) (sym come) ∙ moved-times f s o (live t1.holdings.handles.places.items) keeps
+
+  list-has : (q : ℕ) → times (λ (h : HandleNumber). h.0 == q) u.list ≡ times (λ h. is_handle q h && is_owned_by owners.List h) u.rows
+  list-has q =
+      let b = sum_by_push (λ (h : HandleRow). one (is_handle q h && is_owned_by owners.List h)) mid x in
+      let d = turned-sum (λ (h : HandleRow). one (is_handle q h && is_owned_by owners.List h)) h.0 rows0 (λ y. refl) in
+      let z : one (is_handle q x && is_owned_by owners.List x) ≡ 0 = ap (λ b. one (is_handle q x && b)) unlisted ∙ and-none (is_handle q x) in
+      let g = listed q in
+      omega arith
+
+  module _ (k : Holdings) (rows : live k.handles.places.items ≡ moved s o (live t1.holdings.handles.places.items)) (list : k.list ≡ t1.holdings.list) (last : k.last_handle ≡ t1.holdings.last_handle)
+      (capacity : vec_capacity k.handles.places ≡ vec_capacity t1.holdings.handles.places) (cells : (n : ℕ) → cell_in (counts_at k.nodes n) ≡ cell_in (counts_at t1.holdings.nodes n)) where
+    -- nothing has gone of it
+    begun-pinned : SoFar u u nobody lists (record k { unlisted = None })
+    begun-pinned =
+        begun u u lists (record k { unlisted = None })
+        (record {
+          open_storage = e;
+          fewer = λ n. omega arith;
+          shared = λ n. omega arith;
+          uniform = λ n. elim ((begins t1 stored closed lists failures whole e).uniform n) [
+            | inl none ↦ inl (as-moved (is_share n) (λ y. refl) ∙ none)
+            | inr none ↦ inr (as-moved (is_plain_pin n) (λ y. refl) ∙ none)
+          ];
+          listed = λ q. let a = list-has q in omega arith;
+        })
+        (rows ∙ come) (ap (λ v. v.items) list ∙ a.list) (last ∙ ap (λ (v : Last). v.handle) a.last)
+        (let b = whole.core.handles.within.0 in omega arith)
+        (record { handles = (let b = a.places.handles in omega arith); entries = (let b = a.places.entries in let d = ap vec_capacity list in omega arith) })
+        (λ n. cells n ∙ a.cells n) refl
+        (λ n must. let p = must.pinned in let z = must.unpinned in let r = ap (pins n) (rows ∙ come) in absurd (omega arith))
+
+    owned-pinned : (q : ℕ) → is_owned_in u (owners.Load l) q ≡ given q
+    owned-pinned q = loaded-beside l q mid x unloaded ∙ loaded-mode l q (is_handle h.0) modes.LoosePinned rows0 ∙ loaded-moved s o l q w.rows refl
+
+    and-first : (b d : Bool) → (b && d) ≡ true → b ≡ true
+    and-first true d eq = refl
+    and-first false d eq = absurd (cc)
+
+    spared-pin : given (t.holdings.last_handle + 1) ≡ false
+    spared-pin = by (given (t.holdings.last_handle + 1)) refl
+      where
+        by : (b : Bool) → given (t.holdings.last_handle + 1) ≡ b → b ≡ false
+        by false eq = refl
+        by true eq =
+            let own = and-first (is_owned_in w (owners.Load l) (t.holdings.last_handle + 1)) (not (s (t.holdings.last_handle + 1))) eq in
+            absurd (let g = owned-given (plain_of t) (owners.Load l) (t.holdings.last_handle + 1) was.core.handles own in omega arith)
+
+    ordered : AllPairs IsHandleBefore u.rows
+    ordered =
+        subst (AllPairs IsHandleBefore) come
+        (ordered-map (λ (z : HandleRow). if s z.number.0 then record z { owner = o } else z) (live t1.holdings.handles.places.items) (λ z. by z (s z.number.0)) whole.core.handles.ordered)
+      where
+        by : (z : HandleRow) (b : Bool) → (if b then record z { owner = o } else z).number.0 ≡ z.number.0
+        by z true = refl
+        by z false = refl
+
+    as-before : {w' : Core} {r : Result (Unit {0}) Error} → Falls u u given r w' → Falls w u given r w'
+    as-before {w'} {r} falls = seen-before {b = u} {w = w} {u = u} u.places (record { handles = omega arith; entries = omega arith }) to-before falls
+      where
+        to-before : (n : ℕ) → pins n w'.rows ≡ 0 → (pins n u.rows ≡ pins n w.rows) × (sharing n u.rows ≡ sharing n w.rows)
+        to-before n none =
+            let stays = stays-pinned (record w { rows = mid }) u w' given r x refl ordered unvalued refl spared-pin falls n none in
+            let more = sum_by_push (λ y. one (is_pin n y)) mid x in
+            let z : one (is_pin n x) ≡ 0 = (let b = stays.0 in omega arith) in
+            let other : (row.node.0 == n) ≡ false = grind (arith, nat_tests) in (
+              stays.0 ∙ other-pins h row.node rows0 of n other ∙ moved-times (is_pin n) s o w.rows (λ y. refl),
+              stays.1 ∙ other-shares h row.node rows0 of n other ∙ moved-times (is_share n) s o w.rows (λ y. refl),
+            )
+
+    -- what gives up all that a load owns does it here
+    pub ended : (since : ℕ) (new : Holdings) (loads : ℕ → Option LoadRow) (r : Result (Unit {0}) Error)
+        → ((before v : Core) → SoFar before v nobody lists (record k { unlisted = None }) → length (live k.handles.places.items) ≤ length v.rows
+        → ((q : ℕ) → is_owned_in v (owners.Load l) q ≡ true → (since < q) × (q ≤ k.last_handle)) → Falls before v (is_owned_in v (owners.Load l)) r (with_tables v new))
+        → ((q : ℕ) → is_owned_in w (owners.Load l) q ≡ true → since < q) → loads l.0 ≡ None → ((q : ℕ) → q ≢ l.0 → loads q ≡ load_at t1.loads q)
+        → Falls w u given r (record (core_of (record t1 { holdings = new }) stored closed failures) { loads = λ q. option_map load_in (loads q) })
+    ended since new loads r gives later gone others =
+        let falls = gives u u begun-pinned (let b = ap length (rows ∙ come) in omega arith)
+        (λ q own. let mine = and-first (is_owned_in w (owners.Load l) q) (not (s q)) (sym (owned-pinned q) ∙ own) in
+        (later q mine, (let g = owned-given (plain_of t) (owners.Load l) q was.core.handles mine in let b = ap (λ (v : Last). v.handle) a.last in omega arith))) in
+        let fell = as-before (subst (λ g. Falls u u g r (with_tables u new)) (λ i q. owned-pinned q i) falls) in
+        let closed-one = load-closed (load_at t.loads) loads l.0 gone (λ q other. others q other ∙ ap (λ (v : Tables). load_at v.loads q) same) in
+        let told : Falls w u given r (record (with_tables u new) { loads = λ q. option_map load_in (loads q) }) =
+        subst (λ f. Falls w u given r (record (with_tables u new) { loads = f })) (λ i q. closed-one q i) fell in
+        subst (λ (v : Tables). Falls w u given r (record (core_of (record v { holdings = new }) stored closed failures) { loads = λ q. option_map load_in (loads q) })) (sym same) told
+
+pub so-then : (b : Bool) → not b ≡ false → b ≡ true
+so-then true e = refl
+so-then false e = absurd (cc)
+
+pub not-so : (b : Bool) → not b ≡ true → b ≡ false
+not-so false e = refl
+not-so true e = absurd (cc)
+
+-- t1 is t with the pins
+module _ (t t1 : Tables) (stored : ℕ → Option Blob) (closed : Bool) (failures : ℕ) (row : HandleRow) (me : Owner)
+    (a : Alike (with_handle (with_mode (core_of t stored closed failures) row.number modes.LoosePinned) row.node modes.Pinned me) (core_of t1 stored closed failures)) where
+  abbrev one-more : HandleRow
+  one-more = row_of (t.holdings.last_handle + 1) row.node modes.Pinned me
+
+  pub pins-here : 0 < pins row.node.0 (live t1.holdings.handles.places.items)
+  pins-here =
+      let n = row.node.0 in
+      let b = ap (pins n) a.rows in
+      let d = sum_by_push (λ y. one (is_pin n y)) (changed (is_handle row.number.0) turned (live t.holdings.handles.places.items)) one-more in
+      let f : one (is_pin n one-more) ≡ 1 = grind (arith, nat_tests) in
+      omega arith
+
+-- where no reference is named no handle moves
+pub none-moves : (w : Core) (l : LoadNumber) (row : HandleRow) (me : Owner) (r : Result (Unit {0}) Error) (w' : Core)
+    → Falls w (with_pin (record (without_load w l) { rows = moved (is_named_by []) (owner_value row.node.0) w.rows }) row.number row.node me) (λ q. is_owned_in w (owners.Load l) q && not (is_named_by [] q)) r w'
+    → Falls w (with_pin (without_load w l) row.number row.node me) (is_owned_in w (owners.Load l)) r w'
+none-moves w l row me r w' falls =
+    subst (λ rows. Falls w (with_pin (record (without_load w l) { rows = rows }) row.number row.node me) (is_owned_in w (owners.Load l)) r w') (moved-nobody (owner_value row.node.0) w.rows)
+    (subst (λ given. Falls w (with_pin (record (without_load w l) { rows = moved (is_named_by []) (owner_value row.node.0) w.rows }) row.number row.node me) given r w') (λ i q. all q i) falls)
+  where
+    and-all : (b : Bool) → (b && true) ≡ b
+    and-all true = refl
+    and-all false = refl
+
+    all : (q : ℕ) → (is_owned_in w (owners.Load l) q && not (is_named_by [] q)) ≡ is_owned_in w (owners.Load l) q
+    all q = ap (λ b. is_owned_in w (owners.Load l) q && not b) (named-none q) ∙ and-all (is_owned_in w (owners.Load l) q)
+
+-- what loads own has come since they began
+pub install-newer : {w w' : Core} (me : Owner) (l : LoadNumber) (node : NodeNumber) (h k : HandleNumber) (refs : List ArcRef) → Installs w me l node h k refs w' → OnlyNewer w w'
+install-newer {w} {w'} me l node h k refs i = elim i.falls [
+  | inl (away, f) ↦ (let m = newer-moved w (is_named_by refs) (owner_value node.0) (λ l. refl) in
+      let v : Core = record (without_load w l) { rows = moved (is_named_by refs) (owner_value node.0) w.rows } in
+      let first : OnlyNewer w v = record { last = m.last; owned = m.owned } in
+      newer-then first (newer-then (newer-mode v h modes.LoosePinned) (newer-then (newer-handle (with_mode v h modes.LoosePinned) node modes.Pinned me) (newer-falls f.falls))))
+  | inr (here, f) ↦ (let v = without_load w l in
+      let first : OnlyNewer w v = record { last = omega arith; owned = λ l q own. inl own } in
+      newer-then first (newer-then (newer-mode v h modes.LoosePinned) (newer-then (newer-handle (with_mode v h modes.LoosePinned) node modes.Pinned me) (newer-falls f.falls))))
+]
+
+pinned-value : (c : Option Counts) → 0 < pins_in c → has_value c ≡ true
+pinned-value None some = absurd (omega arith)
+pinned-value (Some c) some = grind (arith, nat_tests)
+
+-- whose value is in memory then, where the pinned cell has got one
+module _ (t t1 : Tables) (stored : ℕ → Option Blob) (closed : Bool) (failures : ℕ) (was : IsWhole t) (whole : IsWhole t1) (row : HandleRow)
+    (found : find_row row.number.0 (live t.holdings.handles.places.items) ≡ Some row) (me : Owner)
+    (a : Alike (with_handle (with_mode (core_of t stored closed failures) row.number modes.LoosePinned) row.node modes.Pinned me) (core_of t1 stored closed failures)) where
+  pub has-come : (n : ℕ) → has_value (counts_at t1.holdings.nodes n) ≡ has_come (counts_at t.holdings.nodes) row.node n
+  has-come n = by (n == row.node.0) refl
+    where
+      by : (b : Bool) → (n == row.node.0) ≡ b → has_value (counts_at t1.holdings.nodes n) ≡ (if b then true else has_value (counts_at t.holdings.nodes n))
+      by true is =
+          let m : row.node.0 ≡ n = grind (arith, nat_tests) in
+          pinned-value (counts_at t1.holdings.nodes n) (let p = whole.steady.fits.pinned n in let q = subst (λ k. 0 < pins k (live t1.holdings.handles.places.items)) m (pins-here t t1 stored closed failures row me a) in omega arith)
+      by false is =
+          let other : (row.node.0 == n) ≡ false = grind (arith, nat_tests) in
+          let rows = live t.holdings.handles.places.items in
+          let p = was.steady.fits.pinned n in
+          let q = whole.steady.fits.pinned n in
+          let b = ap (pins n) a.rows in
+          let d = sum_by_push (λ y. one (is_pin n y)) (changed (is_handle row.number.0) turned rows) (one-more t t1 stored closed failures row me a) in
+          let f : one (is_pin n (one-more t t1 stored closed failures row me a)) ≡ 0 = ap (λ b. one (b && true)) other in
+          let g = other-pins row.number row.node rows (row-of rows was.core.handles.ordered row found) n other in
+          same-value (counts_at t.holdings.nodes n) (counts_at t1.holdings.nodes n) false (a.cells n) (omega arith) (λ eq. absurd (cc))
+
+-- what is true with more places is true without them
+pub may-wider : {w v : Core} {me : Owner} {l : LoadNumber} {node : NodeNumber} {h : HandleNumber} {t : ℕ} {refs : List ArcRef} → IsWider w v → MayEnd v me l node h t refs → MayEnd w me l node h t refs
+may-wider {w} {v} {me} {l} {node} {h} {t} {refs} wider may =
+    let m : MayEnd (record w { places = v.places }) me l node h t refs = subst (λ u. MayEnd u me l node h t refs) wider.same may in
+    record {
+      load = m.load;
+      owned = record { stands_open = m.owned.stands_open; own = m.owned.own };
+      of_node = m.of_node;
+      good = sym (references-placed w v.places (owners.Load l) [] refs) ∙ m.good;
+    }
+
+pub installs-wider : {w v w' : Core} {me : Owner} {l : LoadNumber} {node : NodeNumber} {h k : HandleNumber} {refs : List ArcRef} → IsWider w v → Installs v me l node h k refs w' → Installs w me l node h k refs w'
+installs-wider {w} {v} {w'} {me} {l} {node} {h} {k} {refs} wider installs =
+    let i : Installs (record w { places = v.places }) me l node h k refs w' = subst (λ u. Installs u me l node h k refs w') wider.same installs in
+    let before : Core = record w { places = v.places } in
+    let given : Core = record (without_load w l) { rows = moved (is_named_by refs) (owner_value node.0) w.rows } in
+    record {
+      row = i.row;
+      owned = record { live = i.owned.live; own = i.owned.own; as_asked = i.owned.as_asked };
+      at = i.at;
+      next = record { above = i.next.above; is_left = i.next.is_left };
+      falls = elim i.falls [
+        | inl (away, f) ↦ inl (away, record { told = f.told; falls = seen-before {b = before} {w = w} {u = with_pin given h node me} v.places wider.more (λ n none. (refl, refl)) f.falls })
+        | inr (here, f) ↦ inr (here, record { told = f.told; falls = seen-before {b = before} {w = w} {u = with_pin (without_load w l) h node me} v.places wider.more (λ n none. (refl, refl)) f.falls })
+      ];
+    }

@@ -1,0 +1,154 @@
+-- What a value refers to comes with it to a node that is there, has no value and is pinned.
+use Rattle.std.proofs.Common.{◌≡◌, ℕ, ◌+◌, ◌<◌, ◌==◌, Bool, true, false, List, [], ◌∷◌, ◌++◌, sum_by, refl, ap, sym, ◌∙◌, subst, arith, Option, Some, None, inl, inr, if◌then◌else◌}
+use Rattle.std.specs.Prelude.{◌≢◌}
+use Rattle.std.specs.List.{AllPairs}
+use Rattle.std.proofs.lemmas.Bool.{cases_eq}
+use Rattle.std.proofs.lemmas.Bool.Decides.{nat_tests}
+use Rattle.std.proofs.lemmas.List.Sums.{sum_by_push}
+use Rattle.pagable_model.specs.declared.data_key.OptionalDataKey.TheVariants as optional
+use Rattle.pagable_model.specs.declared.numbers.ArcRef.{ArcRef}
+use Rattle.pagable_model.specs.declared.numbers.HandleNumber.{HandleNumber}
+use Rattle.pagable_world.specs.declared.handles.HandleRow.{HandleRow}
+use Rattle.pagable_world.specs.declared.handles.Owner.{Owner}
+use Rattle.pagable_world.specs.Plain.{changed, if_there}
+use Rattle.pagable_world.specs.Kinds.{pins, is_at, is_pin, is_handle, is_in_memory, owner_value}
+use Rattle.pagable_world.specs.Pager.{IsHandleBefore}
+use Rattle.pagable_world.specs.World.{Cell, Core}
+use Rattle.pagable_world.specs.Refusals.{references_fault}
+use Rattle.pagable_world.specs.Calls.{moved, is_named_by}
+use Rattle.pagable_tables.specs.declared.rows.Counts.{Counts}
+use Rattle.pagable_tables.specs.Falling.{Fits, Right, is_right, is_bare, cell_in, pins_in, falls_in, is_valued, named, owns_nothing}
+use Rattle.pagable_tables.proofs.Born.{others-own, own-own}
+use Rattle.pagable_tables.proofs.Coming.{turned, owned-by-none}
+use Rattle.pagable_tables.proofs.Fitting.{is_owned}
+use Rattle.pagable_tables.proofs.Forced.{keyed-cell}
+use Rattle.pagable_tables.proofs.Taken.{moved-times}
+use Rattle.pagable_tables.proofs.keeps.Rows.{sum-map}
+
+right-pinned : (o : Option Counts) (refs refs' : List ArcRef) → 0 < pins_in o → falls_in o ≡ false → Right o refs → Right o refs'
+right-pinned None refs refs' some stands right = absurd (omega arith)
+right-pinned (Some c) refs refs' some stands right = by (is_bare refs) (is_bare refs') right
+  where
+    by : (a b : Bool) → is_right c a ≡ true → is_right c b ≡ true
+    by a b e = grind (arith, nat_tests)
+
+-- a node whose value isn't in memory refers to nothing
+away-bare : (o : Option Counts) (refs : List ArcRef) (p : ℕ) → pins_in o ≡ p → falls_in o ≡ false → Right o refs
+    → is_in_memory p (if_there (λ (cell : Cell). cell.key) optional.None (cell_in o)) ≡ false → refs ≡ []
+away-bare None refs p pinned stands right away = right
+away-bare (Some c) refs p pinned stands right away =
+    bare refs (by (is_bare refs) right)
+  where
+    bare : (refs : List ArcRef) → is_bare refs ≡ true → refs ≡ []
+    bare [] e = refl
+    bare (r ∷ rs) e = absurd (cc)
+
+    by : (b : Bool) → is_right c b ≡ true → b ≡ true
+    by b e = let k = keyed-cell c.key in grind (arith, nat_tests)
+
+-- so its value owns nothing
+pub owns-none : (at : ℕ → Option Counts) (refs : ℕ → List ArcRef) (rows : List HandleRow) (top n : ℕ) → Fits at refs rows top [] owns_nothing
+    → is_in_memory (pins n rows) (if_there (λ (cell : Cell). cell.key) optional.None (cell_in (at n))) ≡ false → (q : ℕ) → sum_by (is_owned n q) rows ≡ 0
+owns-none at refs rows top n fits away q =
+    let m = fits.marked n in
+    let stands : falls_in (at n) ≡ false = grind (arith, nat_tests) in
+    let bare = away-bare (at n) (refs n) (pins n rows) (fits.pinned n) stands (fits.right n) away in
+    let o = fits.owned n q in
+    let z = ap (named q) bare in
+    omega arith
+
+-- handles that are pinned and handles that move do so in any order
+pub moved-turned : (s : ℕ → Bool) (o : Owner) (q : ℕ) (x : HandleRow) (rows : List HandleRow) → s x.number.0 ≡ false
+    → moved s o (changed (is_handle q) turned rows ++ x ∷ []) ≡ changed (is_handle q) turned (moved s o rows) ++ x ∷ []
+moved-turned s o q x [] spared = ap (λ b. (if b then record x { owner = o } else x) ∷ []) spared
+moved-turned s o q x (y ∷ ys) spared =
+    let a = is_handle q y in
+    let b = s y.number.0 in
+    let first : (if s (pinned a).number.0 then record (pinned a) { owner = o } else pinned a) ≡ (if is_handle q (given b) then turned (given b) else given b) =
+    ap (λ d. if d then record (pinned a) { owner = o } else pinned a) (ap (λ (n : HandleNumber). s n.0) (pinned-number a)) ∙ both a b
+    ∙ sym (ap (λ d. if d then turned (given b) else given b) (ap (λ (n : HandleNumber). n.0 == q) (given-number b))) in
+    let rest = moved-turned s o q x ys spared in
+    λ i. first i ∷ rest i
+  where
+    pinned : Bool → HandleRow
+    pinned a = if a then turned y else y
+
+    given : Bool → HandleRow
+    given b = if b then record y { owner = o } else y
+
+    pinned-number : (a : Bool) → (pinned a).number ≡ y.number
+    pinned-number true = refl
+    pinned-number false = refl
+
+    given-number : (b : Bool) → (given b).number ≡ y.number
+    given-number true = refl
+    given-number false = refl
+
+    both : (a b : Bool) → (if b then record (pinned a) { owner = o } else pinned a) ≡ (if a then turned (given b) else given b)
+    both true true = refl
+    both true false = refl
+    both false true = refl
+    both false false = refl
+
+-- what is counted whether handles are pinned or not
+pub turned-sum : (f : HandleRow → ℕ) (q : ℕ) (rows : List HandleRow) → ((x : HandleRow) → f (turned x) ≡ f x) → sum_by f (changed (is_handle q) turned rows) ≡ sum_by f rows
+turned-sum f q rows same = sum-map f f (λ x. if is_handle q x then turned x else x) rows (λ x among. by x (is_handle q x))
+  where
+    by : (x : HandleRow) (b : Bool) → f (if b then turned x else x) ≡ f x
+    by x true = same x
+    by x false = refl
+
+-- The world before the pins, and after them the tables; the handles are the value's then.
+module _ (w : Core) (me : Owner) (n : ℕ) (rs : List ArcRef) (ordered : AllPairs IsHandleBefore w.rows) (fit : references_fault w me [] rs ≡ None) (unvalued : is_valued me ≡ false)
+    (none : (q : ℕ) → sum_by (is_owned n q) w.rows ≡ 0) (h : ℕ) (x : HandleRow) (free : is_valued x.owner ≡ false) (spared : is_named_by rs x.number.0 ≡ false)
+    (at : ℕ → Option Counts) (refs refs' : ℕ → List ArcRef) (top : ℕ) (fits : Fits at refs (changed (is_handle h) turned w.rows ++ x ∷ []) top [] owns_nothing)
+    (pinned : 0 < pins n (changed (is_handle h) turned w.rows ++ x ∷ [])) (refers : refs' n ≡ rs) (same : (q : ℕ) → q ≢ n → refs' q ≡ refs q) where
+  abbrev before : List HandleRow
+  before = changed (is_handle h) turned w.rows ++ x ∷ []
+
+  abbrev given : List HandleRow
+  given = moved (is_named_by rs) (owner_value n) w.rows
+
+  abbrev rows' : List HandleRow
+  rows' = moved (is_named_by rs) (owner_value n) before
+
+  own-before : (m q : ℕ) → sum_by (is_owned m q) before ≡ sum_by (is_owned m q) w.rows
+  own-before m q =
+      let a = sum_by_push (is_owned m q) (changed (is_handle h) turned w.rows) x in
+      let b = turned-sum (is_owned m q) h w.rows (λ y. refl) in
+      let z = owned-by-none m q x free in
+      omega arith
+
+  own-after : (m q : ℕ) → sum_by (is_owned m q) rows' ≡ sum_by (is_owned m q) given
+  own-after m q =
+      let e = ap (sum_by (is_owned m q)) (moved-turned (is_named_by rs) (owner_value n) h x w.rows spared) in
+      let a = sum_by_push (is_owned m q) (changed (is_handle h) turned given) x in
+      let b = turned-sum (is_owned m q) h given (λ y. refl) in
+      let z = owned-by-none m q x free in
+      omega arith
+
+  pub joined-fits : Fits at refs' rows' top [] owns_nothing
+  joined-fits =
+      record {
+        pinned = λ m. fits.pinned m ∙ sym (moved-times (is_pin m) (is_named_by rs) (owner_value n) before (λ y. refl));
+        holding = λ m. fits.holding m ∙ sym (moved-times (is_at m) (is_named_by rs) (owner_value n) before (λ y. refl));
+        owned = λ m q. elim (cases_eq m n) [
+          | inl e ↦ subst (λ k. named q (refs' k) + owns_nothing k q ≡ sum_by (is_owned k q) rows') (sym e)
+              (let a = own-own w me n rs ordered fit unvalued q (none q) in let b = own-after n q in let d = ap (named q) refers in omega arith)
+          | inr e ↦
+              let a = others-own w me n rs ordered fit unvalued m q e in
+              let b = own-after m q in
+              let d = own-before m q in
+              let f = fits.owned m q in
+              let g = ap (named q) (same m e) in
+              omega arith
+        ];
+        chain = fits.chain;
+        marked = fits.marked;
+        right = λ m. elim (cases_eq m n) [
+          | inl e ↦ subst (λ k. Right (at k) (refs' k)) (sym e)
+              (let p = fits.pinned n in let f = fits.marked n in right-pinned (at n) (refs n) (refs' n) (omega arith) (let s : falls_in (at n) ≡ false = grind (arith, nat_tests) in s) (fits.right n))
+          | inr e ↦ subst (λ r. Right (at m) r) (sym (same m e)) (fits.right m)
+        ];
+        from_one = fits.from_one;
+      }

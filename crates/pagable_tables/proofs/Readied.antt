@@ -1,0 +1,181 @@
+-- A world with more room, and a node that is born in it.
+use Rattle.std.proofs.Common.{◌≡◌, ℕ, ◌+◌, ◌<◌, ◌≤◌, true, false, if◌then◌else◌, List, [], ◌∷◌, refl, ap, sym, ◌∙◌, subst, arith, Option, None, inl, inr}
+use Rattle.std.specs.Prelude.{Bool, nat_le, vec_capacity}
+use Rattle.std.specs.Option.{option_map}
+use Rattle.std.proofs.lemmas.Bool.Decides.{nat_tests}
+use Rattle.indexmap.specs.IndexMap.{IndexMap}
+use Rattle.pagable_model.specs.declared.data_key.OptionalDataKey.{OptionalDataKey}
+use Rattle.pagable_model.specs.declared.error.Error.{Error}
+use Rattle.pagable_model.specs.declared.numbers.ArcRef.{ArcRef}
+use Rattle.pagable_model.specs.declared.numbers.HandleNumber.{HandleNumber}
+use Rattle.pagable_model.specs.declared.numbers.Kind.{Kind}
+use Rattle.pagable_model.specs.declared.numbers.LoadNumber.{LoadNumber}
+use Rattle.pagable_model.specs.declared.numbers.NodeNumber.{NodeNumber}
+use Rattle.pagable_world.specs.declared.handles.HandleRow.{HandleRow}
+use Rattle.pagable_world.specs.declared.handles.Owner.{Owner}
+use Rattle.pagable_world.specs.declared.handles.Owner.TheVariants as owners
+use Rattle.pagable_world.specs.declared.rows.Mode.{Mode}
+use Rattle.pagable_world.specs.Plain.{Blob, or_else, type_of}
+use Rattle.pagable_world.specs.Kinds.{mode_of}
+use Rattle.pagable_world.specs.World.{Core, Cell, Places, Alike, HasRoom, greatest}
+use Rattle.pagable_world.specs.Refusals.{earlier, spent, reference_fault, references_fault, Refused}
+use Rattle.pagable_world.specs.Calls.{IsNext, with_handle, with_node, with_cached, next_node}
+use Rattle.pagable_world.specs.LoadCalls.{adopted}
+use Rattle.pagable_tables.specs.declared.rows.LoadRow.{LoadRow}
+use Rattle.pagable_tables.specs.declared.holdings.Holdings.{Holdings}
+use Rattle.pagable_tables.specs.declared.tables.Tables.{Tables}
+use Rattle.pagable_tables.specs.Bearing.{OnlyRoom}
+use Rattle.pagable_tables.specs.ByNumber.{counts_at, refs_at, load_at, known_at}
+use Rattle.pagable_tables.specs.Falling.{Fits, cell_in, owns_nothing}
+use Rattle.pagable_tables.specs.Live.{live, AreSound}
+use Rattle.pagable_tables.specs.Live as places
+use Rattle.pagable_tables.specs.Core.{core_of, plain_of, IsWhole, MayHold}
+use Rattle.pagable_tables.specs.Later.{AreLater}
+use Rattle.pagable_tables.proofs.Newer.{newer-alike, later-so}
+use Rattle.pagable_tables.proofs.Worlds.{same-cache}
+use Rattle.pagable_tables.proofs.keeps.Told.{alike-whole}
+use Rattle.pagable_tables.proofs.keeps.Placed.{whole-so}
+
+pub room-still : (w : Core) → OnlyRoom w w
+room-still w = record { same = refl; more = record { handles = omega arith; entries = omega arith } }
+
+pub room-then : {a b c : Core} → OnlyRoom a b → OnlyRoom b c → OnlyRoom a c
+room-then {a} {b} {c} p q =
+    record {
+      same = q.same ∙ ap (λ (u : Core). record u { places = c.places }) p.same;
+      more = let x = p.more in let y = q.more in record { handles = omega (arith, x.handles, y.handles); entries = omega (arith, x.entries, y.entries) };
+    }
+
+pub room-alike : {w w' : Core} → OnlyRoom w w' → Alike w w'
+room-alike {w} {w'} o = subst (λ (u : Core). Alike w u) (sym o.same) made
+  where
+    made : Alike w (record w { places = w'.places })
+    made =
+        record {
+          rows = refl;
+          cells = λ n. refl;
+          list = refl;
+          cache = same-cache w (record w { places = w'.places }) refl (λ n. refl) (λ kind key. refl);
+          stored = λ q. refl;
+          closed = refl;
+          failures = refl;
+          loads = λ l. refl;
+          workers = λ v. refl;
+          last = refl;
+          places = o.more;
+        }
+
+-- room that was made before is nothing to what comes
+pub alike-past : {m w' : Core} (p : Places) → HasRoom m.places p → Alike (record m { places = p }) w' → Alike m w'
+alike-past {m} {w'} p more a =
+    record {
+      rows = a.rows;
+      cells = a.cells;
+      list = a.list;
+      cache = record { gives = a.cache.gives; only = a.cache.only };
+      stored = a.stored;
+      closed = a.closed;
+      failures = a.failures;
+      loads = a.loads;
+      workers = a.workers;
+      last = a.last;
+      places = record { handles = let x = more.handles in let y = a.places.handles in omega arith; entries = let x = more.entries in let y = a.places.entries in omega arith };
+    }
+
+pub next-past : {w w' : Core} {k : HandleNumber} → OnlyRoom w w' → IsNext k w' → IsNext k w
+next-past {w} {w'} {k} o next = let n = subst (λ (u : Core). IsNext k u) o.same next in record { above = n.above; is_left = n.is_left }
+
+pub born-past : {w w1 w' : Core} (node_type : ℕ) (key : OptionalDataKey) (rs : List ArcRef) (mode : Mode) (me : Owner) → OnlyRoom w w1
+    → Alike (with_handle (with_node w1 node_type key rs) (next_node w1) mode me) w' → Alike (with_handle (with_node w node_type key rs) (next_node w) mode me) w'
+born-past {w} {w1} {w'} node_type key rs mode me o a =
+    alike-past w1.places o.more (subst (λ (u : Core). Alike (with_handle (with_node u node_type key rs) (next_node u) mode me) w') o.same a)
+
+-- why references are refused depends on rows and cells alone
+pub fault-by : (w u : Core) (me : Owner) (seen : List ℕ) (rs : List ArcRef) → references_fault (record u { rows = w.rows; cells = w.cells }) me seen rs ≡ references_fault w me seen rs
+unfolding references_fault
+fault-by w u me seen [] = refl
+fault-by w u me seen (r ∷ rs) = ap (or_else (reference_fault w me seen r)) (fault-by w u me (r.handle.0 ∷ seen) rs)
+
+pub room-fault : {w w' : Core} (me : Owner) (rs : List ArcRef) → OnlyRoom w w' → references_fault w' me [] rs ≡ references_fault w me [] rs
+room-fault {w} {w'} me rs o = ap (λ (u : Core). references_fault u me [] rs) o.same ∙ fault-by w (record w { places = w'.places }) me [] rs
+
+-- tables that tell the same rows, counts and known nodes
+pub more-room : (t t' : Tables) → live t'.holdings.handles.places.items ≡ live t.holdings.handles.places.items → ((n : ℕ) → counts_at t'.holdings.nodes n ≡ counts_at t.holdings.nodes n)
+    → ((kind key : ℕ) → known_at t'.cache kind key ≡ known_at t.cache kind key)
+    → t' ≡ record t { holdings = record t.holdings { handles = t'.holdings.handles; nodes = t'.holdings.nodes }; cache = t'.cache }
+    → vec_capacity t.holdings.handles.places ≤ vec_capacity t'.holdings.handles.places
+    → (stored : ℕ → Option Blob) (closed : Bool) (failures : ℕ) → OnlyRoom (core_of t stored closed failures) (core_of t' stored closed failures)
+more-room t t' rows counts known same capacity stored closed failures =
+    record {
+      same = all ∙ ap (λ (p : Places). record w { places = p }) (sym (ap (λ (u : Core). u.places) all));
+      more = record { handles = capacity; entries = let e = ap (λ (u : Tables). vec_capacity u.holdings.list) same in omega arith };
+    }
+  where
+    w : Core
+    w = core_of t stored closed failures
+
+    mid : Core
+    mid = core_of (record t { holdings = record t.holdings { handles = t'.holdings.handles; nodes = t'.holdings.nodes }; cache = t'.cache }) stored closed failures
+
+    all : core_of t' stored closed failures ≡ record w { places = mid.places }
+    all =
+        ap (λ (u : Tables). core_of u stored closed failures) same
+        ∙ (ap (λ (r : List HandleRow). record mid { rows = r }) rows
+        ∙ (ap (λ (f : ℕ → Option Cell). record w { cells = f; cache = mid.cache; places = mid.places }) (λ i n. ap cell_in (counts n) i)
+        ∙ ap (λ (f : ℕ → ℕ → Option ℕ). record w { cache = f; places = mid.places }) (λ i kind key. ap (option_map (λ (n : NodeNumber). n.0)) (known kind key) i)))
+
+-- they stay whole
+pub room-whole : (t t' : Tables) → IsWhole t → AreSound t'.holdings.handles → places.IsNext (t'.holdings.last_handle + 1) t'.holdings.handles.places.items
+    → live t'.holdings.handles.places.items ≡ live t.holdings.handles.places.items → ((n : ℕ) → counts_at t'.holdings.nodes n ≡ counts_at t.holdings.nodes n)
+    → ((n : ℕ) → refs_at t'.holdings.nodes n ≡ refs_at t.holdings.nodes n) → t'.holdings.top ≡ t.holdings.top → OnlyRoom (plain_of t) (plain_of t') → IsWhole t'
+room-whole t t' whole sound next rows counts refs top room =
+    whole-so {t = t'} (record { sound = sound; next = next; fits = fits }) (alike-whole whole.core (room-alike room))
+  where
+    old : Holdings
+    old = t.holdings
+
+    new : Holdings
+    new = t'.holdings
+
+    fits : Fits (counts_at new.nodes) (refs_at new.nodes) (live new.handles.places.items) new.top [] owns_nothing
+    fits =
+        subst (λ k. Fits (counts_at new.nodes) (refs_at new.nodes) (live new.handles.places.items) k [] owns_nothing) (sym top)
+        (subst (λ r. Fits (counts_at new.nodes) (refs_at new.nodes) r old.top [] owns_nothing) (sym rows)
+        (subst (λ f. Fits f (refs_at new.nodes) (live old.handles.places.items) old.top [] owns_nothing) (λ i n. sym (counts n) i)
+        (subst (λ f. Fits (counts_at old.nodes) f (live old.handles.places.items) old.top [] owns_nothing) (λ i n. sym (refs n) i) whole.steady.fits)))
+
+holder-past : (w : Core) (p : Places) (me : Owner) → MayHold w me → MayHold (record w { places = p }) me
+holder-past w p owners.Caller h = h
+holder-past w p (owners.Worker v) h = h
+holder-past w p (owners.Load l) h = h
+holder-past w p (owners.Value n) h = h
+holder-past w p owners.List h = h
+
+-- who may get a handle still may
+pub room-holder : {w w' : Core} (me : Owner) → OnlyRoom w w' → MayHold w me → MayHold w' me
+room-holder {w} {w'} me o h = subst (λ (u : Core). MayHold u me) (sym o.same) (holder-past w w'.places me h)
+
+pub room-newer : {t t' : Tables} → OnlyRoom (plain_of t) (plain_of t') → t'.loads ≡ t.loads → AreLater t → AreLater t'
+room-newer {t} {t'} room loads later = later-so later (newer-alike (room-alike room)) (λ l load is. sym (ap (λ (m : IndexMap ℕ LoadRow _). load_at m l) loads) ∙ is)
+
+-- a new node that the cache knows from now on
+pub adopted-past : {w w1 w' : Core} (l : LoadNumber) (kind : Kind) (key : ℕ) (own : OptionalDataKey) (rs : List ArcRef) → OnlyRoom w w1 → Alike (adopted w1 l kind key own rs) w' → Alike (adopted w l kind key own rs) w'
+adopted-past {w} {w1} {w'} l kind key own rs o a = split w.closed (subst (λ (u : Core). Alike (adopted u l kind key own rs) w') o.same a)
+  where
+    m : Core
+    m = with_handle (with_node w (type_of kind.0) own rs) (next_node w) (mode_of kind.0) (owners.Load l)
+
+    split : (b : Bool) → Alike (if b then record m { places = w1.places } else with_cached (record m { places = w1.places }) kind key (next_node w)) w' → Alike (if b then m else with_cached m kind key (next_node w)) w'
+    split true a = alike-past w1.places o.more a
+    split false a = alike-past w1.places o.more a
+
+-- numbers are left
+pub not-spent : (n h : ℕ) → n < greatest → h < greatest → earlier (spent n) (spent h) ≡ None
+not-spent n h node handle =
+    let a : nat_le greatest n ≡ false = grind (arith, nat_tests) in
+    let b : nat_le greatest h ≡ false = grind (arith, nat_tests) in
+    rw (a, b) refl
+
+-- where nothing was looked at before, memory may be wanting all the more
+pub weaker : {cause before : Option Error} {w w' : Core} {e : Error} → Refused cause before (Unit {0}) w e w' → Refused cause None (Unit {0}) w e w'
+weaker r = record { why = elim r.why [ inl a ↦ inl a | inr b ↦ inr (b.0, refl, tt) ]; stays = r.stays }

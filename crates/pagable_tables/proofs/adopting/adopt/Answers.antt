@@ -1,0 +1,48 @@
+use Rattle.std.proofs.Common.{ℕ, ap, sym, subst, ◌∙◌, not, None}
+use Rattle.std.specs.Prelude.{is_some}
+use Rattle.indexmap.specs.IndexMap.{IndexMap}
+use Rattle.pagable_world.specs.World.{Alike}
+use Rattle.pagable_world.specs.LoadCalls.{adopted, Adopts}
+use Rattle.pagable_tables.specs.ByNumber.{load_at}
+use Rattle.pagable_tables.specs.declared.rows.LoadRow.{LoadRow}
+use Rattle.pagable_tables.specs.Core.{core_of, plain_of}
+use Rattle.pagable_tables.proofs.Adoptions.{adopts-new, adopts-whole, fitting, owner-of, early-stored}
+use Rattle.pagable_tables.proofs.Begun.{not-closed}
+use Rattle.pagable_tables.proofs.Newer.{adopt-newer, later-so}
+use Rattle.pagable_tables.proofs.keeps.Placed.{whole-so}
+use Rattle.pagable_tables.proofs.adopting.adopt.Goals as goal
+
+pub learn_new-requires-clause-holder : goal.learn_new-requires-clause-holder
+learn_new-requires-clause-holder c = ap is_some (owner-of (plain_of c.args.t.now) c.requires.asked.0 c.args.load c.args.kind c.args.key c.requires.asked.1 c.args.references.items c.requires.asked.2).1.stands_open
+
+pub learn_new-requires-clause-fit : goal.learn_new-requires-clause-fit
+learn_new-requires-clause-fit c = fitting (plain_of c.args.t.now) c.requires.asked.0 c.args.load c.args.kind c.args.key c.requires.asked.1 c.args.references.items c.requires.asked.2
+
+pub returns-clause-adopted : goal.returns-clause-adopted
+returns-clause-adopted c stored closed failures e =
+    let w = core_of c.args.t.now stored closed failures in
+    let w' = core_of c.learn_new.new.t stored closed failures in
+    subst (λ o. Alike (adopted w c.args.load c.args.kind c.args.key o c.args.references.items) w') c.first_key-own_key.ensures.key (c.learn_new.ensures.adopted stored closed failures e)
+
+pub returns-clause-whole : goal.returns-clause-whole
+returns-clause-whole c =
+    let a = c.requires.asked in
+    let w = core_of c.args.t.now (λ key. None) (not c.args.lists) 0 in
+    let w' = core_of c.learn_new.new.t (λ key. None) (not c.args.lists) 0 in
+    let rs = c.args.references.items in
+    let made : Adopts w a.0 c.args.load c.args.kind c.args.key a.1 rs c.learn_new.result w' =
+    adopts-new w a.0 c.args.load c.args.kind c.args.key a.1 rs (early-stored c.args.t.now (λ key. None) (not c.args.lists) 0 a.0 c.args.load c.args.kind a.1 rs ∙ a.2) c.requires.unknown c.learn_new.result c.requires.ready.node_left
+    (c.learn_new.ensures.next (λ key. None) (not c.args.lists) 0) (returns-clause-adopted c (λ key. None) (not c.args.lists) 0 (not-closed c.args.lists)) in
+    whole-so c.learn_new.ensures.steady (adopts-whole a.0 c.args.load c.args.kind c.args.key a.1 rs c.learn_new.result c.requires.whole.core made)
+
+pub returns-clause-later : goal.returns-clause-later
+returns-clause-later c =
+    let a = c.requires.asked in
+    let w = core_of c.args.t.now (λ key. None) (not c.args.lists) 0 in
+    let w' = core_of c.learn_new.new.t (λ key. None) (not c.args.lists) 0 in
+    let rs = c.args.references.items in
+    let made : Adopts w a.0 c.args.load c.args.kind c.args.key a.1 rs c.learn_new.result w' =
+    adopts-new w a.0 c.args.load c.args.kind c.args.key a.1 rs (early-stored c.args.t.now (λ key. None) (not c.args.lists) 0 a.0 c.args.load c.args.kind a.1 rs ∙ a.2) c.requires.unknown c.learn_new.result c.requires.ready.node_left
+    (c.learn_new.ensures.next (λ key. None) (not c.args.lists) 0) (returns-clause-adopted c (λ key. None) (not c.args.lists) 0 (not-closed c.args.lists)) in
+    let n = adopt-newer a.0 c.args.load c.args.kind c.args.key a.1 rs c.learn_new.result made in
+    later-so c.requires.later (record { last = n.last; owned = n.owned }) (λ l load is. sym (ap (λ (m : IndexMap ℕ LoadRow _). load_at m l) c.learn_new.ensures.loads) ∙ is)

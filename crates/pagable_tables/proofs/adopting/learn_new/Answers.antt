@@ -1,0 +1,41 @@
+use Rattle.std.proofs.Common.{◌≡◌, ℕ, ◌+◌, ◌/◌, arith, ap, sym, ◌∙◌, subst, Some, Option}
+use Rattle.std.specs.Prelude.{not}
+use Rattle.std.specs.Option.{option_map}
+use Rattle.indexmap.specs.IndexMap.{IndexMap, spare}
+use Rattle.pagable_model.specs.declared.numbers.NodeNumber.{NodeNumber}
+use Rattle.pagable_world.specs.declared.handles.Owner.TheVariants as owners
+use Rattle.pagable_world.specs.declared.rows.Mode.{Mode}
+use Rattle.pagable_world.specs.World.{Last, Alike}
+use Rattle.pagable_world.specs.Kinds.{mode_of}
+use Rattle.pagable_world.specs.Calls.{with_handle, with_node, next_node}
+use Rattle.pagable_tables.specs.declared.rows.Counts.{Counts}
+use Rattle.pagable_tables.specs.declared.tables.Tables.{Tables}
+use Rattle.pagable_tables.specs.Falling.{key_in}
+use Rattle.pagable_tables.specs.Core.{core_of}
+use Rattle.pagable_tables.proofs.Adopted.{learned, if-open}
+use Rattle.pagable_tables.proofs.adopting.learn_new.Goals as goal
+
+abbrev number : Option NodeNumber → Option ℕ
+number o = option_map (λ (n : NodeNumber). n.0) o
+
+pub learn_if-requires : goal.learn_if-requires
+learn_if-requires c = let a = ap (λ (t : Tables). spare t.cache) c.bear-handle.ensures.same in let b = c.requires.learns in omega arith
+
+pub returns-clause-next : goal.returns-clause-next
+returns-clause-next c stored closed failures = let n = (c.bear-handle.ensures.born stored closed failures).next in record { above = n.above; is_left = n.is_left }
+
+pub returns-clause-adopted : goal.returns-clause-adopted
+returns-clause-adopted c stored closed failures e =
+    let w = core_of c.args.t.now stored closed failures in
+    let owner = owners.Load c.args.load in
+    let u = with_handle (with_node w (c.args.kind.0 / 3) (key_in c.args.own_key) c.args.references.items) (next_node w) (mode_of c.args.kind.0) owner in
+    let w' = core_of c.bear-handle.new.t stored closed failures in
+    let cache = (core_of (record c.bear-handle.new.t { cache = c.learn_if.new.cache }) stored closed failures).cache in
+    let counted : Alike (with_handle (with_node w (c.args.kind.0 / 3) (key_in c.args.own_key) c.args.references.items) (next_node w) c.mode_of-mode.result owner) w' =
+    subst (λ (y : Counts). Alike (with_handle (with_node w y.node_type (key_in y.key) c.args.references.items) (next_node w) c.mode_of-mode.result owner) w') c.first_counts-counts.ensures (c.bear-handle.ensures.born stored closed failures).leaves in
+    let a : Alike u w' =
+    subst (λ (mode : Mode). Alike (with_handle (with_node w (c.args.kind.0 / 3) (key_in c.args.own_key) c.args.references.items) (next_node w) mode owner) w') c.mode_of-mode.ensures counted in
+    let node : c.bear-handle.new.t.last_node ≡ c.args.t.now.last_node + 1 = ap (λ (l : Last). l.node) a.last in
+    if-open closed u (record w' { cache = cache }) c.args.kind c.args.key (next_node w)
+    (λ shut. subst (λ (m : IndexMap (ℕ × ℕ) NodeNumber _). Alike u (core_of (record c.bear-handle.new.t { cache = m }) stored closed failures)) (sym (c.learn_if.ensures.same (e ∙ ap not shut))) a)
+    (λ stands. learned u w' c.args.kind c.args.key (next_node w) cache a (ap number (c.learn_if.ensures.here (e ∙ ap not stands)) ∙ ap Some node) (λ k q other. ap number (c.learn_if.ensures.others k q other)))

@@ -1,0 +1,31 @@
+use Rattle.std.proofs.Common.{ap, sym, subst, ◌∙◌, false, None, inl}
+use Rattle.pagable_world.specs.Refusals.{earlier, Refused}
+use Rattle.pagable_world.specs.Calls.{birth_fault}
+use Rattle.pagable_tables.specs.declared.tables.Tables.{Tables}
+use Rattle.pagable_tables.specs.Core.{core_of}
+use Rattle.pagable_tables.proofs.NewNodes.{references-first}
+use Rattle.pagable_tables.proofs.Readied.{room-still, room-fault, room-newer, weaker}
+use Rattle.pagable_tables.proofs.Worlds.{still}
+use Rattle.pagable_tables.proofs.births.prepare.Goals as goal
+
+pub returns-in-Err-clause-room : goal.returns-in-Err-clause-room
+returns-in-Err-clause-room c stored closed failures = room-still _
+
+pub returns-in-Err-clause-refused : goal.returns-in-Err-clause-refused
+returns-in-Err-clause-refused c stored closed failures =
+    record { why = inl (references-first (core_of c.args.t.now stored closed failures) c.args.me c.args.references.now c.in-Err.e (c.in-Err.ensures.fault stored closed failures)); stays = still _ }
+
+pub returns-in-Ok-clause-fit : goal.returns-in-Ok-clause-fit
+returns-in-Ok-clause-fit c = room-fault c.args.me c.args.references.now (c.make_ready.ensures.room (λ key. None) false 0) ∙ c.in_default.ensures.fit (λ key. None) false 0
+
+pub returns-in-Ok-clause-later : goal.returns-in-Ok-clause-later
+returns-in-Ok-clause-later c later = room-newer (c.make_ready.ensures.room (λ key. None) false 0) (ap (λ (t : Tables). t.loads) c.make_ready.ensures.same) later
+
+pub returns-in-Err-make_ready-clause-refused : goal.returns-in-Err-make_ready-clause-refused
+returns-in-Err-make_ready-clause-refused c stored closed failures =
+    let w = core_of c.args.t.now stored closed failures in
+    let w' = core_of c.make_ready.new.t stored closed failures in
+    subst (λ f. Refused (earlier f (birth_fault w)) None (Unit {0}) w c.in-Err-make_ready.e w') (sym (c.in_default.ensures.fit stored closed failures)) (weaker (c.in-Err-make_ready.ensures.refused stored closed failures))
+
+pub returns-in-Err-make_ready-clause-later : goal.returns-in-Err-make_ready-clause-later
+returns-in-Err-make_ready-clause-later c later = room-newer (c.make_ready.ensures.room (λ key. None) false 0) (ap (λ (t : Tables). t.loads) c.make_ready.ensures.same) later

@@ -1,0 +1,32 @@
+use Rattle.std.proofs.Common.{None, false, Ok, refl, ap, sym, arith}
+use Rattle.std.specs.Option.{option_map}
+use Rattle.pagable_model.specs.declared.numbers.NodeNumber.{NodeNumber}
+use Rattle.pagable_world.specs.Calls.{shut, is_listed}
+use Rattle.pagable_tables.specs.Core.{core_of}
+use Rattle.pagable_tables.specs.Onward.{with_tables}
+use Rattle.pagable_tables.proofs.Entries.{are-entries, begun-shut, cache-anew}
+use Rattle.pagable_tables.proofs.Newer.{close-newer, later-so}
+use Rattle.pagable_tables.proofs.keeps.EndCalls.{close-whole}
+use Rattle.pagable_tables.proofs.keeps.Placed.{whole-so}
+use Rattle.pagable_tables.proofs.closing.close.Goals as goal
+
+pub returns-clause-closed : goal.returns-clause-closed
+returns-clause-closed g c stored closed failures failures' le =
+    let t = c.args.t.now in
+    let w = core_of t stored closed failures in
+    let u = shut w failures' in
+    let e = are-entries c.requires.whole.core in
+    let falls = c.give_entries.ensures.falls w u (begun-shut t stored closed failures failures' c.requires.whole) (omega arith) (record { once = e.once; owned = e.owned }) in
+    record {
+      told = refl;
+      fails = le;
+      falls = cache-anew w u (with_tables u c.give_entries.new.t) (is_listed w) _ (λ kind key. sym (ap (option_map (λ (n : NodeNumber). n.0)) (c.forget.ensures kind key))) falls;
+    }
+
+pub returns-clause-whole : goal.returns-clause-whole
+returns-clause-whole g c = whole-so c.give_entries.ensures.steady (close-whole (Ok tt) c.requires.whole.core (returns-clause-closed g c (λ key. None) false 0 0 (omega arith)))
+
+pub returns-clause-later : goal.returns-clause-later
+returns-clause-later g c later =
+    let n = close-newer (Ok tt) (returns-clause-closed g c (λ key. None) false 0 0 (omega arith)) in
+    later-so later (record { last = n.last; owned = n.owned }) (λ l load is. is)

@@ -1,0 +1,86 @@
+use Rattle.std.proofs.Common.{rules, ◌≡◌, ℕ, ◌+◌, ◌==◌, ◌||◌, List, [], ◌∷◌, length, false, None, refl, ap, sym, ◌∙◌, subst, arith}
+use Rattle.std.proofs.lemmas.Bool.Decides.{nat_tests}
+use Rattle.std.proofs.lemmas.List.{length-append}
+use Rattle.std.proofs.lemmas.List.Sums.{sum_by_push}
+use Rattle.pagable_model.specs.declared.numbers.HandleNumber.{HandleNumber}
+use Rattle.pagable_world.specs.Plain.{one}
+use Rattle.pagable_world.specs.Cascade.{Falls}
+use Rattle.pagable_tables.specs.declared.holdings.Holdings.{Holdings}
+use Rattle.pagable_tables.specs.Falling.{owns_nothing}
+use Rattle.pagable_tables.specs.Onward.{with_tables, told_by, SoFar}
+use Rattle.pagable_tables.specs.Closing.{entered, with_list}
+use Rattle.pagable_tables.proofs.Begun.{aside}
+use Rattle.pagable_tables.proofs.Entries.{given_up, none-given-up, one-given-up, unlist}
+use Rattle.pagable_tables.proofs.Ended.{ended}
+use Rattle.pagable_tables.proofs.Shedding.{sheds-still, sheds-then}
+use Rattle.pagable_tables.proofs.closing.give_entries.Goals as goal
+
+empty : (list : List HandleNumber) → length list ≡ 0 → list ≡ []
+empty [] none = refl
+empty (x ∷ xs) none = absurd (omega arith)
+
+pub loop-entry-init : goal.loop-entry-init
+loop-entry-init g c =
+    let t = record c.args.t.now { unlisted = None } in
+    let list = c.args.t.now.list.items in
+    (aside c.args.t.now None [] owns_nothing c.requires, omega arith, λ q. omega arith, λ before w f few entries. none-given-up before (with_list w list) t list f, sheds-still c.args.t.now _ c.requires)
+
+pub loop-entry-smaller : goal.loop-entry-smaller
+loop-entry-smaller g c =
+    let a = ap length c.in-Some.ensures.items in
+    let b = length-append c.pop.new.self.items (c.in-Some.entry ∷ []) in
+    let d = ap length c.give_entry.ensures.list in
+    omega arith
+
+pub give_entry-requires : goal.give_entry-requires
+give_entry-requires g c = let i = c.loop-entry.invariant.0 in record { sound = i.sound; next = i.next; fits = i.fits }
+
+pub loop-entry-preserved : goal.loop-entry-preserved
+loop-entry-preserved g c =
+    let i = c.loop-entry.invariant in
+    let x = c.in-Some.entry in
+    let all = c.args.t.now.list.items in
+    let left = c.pop.new.self.items in
+    let t = c.loop-entry.t in
+    let t' : Holdings = record t { list = c.pop.new.self } in
+    let new = c.give_entry.new.t in
+    let list : new.list.items ≡ left = c.give_entry.ensures.list in
+    let fewer = c.give_entry.ensures.fewer in
+    let was = i.1 in
+    let pushed : (q : ℕ) → entered q t.list.items ≡ entered q left + one (x.0 == q) = λ q. ap (entered q) c.in-Some.ensures.items ∙ sum_by_push (λ (h : HandleNumber). one (h.0 == q)) left x in (
+      c.give_entry.ensures.steady,
+      omega arith,
+      λ q. let a = pushed q in let b = i.2 q in let d = ap (entered q) list in omega arith,
+      λ before w f few entries.
+          let here : one (x.0 == x.0) ≡ 1 = grind (arith, nat_tests) in
+          let there = pushed x.0 in
+          let some = i.2 x.0 in
+          let once = entries.once x.0 in
+          let so-far = i.3 before w f few entries in
+          let popped = unlist before w (given_up all t.list.items) t t' (x ∷ []) so-far refl c.in-Some.ensures.items c.pop.ensures.capacity in
+          let owned = entries.owned x.0 (grind (arith, nat_tests)) in
+          let gone = c.give_entry.ensures.so_far before (with_list w left) (given_up all t.list.items) popped (omega arith) owned (omega arith) in
+          let given = one-given-up before (with_list w left) new all left x (λ q. let a = ap (entered q) c.in-Some.ensures.items in let b = i.2 q in omega arith)
+          (subst (λ l. SoFar before (with_list w left) (λ q. given_up all l q || q == x.0) false new) c.in-Some.ensures.items gone) in
+          subst (λ l. SoFar before (with_list w l) (given_up all l) false new) (sym list) given,
+      sheds-then i.4 c.give_entry.ensures.sheds,
+    )
+
+pub returns-clause-falls : goal.returns-clause-falls
+returns-clause-falls g c before w f few entries =
+    let i = c.loop-entry.invariant in
+    let t = c.loop-entry.t in
+    let t' : Holdings = record t { list = c.pop.new.self } in
+    let all = c.args.t.now.list.items in
+    let some = unlist before w (given_up all t.list.items) t t' _ (i.3 before w f few entries) refl c.pop.ensures.items c.pop.ensures.capacity in
+    let was : t.list.items ≡ [] = empty t.list.items (search rules) in
+    let none : t'.list.items ≡ [] = empty t'.list.items (search rules) in
+    let falls = ended before (with_list w t'.list.items) (given_up all t.list.items) false t' some (record { sound = i.0.sound; next = i.0.next; fits = i.0.fits }) in
+    record {
+      told = told_by t.unlisted;
+      falls = subst (λ l. Falls before (with_list w []) (given_up all l) (told_by t.unlisted) (with_tables (with_list w []) t')) was
+          (subst (λ l. Falls before (with_list w l) (given_up all t.list.items) (told_by t.unlisted) (with_tables (with_list w l) t')) none falls);
+    }
+
+pub returns-clause-sheds : goal.returns-clause-sheds
+returns-clause-sheds g c = c.loop-entry.invariant.4

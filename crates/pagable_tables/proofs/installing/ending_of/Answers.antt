@@ -1,0 +1,66 @@
+use Rattle.std.proofs.Common.{◌≡◌, refl, ap, sym, ◌∙◌, subst, Option, Some, None, false}
+use Rattle.std.specs.Prelude.{not}
+use Rattle.std.specs.Option.{option_map}
+use Rattle.pagable_model.specs.declared.data_key.OptionalDataKey.TheVariants as optional
+use Rattle.pagable_model.specs.declared.numbers.HandleNumber.{HandleNumber}
+use Rattle.pagable_model.specs.declared.numbers.NodeNumber.{NodeNumber}
+use Rattle.pagable_world.specs.Plain.{if_there}
+use Rattle.pagable_world.specs.Kinds.{any_mode, find_row, is_in_memory}
+use Rattle.pagable_world.specs.World.{Cell, of_cell, key_at}
+use Rattle.pagable_world.specs.LoadCalls.{MayEnd, end_fault}
+use Rattle.pagable_tables.specs.declared.rows.Counts.{Counts}
+use Rattle.pagable_tables.specs.Live.{live}
+use Rattle.pagable_tables.specs.Core.{core_of, plain_of, load_in, root_in}
+use Rattle.pagable_tables.specs.Falling.{pins_in, cell_in}
+use Rattle.pagable_tables.proofs.Upheld.{opens, celled, may-end, number-left}
+use Rattle.pagable_tables.proofs.Worlds.{owner-same}
+use Rattle.pagable_tables.proofs.installing.ending_of.Goals as goal
+
+pub unreachable-requires : goal.unreachable-requires
+unreachable-requires c =
+    let w = plain_of c.args.t.now in
+    let none : end_fault w c.args.me c.args.load c.args.node_type c.args.references.now ≡ None = sym (c.end_fault.ensures (λ key. None) false 0) ∙ c.in_default.is in
+    opens w c.args.me c.args.load c.args.node_type c.args.references.now none (ap (option_map load_in) (sym c.load_of.ensures ∙ c.in_default-load_of.is))
+
+pub unreachable-requires-in_default-root : goal.unreachable-requires-in_default-root
+unreachable-requires-in_default-root c =
+    let w = plain_of c.args.t.now in
+    let none : end_fault w c.args.me c.args.load c.args.node_type c.args.references.now ≡ None = sym (c.end_fault.ensures (λ key. None) false 0) ∙ c.in_default.is in
+    celled w c.args.me c.args.load c.args.node_type c.args.references.now none (load_in c.in-Some-load_of.row) (ap (option_map load_in) (sym c.load_of.ensures ∙ c.in-Some-load_of.is)) (ap root_in c.in_default-root.is)
+
+pub returns-in-Ok-clause-ready : goal.returns-in-Ok-clause-ready
+returns-in-Ok-clause-ready c stored closed failures =
+    let t = c.args.t.now in
+    let me = c.args.me in
+    let l = c.args.load in
+    let w = core_of t stored closed failures in
+    let none : end_fault w me l c.args.node_type c.args.references.now ≡ None = sym (c.end_fault.ensures stored closed failures) ∙ c.in_default.is in
+    let load = load_in c.in-Some-load_of.row in
+    let is : w.loads l.0 ≡ Some load = ap (option_map load_in) (sym c.load_of.ensures ∙ c.in-Some-load_of.is) in
+    let node = c.in-Cell.field-0 in
+    let h = c.in-Cell.handle in
+    let row = c.in-Ok.at.row in
+    let cell : load.root ≡ of_cell node c.in-Cell.field-1 h = ap root_in c.in-Cell.is in
+    let begun = (c.requires.core.loads.roots l.0 load node c.in-Cell.field-1 h is cell).begun row c.in-Ok.ensures.found in
+    let may = may-end w me l c.args.node_type c.args.references.now none load is node c.in-Cell.field-1 h cell in
+    let n = row.node.0 in
+    record {
+      may = subst (λ (q : HandleNumber). MayEnd w me l row.node q c.args.node_type c.args.references.now) (sym c.in-Ok.ensures.number)
+          (subst (λ (m : NodeNumber). MayEnd w me l m h c.args.node_type c.args.references.now) (sym begun.0) may);
+      owned = record {
+        live = subst (λ (q : HandleNumber). find_row q.0 (live t.holdings.handles.places.items) ≡ Some row) (sym c.in-Ok.ensures.number) c.in-Ok.ensures.found;
+        own = owner-same me row.owner c.in-Ok.ensures.owner;
+        as_asked = begun.1;
+      };
+      away = ap not (c.is_here.ensures ∙ ap (λ (o : Option Counts). is_in_memory (pins_in o) (if_there (λ (cell : Cell). cell.key) optional.None (cell_in o))) c.counts_of.ensures
+          ∙ ap (λ p. is_in_memory p (key_at w n)) (c.requires.steady.fits.pinned n));
+      left = number-left w me l c.args.node_type c.args.references.now none load is node c.in-Cell.field-1 h cell row c.in-Ok.ensures.found c.in-Ok.ensures.owner;
+    }
+
+pub returns-in-Err-clause-unended : goal.returns-in-Err-clause-unended
+returns-in-Err-clause-unended c stored closed failures =
+    let w = core_of c.args.t.now stored closed failures in
+    let none : end_fault w c.args.me c.args.load c.args.node_type c.args.references.now ≡ None = sym (c.end_fault.ensures stored closed failures) ∙ c.in_default.is in
+    let is : w.loads c.args.load.0 ≡ Some (load_in c.in-Some-load_of.row) = ap (option_map load_in) (sym c.load_of.ensures ∙ c.in-Some-load_of.is) in
+    let may = may-end w c.args.me c.args.load c.args.node_type c.args.references.now none (load_in c.in-Some-load_of.row) is c.in-Cell.field-0 c.in-Cell.field-1 c.in-Cell.handle (ap root_in c.in-Cell.is) in
+    (record { node = c.in-Cell.field-0; h = c.in-Cell.handle; may = may; why = c.in-Err.ensures.fault stored closed failures any_mode }, refl)

@@ -1,0 +1,138 @@
+use Rattle.std.proofs.Common.{◌≡◌, ◌<◌, ◌+◌, ◌++◌, ◌∷◌, [], sum_by, refl, ap, sym, ◌∙◌, arith, false, not, inl, None, Ok}
+use Rattle.pagable_world.specs.declared.handles.Owner.TheVariants as owners
+use Rattle.pagable_world.specs.declared.rows.Mode.TheVariants as modes
+use Rattle.pagable_world.specs.Plain.{changed, one}
+use Rattle.pagable_world.specs.Kinds.{is_handle, is_pin, owner_value}
+use Rattle.pagable_world.specs.World.{is_here}
+use Rattle.pagable_world.specs.Calls.{moved, is_named_by, row_of}
+use Rattle.pagable_tables.specs.declared.tables.Tables.{Tables}
+use Rattle.pagable_tables.specs.Live.{live}
+use Rattle.pagable_tables.specs.ByNumber.{counts_at, refs_at, load_at}
+use Rattle.pagable_tables.specs.Falling.{has_value, cell_in}
+use Rattle.pagable_tables.specs.Core.{core_of, plain_of}
+use Rattle.pagable_tables.proofs.Begun.{not-closed}
+use Rattle.pagable_tables.proofs.Coming.{rows-told, some-held, turned}
+use Rattle.pagable_tables.proofs.Fitting.{fits-same, pins-le-held}
+use Rattle.pagable_tables.proofs.Installed.{ended, has-come, install-newer, pins-here, not-so}
+use Rattle.pagable_tables.proofs.Joined.{joined-fits, owns-none}
+use Rattle.pagable_tables.proofs.Newer.{closed-still, later-so}
+use Rattle.pagable_tables.proofs.Stays.{not-named}
+use Rattle.pagable_tables.proofs.Upheld.{ready-owner}
+use Rattle.pagable_tables.proofs.keeps.Comes.{not-a-value}
+use Rattle.pagable_tables.proofs.keeps.EndCalls.{end-whole}
+use Rattle.pagable_tables.proofs.keeps.LoadCalls.{may-hold}
+use Rattle.pagable_tables.proofs.keeps.Placed.{whole-so}
+use Rattle.pagable_tables.proofs.installing.install.Goals as goal
+
+pub pin_ready-handle-requires-clause-holder : goal.pin_ready-handle-requires-clause-holder
+pin_ready-handle-requires-clause-holder g c =
+    let r = c.requires.ready (λ key. None) false 0 in
+    may-hold (plain_of c.args.t.now) c.args.me (ready-owner c.args.t.now c.args.me c.args.load c.args.node_type c.args.references.items c.args.ending c.requires.whole r)
+
+pub pin_ready-handle-requires-clause-owns : goal.pin_ready-handle-requires-clause-owns
+pin_ready-handle-requires-clause-owns g c = (c.requires.ready (λ key. None) false 0).owned
+
+pub pin_ready-handle-requires-clause-left : goal.pin_ready-handle-requires-clause-left
+pin_ready-handle-requires-clause-left g c = (c.requires.ready (λ key. None) false 0).left
+
+pub set_references-requires : goal.set_references-requires
+set_references-requires g c =
+    let t1 = c.pin_ready-handle.new.t in
+    let n = c.args.ending.row.node.0 in
+    let rows = live t1.holdings.handles.places.items in
+    let d = c.pin_ready-handle.ensures.whole.steady.fits.holding n in
+    let p = pins-here c.args.t.now t1 (λ key. None) false 0 c.args.ending.row c.args.me (c.pin_ready-handle.ensures.pinned (λ key. None) false 0) in
+    let q = pins-le-held n rows in
+    some-held (counts_at t1.holdings.nodes n) (omega arith)
+
+pub give_up_load-requires : goal.give_up_load-requires
+give_up_load-requires g c =
+    let t = c.args.t.now in
+    let t1 = c.pin_ready-handle.new.t in
+    let me = c.args.me in
+    let l = c.args.load in
+    let row = c.args.ending.row in
+    let n = row.node.0 in
+    let rs = c.args.references.items in
+    let p = plain_of t in
+    let was = c.requires.whole in
+    let whole = c.pin_ready-handle.ensures.whole in
+    let r = c.requires.ready (λ key. None) false 0 in
+    let a = c.pin_ready-handle.ensures.pinned (λ key. None) false 0 in
+    let x = row_of (t.holdings.last_handle + 1) row.node modes.Pinned me in
+    let away : is_here p n ≡ false = not-so (is_here p n) (sym r.away ∙ c.requires.away) in
+    let none = owns-none (counts_at t.holdings.nodes) (refs_at t.holdings.nodes) (live t.holdings.handles.places.items) t.holdings.top n was.steady.fits away in
+    let unvalued = not-a-value p me (may-hold p me (ready-owner t me l c.args.node_type rs c.args.ending was r)) in
+    let spared = not-named p l rs was.core.handles r.may.good (t.holdings.last_handle + 1) (omega arith) in
+    let before = changed (is_handle row.number.0) turned (live t.holdings.handles.places.items) ++ x ∷ [] in
+    let fits = rows-told (counts_at t1.holdings.nodes) (refs_at t1.holdings.nodes) (live t1.holdings.handles.places.items) before t1.holdings.top (sym a.rows) whole.steady.fits in
+    let pinned : 0 < sum_by (λ y. one (is_pin n y)) before =
+    (let b = pins-here t t1 (λ key. None) false 0 row me a in let d = ap (sum_by (λ y. one (is_pin n y))) a.rows in omega arith) in
+    let joined = joined-fits p (owners.Load l) n rs was.core.handles.ordered r.may.good refl none row.number.0 x unvalued spared (counts_at t1.holdings.nodes) (refs_at t1.holdings.nodes)
+    (refs_at c.set_references.new.nodes) t1.holdings.top fits pinned c.set_references.ensures.here c.set_references.ensures.others in
+    let told = fits-same (counts_at t1.holdings.nodes) (counts_at c.set_references.new.nodes) (refs_at c.set_references.new.nodes) (refs_at c.set_references.new.nodes)
+    (moved (is_named_by rs) (owner_value n) before) t1.holdings.top [] joined c.set_references.ensures.counts (λ m. refl) in
+    let rows = c.hand_over_all.ensures.rows ∙ ap (λ d. moved (is_named_by d) (owner_value n) (live t1.holdings.handles.places.items)) c.deref.ensures.value ∙ ap (moved (is_named_by rs) (owner_value n)) a.rows in
+    record {
+      sound = c.hand_over_all.ensures.sound;
+      next = c.hand_over_all.ensures.next (t1.holdings.last_handle + 1) whole.steady.next;
+      fits = rows-told (counts_at c.set_references.new.nodes) (refs_at c.set_references.new.nodes) (moved (is_named_by rs) (owner_value n) before) (live c.hand_over_all.new.handles.places.items) t1.holdings.top rows told;
+    }
+
+pub returns-clause-installs : goal.returns-clause-installs
+returns-clause-installs g c stored closed failures e =
+    let t = c.args.t.now in
+    let t1 = c.pin_ready-handle.new.t in
+    let me = c.args.me in
+    let l = c.args.load in
+    let row = c.args.ending.row in
+    let n = row.node.0 in
+    let rs = c.args.references.items in
+    let w = core_of t stored closed failures in
+    let p = c.requires.ready (λ key. None) false 0 in
+    let r = c.requires.ready stored closed failures in
+    let next = c.pin_ready-handle.ensures.next stored closed failures in
+    let k = record t1.holdings { handles = c.hand_over_all.new.handles; nodes = c.set_references.new.nodes } in
+    let rows = c.hand_over_all.ensures.rows ∙ ap (λ d. moved (is_named_by d) (owner_value n) (live t1.holdings.handles.places.items)) c.deref.ensures.value in
+    record {
+      row = row;
+      owned = r.owned;
+      at = refl;
+      next = record { above = next.above; is_left = next.is_left };
+      falls = inl (
+        not-so (is_here w n) (sym r.away ∙ c.requires.away),
+        record {
+          told = c.give_up_load.result;
+          falls = ended t t1 stored closed c.args.lists failures c.requires.whole c.pin_ready-handle.ensures.whole e row p.owned.live me
+              (ready-owner t me l c.args.node_type rs c.args.ending c.requires.whole p) l rs p.may.good (c.pin_ready-handle.ensures.pinned stored closed failures) c.pin_ready-handle.ensures.same
+              k rows refl refl c.hand_over_all.ensures.capacity (λ m. ap cell_in (c.set_references.ensures.counts m)) c.args.ending.load.since c.give_up_load.new.t (load_at c.close.new.loads)
+              c.give_up_load.result c.give_up_load.ensures.falls (λ q own. c.requires.later.since l.0 c.args.ending.load q c.requires.place.load own) c.close.ensures.gone c.close.ensures.others;
+        },
+      );
+    }
+
+pub returns-clause-whole : goal.returns-clause-whole
+returns-clause-whole g c =
+    let r = c.requires.ready (λ key. None) (not c.args.lists) 0 in
+    let i = returns-clause-installs g c (λ key. None) (not c.args.lists) 0 (not-closed c.args.lists) in
+    whole-so c.give_up_load.ensures.steady
+    (end-whole {N = Unit {0}} c.args.me c.args.load tt c.args.node_type c.args.references.items (Ok c.pin_ready-handle.result) c.requires.whole.core
+    (record { installs = (c.args.ending.row.node, c.args.ending.row.number, r.may, i); refused = tt }))
+
+pub returns-clause-later : goal.returns-clause-later
+returns-clause-later g c =
+    let t = c.args.t.now in
+    let n = install-newer c.args.me c.args.load _ _ _ _ (returns-clause-installs g c (λ key. None) (not c.args.lists) 0 (not-closed c.args.lists)) in
+    later-so c.requires.later (record { last = n.last; owned = n.owned }) (closed-still (load_at t.loads) (load_at c.close.new.loads) c.args.load.0 c.close.ensures.gone
+    (λ q other. c.close.ensures.others q other ∙ ap (λ (v : Tables). load_at v.loads q) c.pin_ready-handle.ensures.same))
+
+pub returns-clause-sheds : goal.returns-clause-sheds
+returns-clause-sheds g c =
+    let t = c.args.t.now in
+    let p = c.requires.ready (λ key. None) (not c.args.lists) 0 in
+    record {
+      left = λ kept. c.give_up_load.ensures.sheds.left (λ n falls. kept n
+          ∙ sym (ap has_value (c.set_references.ensures.counts n)
+          ∙ has-come t c.pin_ready-handle.new.t (λ key. None) (not c.args.lists) 0 c.requires.whole c.pin_ready-handle.ensures.whole c.args.ending.row p.owned.live c.args.me
+          (c.pin_ready-handle.ensures.pinned (λ key. None) (not c.args.lists) 0) n));
+    }

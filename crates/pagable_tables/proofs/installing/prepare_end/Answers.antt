@@ -1,0 +1,27 @@
+use Rattle.std.proofs.Common.{refl, inr, arith}
+use Rattle.pagable_tables.specs.Core.{core_of}
+use Rattle.pagable_tables.proofs.Upheld.{owned-open, placed-whole, ready-placed}
+use Rattle.pagable_tables.proofs.Worlds.{alike}
+use Rattle.pagable_tables.proofs.installing.prepare_end.Goals as goal
+
+pub returns-in_default-clause-unended : goal.returns-in_default-clause-unended
+returns-in_default-clause-unended c stored closed failures =
+    let w = core_of c.args.t.now stored closed failures in
+    let may = (c.in-Ok.ensures.ready stored closed failures).may in
+    record {
+      why = inr (refl, owned-open w c.args.me c.args.load may.load may.owned, tt);
+      stays = alike w _ c.reserve.ensures.rows (λ n. refl) (record { handles = c.reserve.ensures.capacity; entries = omega arith }) refl;
+    }
+
+pub returns-in_default-clause-whole : goal.returns-in_default-clause-whole
+returns-in_default-clause-whole c = placed-whole c.args.t.now c.reserve.new.handles c.requires c.reserve.ensures.sound c.reserve.ensures.next c.reserve.ensures.rows c.reserve.ensures.capacity
+
+pub returns-clause-ready : goal.returns-clause-ready
+returns-clause-ready c stored closed failures =
+    let t = c.args.t.now in
+    let w = core_of t stored closed failures in
+    let w' = core_of (record t { holdings = record t.holdings { handles = c.reserve.new.handles } }) stored closed failures in
+    ready-placed w w'.places w'.rows c.args.me c.args.load c.args.node_type c.args.references.now c.in-Ok.ending c.reserve.ensures.rows (c.in-Ok.ensures.ready stored closed failures)
+
+pub returns-clause-whole : goal.returns-clause-whole
+returns-clause-whole c = placed-whole c.args.t.now c.reserve.new.handles c.requires c.reserve.ensures.sound c.reserve.ensures.next c.reserve.ensures.rows c.reserve.ensures.capacity

@@ -1,0 +1,252 @@
+//! Loads of cells that end with a value.
+
+ghost use Rattle.std.specs.Prelude.{◌≡◌, ◌≤◌, ◌<◌, ℕ, Bool, Option, None, IfOk, IfErr, [], not, true, false, nat_eq};
+ghost use Rattle.indexmap.specs.IndexMap.{get};
+ghost use Rattle.pagable_world.specs.declared.rows.Mode.TheVariants as modes;
+ghost use Rattle.pagable_world.specs.Plain.{Blob, if_there};
+ghost use Rattle.pagable_world.specs.Kinds.{is_loose};
+ghost use Rattle.pagable_world.specs.World.{Core, Alike, OpenLoad, greatest};
+ghost use Rattle.pagable_world.specs.Calls.{IsNext, with_handle, with_mode};
+ghost use Rattle.pagable_world.specs.LoadCalls.{root_fault, end_fault, is_owned_in, Installs};
+ghost use Rattle.pagable_world.specs.Refusals.{where_so, spent, Owns};
+ghost use Rattle.pagable_tables.specs.ByNumber.{counts_at, load_at};
+ghost use Rattle.pagable_tables.specs.Live.{room};
+ghost use Rattle.pagable_tables.specs.Core.{core_of, plain_of, IsWhole, MayHold};
+ghost use Rattle.pagable_tables.specs.Later.{AreLater};
+ghost use Rattle.pagable_tables.specs.Ready.{IsWider, IsReady, HasPlace, Unends, ShedsBeside};
+
+use crate::causes::{earlier, load_fault, refused_if};
+use crate::ending::give_up_load;
+use crate::lookups::is_here;
+use crate::moving::hand_over_all;
+use crate::pinning::pin_here;
+use crate::references::references_fault;
+use crate::rows::{LoadRoot, LoadRow};
+use crate::tables::Tables;
+use crate::turning::{is_owner, own};
+use crate::{handles, loads, nodes};
+use indexmap::IndexMap;
+use pagable_model::{ArcRef, Error, HandleNumber, LoadNumber};
+use pagable_world::handles::{HandleRow, Owner};
+use std::sync::Arc;
+
+/// A load of a cell that can end: its row, the row of the handle by which it was begun, and whether the cell has no value.
+#[derive(Clone, Copy)]
+pub struct Ending {
+    pub load: LoadRow,
+    pub row: HandleRow,
+    pub is_away: bool,
+}
+
+/// Why a load of a cell doesn't end with a value.
+#[derive(Drop)]
+pub enum Unended {
+    /// It is refused, and the load stays open.
+    Refused(Error),
+    /// The handle by which it was begun is gone or another's: the load has to be closed.
+    InVain(Error),
+}
+
+/// Whether this owner has the handle.
+fn is_owned(t: &Tables, owner: Owner, handle: HandleNumber) -> bool
+    requires { IsWhole t.now }
+    ensures { (stored : ℕ → Option Blob) (closed : Bool) (failures : ℕ) → result ≡ is_owned_in (core_of t.now stored closed failures) owner handle.0 }
+{
+    match handles::look(&t.holdings.handles, handle) {
+        Some(at) => is_owner(owner, at.row.owner),
+        None => false,
+    }
+}
+
+/// Why no handle can be made for a pin, if this owner has the handle: no number is left.
+fn number_fault(t: &Tables, me: Owner, handle: HandleNumber) -> Option<Error>
+    requires { IsWhole t.now }
+    ensures { (stored : ℕ → Option Blob) (closed : Bool) (failures : ℕ)
+        → result ≡ where_so (is_owned_in (core_of t.now stored closed failures) me handle.0) (spent t.now.holdings.last_handle) }
+{
+    if !is_owned(t, me, handle) {
+        return None;
+    }
+    if t.holdings.last_handle == u64::MAX {
+        return Some(Error::NumbersSpent);
+    }
+    None
+}
+
+/// Why a load can't end with a value of this type, if it is open: it is of a key, or of a cell of another type; or no number is left for a pin of a handle that the caller
+/// still has.
+fn root_fault(t: &Tables, me: Owner, load: LoadNumber, node_type: u32) -> Option<Error>
+    requires { IsWhole t.now }
+    ensures { (stored : ℕ → Option Blob) (closed : Bool) (failures : ℕ)
+        → result ≡ if_there (λ (load : OpenLoad). root_fault (core_of t.now stored closed failures) me node_type load.root) None ((core_of t.now stored closed failures).loads load.0) }
+{
+    let Some(row) = loads::load_of(&t.loads, load.0) else {
+        return None;
+    };
+    let LoadRoot::Cell(_, cell_type, handle) = row.root else {
+        return Some(Error::WrongMode);
+    };
+    let typed = refused_if(node_type != cell_type, Error::WrongKind);
+    earlier(typed, number_fault(t, me, handle))
+}
+
+/// Why a load of a cell can't end, apart from memory.
+fn end_fault(
+    t: &Tables,
+    me: Owner,
+    load: LoadNumber,
+    node_type: u32,
+    references: &[ArcRef],
+) -> Option<Error>
+    requires { IsWhole t.now }
+    ensures { (stored : ℕ → Option Blob) (closed : Bool) (failures : ℕ) → result ≡ end_fault (core_of t.now stored closed failures) me load node_type references.now }
+{
+    let own = load_fault(loads::load_of(&t.loads, load.0), me);
+    let root = root_fault(t, me, load, node_type);
+    let fit = references_fault(t, Owner::Load(load), references);
+    earlier(own, earlier(root, fit))
+}
+
+/// The load of a cell that can end with a value of this type and these references, apart from memory.
+fn ending_of(
+    t: &Tables,
+    me: Owner,
+    load: LoadNumber,
+    node_type: u32,
+    references: &[ArcRef],
+) -> Result<Ending, Unended>
+    requires { IsWhole t.now }
+    ensures ready { IfOk result (λ e. (stored : ℕ → Option Blob) (closed : Bool) (failures : ℕ) → IsReady (core_of t.now stored closed failures) me load node_type references.now e) }
+    ensures load { IfOk result (λ e. load_at t.now.loads load.0 ≡ Some e.load) }
+    ensures unended { IfErr result (λ u. (stored : ℕ → Option Blob) (closed : Bool) (failures : ℕ)
+        → Unends (core_of t.now stored closed failures) me load node_type references.now u (core_of t.now stored closed failures)) }
+{
+    if let Some(e) = end_fault(t, me, load, node_type, references) {
+        return Err(Unended::Refused(e));
+    }
+    let Some(row) = loads::load_of(&t.loads, load.0) else {
+        unreachable!();
+    };
+    let LoadRoot::Cell(_, _, handle) = row.root else {
+        unreachable!();
+    };
+    match own(t, me, handle) {
+        Ok(at) => Ok(Ending {
+            load: row,
+            row: at.row,
+            is_away: !is_here(nodes::counts_of(&t.holdings.nodes, at.row.node.0)),
+        }),
+        Err(e) => Err(Unended::InVain(e)),
+    }
+}
+
+/// The load of a cell that can end with a value of this type and these references, with room for the handle that is made then. It is refused where none is open or a handle
+/// of the references isn't live; where another began it or owns one of those handles; where it is of a key; where it is of a cell of another type; where no number is left; or
+/// by memory. It is in vain where the handle by which it was begun is gone or another's; nothing changes then.
+pub fn prepare_end(
+    t: &mut Tables,
+    me: Owner,
+    load: LoadNumber,
+    node_type: u32,
+    references: &[ArcRef],
+) -> Result<Ending, Unended>
+    requires { IsWhole t.old }
+    ensures ready { IfOk result (λ e. (stored : ℕ → Option Blob) (closed : Bool) (failures : ℕ) → IsReady (core_of t.new stored closed failures) me load node_type references.now e) }
+    ensures place { IfOk result (λ e. HasPlace t.new load e) }
+    ensures unended { IfErr result (λ u. (stored : ℕ → Option Blob) (closed : Bool) (failures : ℕ)
+        → Unends (core_of t.old stored closed failures) me load node_type references.now u (core_of t.new stored closed failures)) }
+    ensures wider { (stored : ℕ → Option Blob) (closed : Bool) (failures : ℕ) → IsWider (core_of t.old stored closed failures) (core_of t.new stored closed failures) }
+    ensures whole { IsWhole t.new }
+    ensures later { AreLater t.old → AreLater t.new }
+    ensures nodes { t.new.holdings.nodes ≡ t.old.holdings.nodes }
+{
+    let ending = match ending_of(t, me, load, node_type, references) {
+        Ok(ending) => ending,
+        Err(e) => return Err(e),
+    };
+    let Ok(()) = handles::reserve(&mut t.holdings.handles, 1) else {
+        return Err(Unended::Refused(Error::OutOfMemory));
+    };
+    Ok(ending)
+}
+
+/// A Pinned handle of this loose handle's node, for which there are room and a number; and the handle pins too from now on.
+fn pin_ready(t: &mut Tables, me: Owner, row: HandleRow) -> HandleNumber
+    requires whole { IsWhole t.old }
+    requires holder { MayHold (plain_of t.old) me }
+    requires owns { Owns (plain_of t.old) me row.number is_loose row }
+    requires left { t.old.holdings.last_handle < greatest }
+    requires place { 1 ≤ room t.old.holdings.handles }
+    ensures next { (stored : ℕ → Option Blob) (closed : Bool) (failures : ℕ) → IsNext result (core_of t.old stored closed failures) }
+    ensures pinned { (stored : ℕ → Option Blob) (closed : Bool) (failures : ℕ)
+        → Alike (with_handle (with_mode (core_of t.old stored closed failures) row.number modes.LoosePinned) row.node modes.Pinned me) (core_of t.new stored closed failures) }
+    ensures whole { IsWhole t.new }
+    ensures same { t.new ≡ record t.old { holdings = t.new.holdings } }
+{
+    match pin_here(t, me, row) {
+        Ok(handle) => handle,
+        Err(_) => unreachable!(),
+    }
+}
+
+/// A load of a cell that has no value ends: the handle by which it was begun is pinned, a Pinned one is made, the value's references come to the cell with their handles, and the load
+/// gives up what it still owns. The value itself stands among the values already.
+pub fn install<N: Drop>(
+    t: &mut Tables,
+    values: &mut IndexMap<u64, Arc<N>>,
+    me: Owner,
+    load: LoadNumber,
+    node_type: u32,
+    references: Vec<ArcRef>,
+    ending: Ending,
+    lists: bool,
+) -> HandleNumber
+    requires whole { IsWhole t.old }
+    requires later { AreLater t.old }
+    requires ready { (stored : ℕ → Option Blob) (closed : Bool) (failures : ℕ) → IsReady (core_of t.old stored closed failures) me load node_type references.items ending }
+    requires place { HasPlace t.old load ending }
+    requires away { ending.is_away ≡ true }
+    ensures installs { (stored : ℕ → Option Blob) (closed : Bool) (failures : ℕ) → lists ≡ not closed
+        → Installs (core_of t.old stored closed failures) me load ending.row.node ending.row.number result references.items (core_of t.new stored closed failures) }
+    ensures whole { IsWhole t.new }
+    ensures later { AreLater t.new }
+    ensures sheds { ShedsBeside ending.row.node (counts_at t.old.holdings.nodes) (get nat_eq values.old) (counts_at t.new.holdings.nodes) (get nat_eq values.new) }
+{
+    let node = ending.row.node;
+    let handle = pin_ready(t, me, ending.row);
+    hand_over_all(&mut t.holdings.handles, &references, Owner::Value(node));
+    nodes::set_references(&mut t.holdings.nodes, node.0, references);
+    loads::close(&mut t.loads, load.0);
+    let since = ending.load.since;
+    let _ = give_up_load(&mut t.holdings, values, load, since, lists);
+    handle
+}
+
+/// A load of a cell that has its value already ends: the handle by which it was begun is pinned, a Pinned one is made, and the load gives up what it still owns.
+pub fn end_beside<N: Drop>(
+    t: &mut Tables,
+    values: &mut IndexMap<u64, Arc<N>>,
+    me: Owner,
+    load: LoadNumber,
+    node_type: u32,
+    references: &[ArcRef],
+    ending: Ending,
+    lists: bool,
+) -> HandleNumber
+    requires whole { IsWhole t.old }
+    requires later { AreLater t.old }
+    requires ready { (stored : ℕ → Option Blob) (closed : Bool) (failures : ℕ) → IsReady (core_of t.old stored closed failures) me load node_type references.now ending }
+    requires place { HasPlace t.old load ending }
+    requires here { ending.is_away ≡ false }
+    ensures installs { (stored : ℕ → Option Blob) (closed : Bool) (failures : ℕ) → lists ≡ not closed
+        → Installs (core_of t.old stored closed failures) me load ending.row.node ending.row.number result references.now (core_of t.new stored closed failures) }
+    ensures whole { IsWhole t.new }
+    ensures later { AreLater t.new }
+    ensures sheds { ShedsBeside ending.row.node (counts_at t.old.holdings.nodes) (get nat_eq values.old) (counts_at t.new.holdings.nodes) (get nat_eq values.new) }
+{
+    let handle = pin_ready(t, me, ending.row);
+    loads::close(&mut t.loads, load.0);
+    let since = ending.load.since;
+    let _ = give_up_load(&mut t.holdings, values, load, since, lists);
+    handle
+}

@@ -1,0 +1,16 @@
+use Rattle.std.proofs.Common.{refl, sym, ap, ◌∙◌}
+use Rattle.pagable_walk.specs.Slots.{shelf_in, slots_in, open_worker}
+use Rattle.pagable_walk.specs.Table.{shelf_of}
+use Rattle.pagable_walk.proofs.Held.{from-own}
+use Rattle.pagable_walk.proofs.Ends.{less-open}
+use Rattle.pagable_walk.proofs.Failing.{failure-less}
+use Rattle.pagable_walk.proofs.table.SlotTable.fail.Goals as goal
+
+pub invariant_of-self : goal.invariant_of-self
+invariant_of-self g c =
+    let old = c.args.self.now in
+    let new = c.fail_all.new.slots in
+    record {
+      own = from-own new c.fail_all.ensures.own;
+      ends = less-open (shelf_of old) (shelf_in new old.waits) (λ j w e. failure-less c.args.worker.0 (slots_in old.slots j) w (sym (ap open_worker (c.fail_all.ensures.slots j)) ∙ e)) (λ v. refl) old.ends;
+    }

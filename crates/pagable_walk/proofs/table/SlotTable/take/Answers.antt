@@ -1,0 +1,14 @@
+use Rattle.std.proofs.Common.{refl}
+use Rattle.pagable_walk.specs.Slots.{shelf_in}
+use Rattle.pagable_walk.specs.Table.{shelf_of}
+use Rattle.pagable_walk.proofs.Held.{from-own, either-way}
+use Rattle.pagable_walk.proofs.Ends.{taken-or-not}
+use Rattle.pagable_walk.proofs.table.SlotTable.take.Goals as goal
+
+pub invariant_of-self : goal.invariant_of-self
+invariant_of-self g c =
+    let old = c.args.self.now in
+    record {
+      own = from-own c.add.new.slots c.add.ensures.own;
+      ends = taken-or-not (shelf_of old) (shelf_in c.add.new.slots old.waits) c.args.worker.0 c.args.identity (λ v. refl) c.requires.works (either-way c.add.result c.add.ensures.ok c.add.ensures.err) old.ends;
+    }

@@ -1,0 +1,5 @@
+pub mod Results
+pub mod Slots
+pub mod Table
+pub mod Tasks
+pub mod Turns

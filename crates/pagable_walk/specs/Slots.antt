@@ -1,0 +1,143 @@
+-- The plain claims that a lent table tells; whom each waiting worker waits for; and what a claim finds.
+use Rattle.std.specs.Prelude.{ℕ, ◌≡◌, ◌≤◌, ◌+◌, ◌⊎◌, Bool, true, false, if◌then◌else◌, Option, Some, None, Result, IfOk, IfErr, nat_eq}
+use Rattle.std.specs.Arc.{arc_value}
+use Rattle.std.specs.Option.{option_map}
+use Rattle.indexmap.specs.IndexMap.{IndexMap, get}
+use Rattle.pagable_model.specs.declared.error.Error.TheVariants as errors
+use Rattle.pagable_core.specs.declared.context.writing.SerializedData.{SerializedData}
+use Rattle.pagable_world.specs.Plain.{Error, Identity, if_there, longest_path}
+use Rattle.pagable_world.specs.declared.events.Claim.{Claim}
+use Rattle.pagable_world.specs.declared.events.Claim.TheVariants as claims
+use Rattle.pagable_world.specs.World.{Written, Slot, Shelf, no_result, published, failed, SameShelf, is_identity}
+use Rattle.pagable_world.specs.World as world
+use Rattle.pagable_world.specs.Workers.{with_slot, with_wait, with_outcome, is_open_outcome, IsOpenSlot, IsPublished, ComesBack, ComesToEnd, IsTooDeep}
+use Rattle.pagable_tables.specs.ByNumber.{is_same}
+use Rattle.pagable_walk.specs.declared.results.Trees.{Ghosts}
+use Rattle.pagable_walk.specs.declared.results.SlotResult.{SlotResult}
+use Rattle.pagable_walk.specs.declared.slots.Outcome.{Outcome}
+use Rattle.pagable_walk.specs.declared.slots.Outcome.TheVariants as outcomes
+use Rattle.pagable_walk.specs.declared.slots.ArcSerSlot.{ArcSerSlot}
+use Rattle.pagable_walk.specs.declared.slots.Standing.{Standing}
+use Rattle.pagable_walk.specs.declared.slots.Standing.TheVariants as standings
+
+-- what was written, without where it lies in memory
+abbrev pub written_of : SerializedData → Written
+written_of d = record { bytes = d.bytes.items; references = d.arcs.items }
+
+-- a slot of whose node this was written
+abbrev pub with_written : Written → Slot → Slot
+with_written written slot = record slot { written = Some written }
+
+-- a slot after the worker v has failed; the same of what there is
+abbrev pub failed_by : ℕ → Slot → Slot
+failed_by v slot = if nat_eq slot.worker v then with_outcome failed slot else slot
+
+abbrev pub after_failure : ℕ → Option Slot → Option Slot
+after_failure v slot = if_there (λ (s : Slot). Some (failed_by v s)) None slot
+
+-- a slot that was just claimed
+abbrev pub claimed_by : ℕ → Slot
+claimed_by v = record { worker = v; written = None; outcome = no_result }
+
+module _ {E : Type 0} {g : Ghosts E} where
+  abbrev pub outcome_of : Outcome E g → world.Outcome
+  outcome_of outcomes.Open = no_result
+  outcome_of (outcomes.Published r) = published r.key r.height
+  outcome_of outcomes.Failed = failed
+
+  abbrev pub slot_of : ArcSerSlot E g → Slot
+  slot_of s = record { worker = s.worker.0; written = option_map (λ d. written_of (arc_value d)) s.written; outcome = outcome_of s.outcome }
+
+  -- a result that stands is of this identity
+  abbrev pub IsOwnOutcome : Identity → Outcome E g → Type 0
+  IsOwnOutcome i (outcomes.Published r) = r.identity ≡ i
+  IsOwnOutcome i _ = Unit {0}
+
+  abbrev pub IsOwn : Identity → Option (ArcSerSlot E g) → Type 0
+  IsOwn i None = Unit {0}
+  IsOwn i (Some s) = IsOwnOutcome i s.outcome
+
+  module _ {S : Type 0} where
+    abbrev pub slots_in : IndexMap (ℕ × ℕ) (ArcSerSlot E g) S → Identity → Option Slot
+    slots_in slots i = option_map slot_of (get is_same slots (i.kind.0, i.node.0))
+
+    abbrev pub AreOwn : IndexMap (ℕ × ℕ) (ArcSerSlot E g) S → Type 0
+    AreOwn slots = (i : Identity) → IsOwn i (get is_same slots (i.kind.0, i.node.0))
+
+    -- the same in numbers, as a table keeps it
+    abbrev pub AreNamed : IndexMap (ℕ × ℕ) (ArcSerSlot E g) S → Type 0
+    AreNamed slots = (i : Identity) (s : ArcSerSlot E g) (r : SlotResult E g) → get is_same slots (i.kind.0, i.node.0) ≡ Some s → s.outcome ≡ outcomes.Published r → (r.identity.kind.0 ≡ i.kind.0) × (r.identity.node.0 ≡ i.node.0)
+
+    abbrev pub shelf_in : {T : Type 0} → IndexMap (ℕ × ℕ) (ArcSerSlot E g) S → IndexMap ℕ Identity T → Shelf
+    shelf_in slots waits = record { slots = slots_in slots; waits = λ v. get nat_eq waits v }
+
+  -- what stands at an identity, whose slot is this
+  abbrev pub Stands : Identity → Option Slot → Standing E g → Type 0
+  Stands i slot standings.Free = slot ≡ None
+  Stands i slot (standings.Open w) = (x : Slot) × (slot ≡ Some x) × (x.outcome ≡ no_result) × (x.worker ≡ w)
+  Stands i slot (standings.Known r) = (r.identity ≡ i) × ((x : Slot) × (slot ≡ Some x) × (x.outcome ≡ published r.key r.height))
+  Stands i slot standings.Failed = (x : Slot) × (slot ≡ Some x) × (x.outcome ≡ failed)
+
+-- the slots with this one at an identity
+abbrev pub SlotIs : (Identity → Option Slot) → Identity → Option Slot → (Identity → Option Slot) → Type 0
+SlotIs old i slot new = (j : Identity) → new j ≡ (if is_identity i j then slot else old j)
+
+-- the same slots
+abbrev pub SameSlots : (Identity → Option Slot) → (Identity → Option Slot) → Type 0
+SameSlots old new = (j : Identity) → new j ≡ old j
+
+-- the worker of a slot that has no result yet
+abbrev pub open_worker : Option Slot → Option ℕ
+open_worker slot = if_there (λ (s : Slot). if is_open_outcome s.outcome then Some s.worker else None) None slot
+
+-- a slot that is there is changed so
+abbrev pub Changes : (Slot → Slot) → (Identity → Option Slot) → Identity → (Identity → Option Slot) → Type 0
+Changes f old i new = SlotIs old i (if_there (λ (s : Slot). Some (f s)) None (old i)) new
+
+-- a table of no claims
+abbrev pub no_claims : Shelf
+no_claims = record { slots = λ i. None; waits = λ v. None }
+
+-- whom the worker waits for
+abbrev pub next : Shelf → ℕ → Option ℕ
+next s u = if_there (λ i. open_worker (s.slots i)) None (s.waits u)
+
+-- who waits for one that waits, and so on, comes to an end
+pub data Ends (s : Shelf) : ℕ → Type 0 where
+  ends-at : (u : ℕ) → ((w : ℕ) → next s u ≡ Some w → Ends s w) → Ends s u
+
+-- no workers wait in a ring
+abbrev pub EachEnds : Shelf → Type 0
+EachEnds s = (u : ℕ) → ∥ Ends s u ∥₁
+
+-- whether the wait of u leads to v, as is told
+abbrev pub Leads : Shelf → ℕ → ℕ → Bool → Type 0
+Leads s v u true = ComesBack s v u
+Leads s v u false = ComesToEnd s v u
+
+-- what a claim of this identity at this place on a path would find
+abbrev pub Would : ℕ → Shelf → Identity → ℕ → Claim → Type 0
+Would v s i place claims.Claimed = (place ≤ longest_path) × (s.slots i ≡ None)
+Would v s i place (claims.Known key height) = (place + height ≤ longest_path) × IsPublished s i key height
+Would v s i place claims.Waiting = (place ≤ longest_path) × ((slot : Slot) × IsOpenSlot s i slot × ComesToEnd s v slot.worker)
+Would v s i place claims.AlreadyFailed = (place ≤ longest_path) × ((slot : Slot) × (s.slots i ≡ Some slot) × (slot.outcome ≡ failed))
+
+-- the table after it; that a worker waits is forgotten as soon as a claim answers something else
+abbrev pub claimed_shelf : ℕ → Shelf → Identity → Claim → Shelf
+claimed_shelf v s i claims.Claimed = with_slot (with_wait s v None) i (Some (claimed_by v))
+claimed_shelf v s i claims.Waiting = with_wait s v (Some i)
+claimed_shelf v s i _ = with_wait s v None
+
+-- why a claim is refused
+abbrev pub RefusesClaim : ℕ → Shelf → Identity → ℕ → Error → Type 0
+RefusesClaim v s i place e = ((e ≡ errors.TooDeep) × IsTooDeep s v i place) ⊎ (e ≡ errors.OutOfMemory)
+
+-- what a claim would find, or why it is refused
+pub record Judges (v : ℕ) (s : Shelf) (i : Identity) (place : ℕ) (result : Result Claim Error) : Type 0 where
+  pub finds : IfOk result (λ c. Would v s i place c)
+  pub refused : IfErr result (RefusesClaim v s i place)
+
+-- a claim of a table: what it finds, and what it leaves
+pub record ClaimsThere (v : ℕ) (s : Shelf) (i : Identity) (place : ℕ) (result : Result Claim Error) (s' : Shelf) : Type 0 where
+  pub finds : IfOk result (λ c. Would v s i place c × SameShelf (claimed_shelf v s i c) s')
+  pub refused : IfErr result (λ e. RefusesClaim v s i place e × SameShelf (with_wait s v None) s')

@@ -1,0 +1,17 @@
+//! Page-out of what values refer to: the claims of a table, and a worker's walk over them with a stack of tasks.
+#![tactic(auto)]
+
+pub mod claiming;
+pub mod giving;
+pub mod making;
+pub mod results;
+pub mod slots;
+pub mod stack;
+pub mod table;
+pub mod tasks;
+pub mod turns;
+
+pub use results::{SlotResult, Trees};
+pub use slots::{ArcSerSlot, Outcome, Standing};
+pub use table::{Found, PageOutError, SlotTable};
+pub use tasks::{Open, Task};

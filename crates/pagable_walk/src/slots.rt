@@ -1,0 +1,277 @@
+//! The slots of claimed identities, and whom a waiting worker waits for.
+
+ghost use Rattle.std.specs.Prelude.{◌≡◌, ℕ, Some, OnOk, OnErr, IfOk, cond, nat_eq, slice_get};
+ghost use Rattle.indexmap.specs.IndexMap.{get, keys};
+ghost use Rattle.std.specs.Arc.{arc_value};
+ghost use Rattle.std.specs.Option.{option_map};
+ghost use Rattle.pagable_model.specs.declared.numbers.Identity.{Identity as Named};
+ghost use Rattle.pagable_world.specs.World.{published, failed};
+ghost use Rattle.pagable_world.specs.Workers.{with_outcome};
+ghost use Rattle.pagable_walk.specs.Slots.{written_of, claimed_by, slot_of, IsOwn, slots_in, AreOwn, shelf_in, Stands, SlotIs, SameSlots, open_worker, EachEnds, Leads, Changes, failed_by, after_failure, with_written};
+
+use crate::{SlotResult, Trees};
+use indexmap::IndexMap;
+use pagable_core::SerializedData;
+use pagable_model::{Identity, Kind, NodeNumber, WorkerNumber};
+use std::alloc::AllocError;
+use std::sync::Arc;
+
+/// What is known of a claim.
+#[derive(Drop)]
+pub enum Outcome<E: Trees> {
+    /// There is no result yet.
+    Open,
+    /// Its key and height.
+    Published(SlotResult<E>),
+    /// Its worker failed.
+    Failed,
+}
+
+/// A claim: the worker that made it, what was written of its node, and its outcome.
+#[derive(Drop)]
+pub struct ArcSerSlot<E: Trees> {
+    pub worker: WorkerNumber,
+    pub written: Option<Arc<SerializedData>>,
+    pub outcome: Outcome<E>,
+}
+
+/// What stands at an identity.
+#[derive(Drop)]
+pub enum Standing<E: Trees> {
+    /// Nobody has claimed it.
+    Free,
+    /// The worker of this number has, and there is no result yet.
+    Open(u64),
+    /// Its result.
+    Known(SlotResult<E>),
+    /// Its worker failed.
+    Failed,
+}
+
+impl<E: Trees> ArcSerSlot<E> {
+    /// A slot that was just claimed.
+    pub fn new(worker: WorkerNumber) -> ArcSerSlot<E>
+        ensures slot { slot_of result ≡ claimed_by worker.0 }
+        ensures own { (i : Named) → IsOwn i (Some result) }
+    {
+        ArcSerSlot {
+            worker,
+            written: None,
+            outcome: Outcome::Open,
+        }
+    }
+
+    // What was written of its node.
+    fn set_written(&mut self, written: Arc<SerializedData>)
+        ensures slot { slot_of self.new ≡ with_written (written_of (arc_value written)) (slot_of self.old) }
+        ensures own { (i : Named) → IsOwn i (Some self.old) → IsOwn i (Some self.new) }
+    {
+        self.written = Some(written);
+    }
+
+    /// Publishes a result, where there is none yet. It takes no memory.
+    pub fn set_success(&mut self, found: SlotResult<E>)
+        ensures slot { slot_of self.new ≡ with_outcome (published found.key found.height) (slot_of self.old) }
+        ensures own { IsOwn found.identity (Some self.old) → IsOwn found.identity (Some self.new) }
+    {
+        if matches!(&self.outcome, Outcome::Open) {
+            self.outcome = Outcome::Published(found);
+        }
+    }
+
+    /// Marks it failed, where there is no result yet. It takes no memory.
+    pub fn set_failed(&mut self)
+        ensures slot { slot_of self.new ≡ with_outcome failed (slot_of self.old) }
+        ensures own { (i : Named) → IsOwn i (Some self.old) → IsOwn i (Some self.new) }
+    {
+        if matches!(&self.outcome, Outcome::Open) {
+            self.outcome = Outcome::Failed;
+        }
+    }
+
+    // Marks it failed, if it is this worker's and has no result yet.
+    fn fail_of(&mut self, worker: u64)
+        ensures slot { slot_of self.new ≡ failed_by worker (slot_of self.old) }
+        ensures own { (i : Named) → IsOwn i (Some self.old) → IsOwn i (Some self.new) }
+    {
+        if self.worker.0 == worker {
+            self.set_failed();
+        }
+    }
+}
+
+/// What stands at an identity.
+pub fn look_up<E: Trees>(
+    slots: &IndexMap<(u32, u64), ArcSerSlot<E>>,
+    identity: Identity,
+) -> Standing<E>
+    requires { AreOwn slots.now }
+    ensures { Stands identity (slots_in slots.now identity) result }
+{
+    match slots.get(&(identity.kind.0, identity.node.0)) {
+        None => Standing::Free,
+        Some(slot) => match &slot.outcome {
+            Outcome::Open => Standing::Open(slot.worker.0),
+            Outcome::Published(found) => Standing::Known(found.again()),
+            Outcome::Failed => Standing::Failed,
+        },
+    }
+}
+
+/// The worker that has an identity and no result there yet.
+pub fn open_worker<E: Trees>(
+    slots: &IndexMap<(u32, u64), ArcSerSlot<E>>,
+    identity: Identity,
+) -> Option<u64>
+    ensures { result ≡ open_worker (slots_in slots.now identity) }
+{
+    match slots.get(&(identity.kind.0, identity.node.0)) {
+        None => None,
+        Some(slot) => match &slot.outcome {
+            Outcome::Open => Some(slot.worker.0),
+            Outcome::Published(_) => None,
+            Outcome::Failed => None,
+        },
+    }
+}
+
+/// A free identity is claimed by a worker.
+pub fn add<E: Trees>(
+    slots: &mut IndexMap<(u32, u64), ArcSerSlot<E>>,
+    identity: Identity,
+    worker: WorkerNumber,
+) -> Result<(), AllocError>
+    requires { AreOwn slots.old }
+    ensures ok { OnOk result (SlotIs (slots_in slots.old) identity (Some (claimed_by worker.0)) (slots_in slots.new)) }
+    ensures err { OnErr result (SameSlots (slots_in slots.old) (slots_in slots.new)) }
+    ensures own { AreOwn slots.new }
+{
+    slots.insert((identity.kind.0, identity.node.0), ArcSerSlot::new(worker))?;
+    Ok(())
+}
+
+/// A worker waits for an identity from now on.
+pub fn add_wait(
+    waits: &mut IndexMap<u64, Identity>,
+    worker: u64,
+    identity: Identity,
+) -> Result<(), AllocError>
+    ensures ok { OnOk result ((q : ℕ) → get nat_eq waits.new q ≡ cond (nat_eq worker q) (Some identity) (get nat_eq waits.old q)) }
+    ensures err { OnErr result ((q : ℕ) → get nat_eq waits.new q ≡ get nat_eq waits.old q) }
+{
+    waits.insert(worker, identity)?;
+    Ok(())
+}
+
+/// What was written of a claimed node is known from now on.
+pub fn write<E: Trees>(
+    slots: &mut IndexMap<(u32, u64), ArcSerSlot<E>>,
+    identity: Identity,
+    written: Arc<SerializedData>,
+)
+    requires { AreOwn slots.old }
+    ensures slots { Changes (with_written (written_of (arc_value written))) (slots_in slots.old) identity (slots_in slots.new) }
+    ensures own { AreOwn slots.new }
+{
+    match slots.get_mut(&(identity.kind.0, identity.node.0)) {
+        Some(slot) => slot.set_written(written),
+        None => {}
+    }
+}
+
+/// A result is put where others see it, unless one stands there.
+pub fn publish<E: Trees>(slots: &mut IndexMap<(u32, u64), ArcSerSlot<E>>, found: SlotResult<E>)
+    requires { AreOwn slots.old }
+    ensures slots { Changes (with_outcome (published found.key found.height)) (slots_in slots.old) found.identity (slots_in slots.new) }
+    ensures own { AreOwn slots.new }
+{
+    match slots.get_mut(&(found.identity.kind.0, found.identity.node.0)) {
+        Some(slot) => slot.set_success(found),
+        None => {}
+    }
+}
+
+// The identity that was claimed as the one of this place, counted from 0.
+fn identity_at<E: Trees>(
+    slots: &IndexMap<(u32, u64), ArcSerSlot<E>>,
+    place: usize,
+) -> Option<Identity>
+    ensures { option_map (λ i. (i.kind.0, i.node.0)) result ≡ slice_get (keys slots.now) place }
+{
+    match slots.get_index(place) {
+        Some((key, _)) => Some(Identity {
+            kind: Kind(key.0),
+            node: NodeNumber(key.1),
+        }),
+        None => None,
+    }
+}
+
+// The claim of an identity is failed, if it is this worker's and has no result yet.
+fn fail_identity<E: Trees>(
+    slots: &mut IndexMap<(u32, u64), ArcSerSlot<E>>,
+    identity: Identity,
+    worker: u64,
+)
+    requires { AreOwn slots.old }
+    ensures slots { Changes (failed_by worker) (slots_in slots.old) identity (slots_in slots.new) }
+    ensures own { AreOwn slots.new }
+    ensures keys { keys slots.new ≡ keys slots.old }
+{
+    match slots.get_mut(&(identity.kind.0, identity.node.0)) {
+        Some(slot) => slot.fail_of(worker),
+        None => {}
+    }
+}
+
+// The claim of this place is failed, if it is this worker's and has no result yet.
+fn fail_at<E: Trees>(slots: &mut IndexMap<(u32, u64), ArcSerSlot<E>>, place: usize, worker: u64)
+    requires { AreOwn slots.old }
+    ensures own { AreOwn slots.new }
+    ensures keys { keys slots.new ≡ keys slots.old }
+    ensures each { (j : Named) → after_failure worker (slots_in slots.new j) ≡ after_failure worker (slots_in slots.old j) }
+    ensures still { (j : Named) → after_failure worker (slots_in slots.old j) ≡ slots_in slots.old j → after_failure worker (slots_in slots.new j) ≡ slots_in slots.new j }
+    ensures here { (j : Named) → slice_get (keys slots.old) place ≡ Some (j.kind.0, j.node.0) → after_failure worker (slots_in slots.new j) ≡ slots_in slots.new j }
+{
+    match identity_at(slots, place) {
+        Some(identity) => fail_identity(slots, identity, worker),
+        None => {}
+    }
+}
+
+/// A worker's claims without a result are failed. It takes no memory.
+pub fn fail_all<E: Trees>(slots: &mut IndexMap<(u32, u64), ArcSerSlot<E>>, worker: u64)
+    requires { AreOwn slots.old }
+    ensures slots { (j : Named) → slots_in slots.new j ≡ after_failure worker (slots_in slots.old j) }
+    ensures own { AreOwn slots.new }
+{
+    for place in 0..slots.len() {
+        fail_at(slots, place, worker);
+    }
+}
+
+/// Whether the worker `start` waits for one that waits, and so on, for the worker `asker`. Refused by want of memory alone.
+pub fn comes_back<E: Trees>(
+    slots: &IndexMap<(u32, u64), ArcSerSlot<E>>,
+    waits: &IndexMap<u64, Identity>,
+    asker: u64,
+    start: u64,
+) -> Result<bool, AllocError>
+    requires { EachEnds (shelf_in slots.now waits.now) }
+    ensures { IfOk result (Leads (shelf_in slots.now waits.now) asker start) }
+{
+    let mut left = waits.clone()?;
+    let mut worker = start;
+    loop {
+        if worker == asker {
+            return Ok(true);
+        }
+        let Some(identity) = left.swap_remove(&worker) else {
+            return Ok(false);
+        };
+        let Some(next) = open_worker(slots, identity) else {
+            return Ok(false);
+        };
+        worker = next;
+    }
+}
