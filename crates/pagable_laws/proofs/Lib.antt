@@ -111,3 +111,4 @@ mod LoadsLive
 mod LoadsReady
 mod OnePiece
 mod DeepLoads
+mod LoadRuns

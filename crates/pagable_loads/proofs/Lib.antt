@@ -1,3 +1,6 @@
 mod NextStep
 mod Needed
 mod Stepped
+mod Lowering
+mod Driven
+pub mod Pinned

@@ -3,6 +3,7 @@ use Rattle.std.proofs.Common.{◌≡◌, ◌+◌, ◌<◌, List, [], ◌∷◌, 
 use Rattle.std.specs.Arc.{arc_value}
 use Rattle.pagable_core.specs.Data.{blob_of}
 use Rattle.pagable_model.specs.declared.numbers.ArcRef.{ArcRef}
+use Rattle.pagable_model.specs.Deep.{longest_path}
 use Rattle.pagable_model.specs.Meaning.{Meaning}
 use Rattle.pagable_world.specs.World.{Frame, Values}
 use Rattle.pagable_world.specs.Loads.{reads, IsDecoded, to_adopt, need_at, need_of, ReadsNode, ReadsRoot}
@@ -17,6 +18,9 @@ pub length_onto : (below : List Frame) (fs : List Held) → length (onto below f
 unfolding onto
 length_onto below [] = omega arith
 length_onto below (f ∷ fs) = let e = length_onto (frame_of f ∷ below) fs in omega (arith, e)
+
+pub below_short : (fs : List Held) → length fs < longest_path → length (onto [] fs) < 128
+below_short fs short = let l = length_onto [] fs in omega (arith, l, short)
 
 pub onto_more : (below : List Frame) (fs : List Held) (f : Held) → onto below (fs ++ f ∷ []) ≡ frame_of f ∷ onto below fs
 unfolding onto

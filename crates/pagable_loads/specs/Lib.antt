@@ -4,3 +4,6 @@ pub mod Decoding
 pub mod Frames
 pub mod Needing
 pub mod Stepping
+pub mod Ending
+pub mod Starting
+pub mod Running

@@ -11,6 +11,8 @@ use Rattle.pagable_model.specs.declared.numbers.HandleNumber.{HandleNumber}
 use Rattle.pagable_model.specs.declared.numbers.Kind.{Kind}
 use Rattle.pagable_model.specs.declared.numbers.LoadNumber.{LoadNumber}
 use Rattle.pagable_model.specs.Blob.{Blob}
+use Rattle.pagable_world.specs.declared.answers.Beginning.{Beginning}
+use Rattle.pagable_world.specs.declared.answers.Beginning.TheVariants as beginnings
 use Rattle.pagable_world.specs.declared.handles.HandleRow.{HandleRow}
 use Rattle.pagable_world.specs.declared.handles.Owner.{Owner}
 use Rattle.pagable_world.specs.declared.calls.Want.TheVariants as wants
@@ -71,6 +73,11 @@ asked_as see (Err e) = Err e
 abbrev pub IsFoundMade : {B : Type 0} → Core → Kind → Either ArcRef B → Type 0
 IsFoundMade w kind (eithers.Left r) = IsMade w kind r
 IsFoundMade w kind (eithers.Right blob) = Unit {0}
+
+-- a load of a key, as the begin of it answers it
+abbrev pub begun_as : ℕ → Result LoadNumber Error → Result Beginning Error
+begun_as key (Ok l) = Ok (beginnings.Load l key)
+begun_as key (Err e) = Err e
 
 abbrev pub blob_as : {B : Type 0} → (B → Blob) → Result B Error → Result Given Error
 blob_as see (Ok blob) = Ok (from_store (see blob))

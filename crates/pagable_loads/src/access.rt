@@ -2,17 +2,17 @@
 
 ghost use Rattle.std.specs.Prelude.{◌≡◌, ℕ, Option, IfOk};
 ghost use Rattle.std.specs.Arc.{arc_value};
-ghost use Rattle.std.specs.Option.{option_map};
 ghost use Rattle.pagable_core.specs.Data.{blob_of};
 ghost use Rattle.pagable_model.specs.Blob.{key_of};
 ghost use Rattle.pagable_world.specs.declared.calls.Want.TheVariants as wants;
-ghost use Rattle.pagable_world.specs.World.{seen_as};
-ghost use Rattle.pagable_world.specs.Pager.{PagerState, ValueCall, IsNewNode, IsCellOf};
+ghost use Rattle.pagable_world.specs.Pager.{PagerState, IsNewNode, IsCellOf};
 ghost use Rattle.pagable_world.specs.Calls.{CloneCall, PinCall, UnpinCall, ReleaseCall, SetKeyCall, StoreCall};
 ghost use Rattle.pagable_world.specs.LoadCalls.{BeginCall, BeginKeyCall, AskCall, EndCall, HandOverCall, DropCall};
 ghost use Rattle.pagable_world.specs.Access.{Called, Told};
-ghost use Rattle.pagable_loads.specs.Telling.{Acting, Tells, Brings, AsksFor, TakesLazily, AdoptsValue, values_at, blob_as};
+ghost use Rattle.pagable_loads.specs.Starting.{Shares, StartsPin};
+ghost use Rattle.pagable_loads.specs.Telling.{Acting, Tells, Brings, AsksFor, TakesLazily, AdoptsValue, values_at, begun_as, blob_as};
 
+use crate::starting::PinStart;
 use either::Either;
 use pagable_codec::{Env, NodeSet};
 use pagable_core::PagableData;
@@ -53,9 +53,16 @@ where
         ensures acting { acting self.new ≡ acting self.old }
         ensures lender { lender self.new ≡ lender self.old };
 
-    /// The value that a handle pins, shared; or None where the handle pins none. Refused with NoSuchHandle.
+    /// A pin of a loose handle, where its value is in memory, and else a load of its cell. Refused with NoSuchHandle, NotYours, WrongMode, NumbersSpent and
+    /// OutOfMemory.
+    fn begin_pin(&mut self, handle: HandleNumber) -> Result<PinStart, Error>
+        ensures step { Told (told self.old) (told self.new) (λ s t. Called (values_at E.Node.NodeSet E.Env E.Hash.KeyHash (acting self.old).environment) (λ w'. StartsPin s.core (acting self.old).me handle result w') s t) }
+        ensures acting { acting self.new ≡ acting self.old }
+        ensures lender { lender self.new ≡ lender self.old };
+
+    /// The value that a handle pins, shared; or None where the handle pins none. Refused with NoSuchHandle, and with OutOfMemory where it can't be shared.
     fn share(&self, handle: HandleNumber) -> Result<Option<Arc<E::Node>>, Error>
-        ensures { Tells (told self.now) (λ s. ValueCall s handle (seen_as (option_map arc_value) result)) };
+        ensures { Tells (told self.now) (λ s. Shares arc_value s handle result) };
 
     /// Stores a blob, and answers its key. Refused with OutOfMemory, Storage, KeyTaken and Closed.
     fn store(&mut self, alloc: Global, blob: PagableData) -> Result<DataKey, Error>
@@ -91,8 +98,8 @@ where
         ensures lender { lender self.new ≡ lender self.old };
 
     /// A load of a key begins. Refused with NumbersSpent and OutOfMemory.
-    fn load_key(&mut self, key: DataKey) -> Result<Beginning, Error>
-        ensures step { Told (told self.old) (told self.new) (λ s t. Called (values_at E.Node.NodeSet E.Env E.Hash.KeyHash (acting self.old).environment) (λ w'. BeginKeyCall s.core (acting self.old).me key result w') s t) }
+    fn load_key(&mut self, key: DataKey) -> Result<LoadNumber, Error>
+        ensures step { Told (told self.old) (told self.new) (λ s t. Called (values_at E.Node.NodeSet E.Env E.Hash.KeyHash (acting self.old).environment) (λ w'. BeginKeyCall s.core (acting self.old).me key (begun_as key result) w') s t) }
         ensures acting { acting self.new ≡ acting self.old }
         ensures lender { lender self.new ≡ lender self.old };
 

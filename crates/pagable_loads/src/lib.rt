@@ -4,11 +4,16 @@
 pub mod access;
 pub mod decoding;
 pub mod got;
+pub mod over;
 pub mod reading;
+pub mod running;
 mod stack;
+pub mod starting;
 pub mod step;
 
 pub use access::Access;
 pub use decoding::{Decoded, decode};
 pub use got::GotReferences;
+pub use over::{pin_over, read_over};
 pub use reading::{Frame, Need, Reading};
+pub use starting::PinStart;

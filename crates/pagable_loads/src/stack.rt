@@ -1,6 +1,6 @@
 //! The blobs of a load, the innermost apart from those below it.
 
-ghost use Rattle.std.specs.Prelude.{◌≡◌, ◌<◌, ◌≤◌, ◌∷◌, [], length, vec_len, vec_capacity, IsSome, IfOk, IfErr, OnOk};
+ghost use Rattle.std.specs.Prelude.{◌≡◌, ◌<◌, ◌≤◌, ◌∷◌, ◌^◌, [], length, vec_len, vec_capacity, IsSome, IfOk, IfErr, OnOk};
 ghost use Rattle.std.specs.Arc.{arc_value};
 ghost use Rattle.pagable_core.specs.Data.{blob_of};
 ghost use Rattle.pagable_model.specs.Deep.{longest_path};
@@ -16,6 +16,13 @@ use pagable_flavors::{DataKey, Error};
 use pagable_model::HandleNumber;
 use std::alloc::Global;
 use std::sync::Arc;
+
+/// How many references a blob has, below 2^63.
+fn keys_in(blob: &PagableData) -> usize
+    ensures { length (blob_of blob.now).keys < 2 ^ 63 }
+{
+    blob.arcs.len()
+}
 
 impl Reading {
     /// Takes the innermost blob off, with a place for one more reference, and makes a place for it below. Refused with OutOfMemory.
@@ -64,9 +71,11 @@ impl Reading {
 
     /// The root's blob is the only one.
     pub(crate) fn put_root(&mut self, alloc: Global, blob: Arc<PagableData>)
+        ensures few { length (blob_of (arc_value blob)).keys < 2 ^ 63 }
         ensures root { frames_of self.new.top self.new.below.items ≡ root_frame self.old.key self.old.node_type (blob_of (arc_value blob)) ∷ [] }
         ensures same { IsSameLoad self.old self.new }
     {
+        keys_in(blob.as_ref());
         self.below = Vec::new(alloc);
         self.top = Some(Frame {
             kind: Kind(3),
@@ -88,11 +97,13 @@ impl Reading {
     ) -> Result<(), Error>
         requires { vec_len self.old.below < vec_capacity self.old.below }
         ensures ok { OnOk result (frames_of self.new.top self.new.below.items ≡ nested_frame kind key (blob_of (arc_value blob)) ∷ frame_of top ∷ onto [] self.old.below.items) }
+        ensures few { length (blob_of (arc_value blob)).keys < 2 ^ 63 }
         ensures short { OnOk result (length self.old.below.items < longest_path) }
         ensures deep { IfErr result (λ e. e ≡ Error.TooDeep) }
         ensures long { IfErr result (λ e. longest_path ≤ length self.old.below.items) }
         ensures same { IsSameLoad self.old self.new }
     {
+        keys_in(blob.as_ref());
         if self.below.len() >= 128 {
             return Err(Error::TooDeep);
         }

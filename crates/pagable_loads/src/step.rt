@@ -5,6 +5,7 @@ ghost use Rattle.pagable_world.specs.World.{one_more};
 ghost use Rattle.pagable_world.specs.Loads.{need_of, needs_nested, needs_lazy, ReadsNode, ReadsRoot};
 ghost use Rattle.pagable_world.specs.Access.{Told};
 ghost use Rattle.pagable_world.specs.declared.events.LoadAnswer.TheVariants as ends;
+ghost use Rattle.pagable_loads.specs.Ending.{LeadsOn};
 ghost use Rattle.pagable_loads.specs.Frames.{reading_of, frames_of};
 ghost use Rattle.pagable_loads.specs.Needing.{Needs, HasFrames};
 ghost use Rattle.pagable_loads.specs.Stepping.{IsSameLoad, Tries, Steps, Drops};
@@ -30,6 +31,7 @@ impl Reading {
         E::Node: NodeSet<E>,
         requires first { frames_of self.old.top self.old.below.items ≡ [] }
         ensures step { Told (A.told access.old) (A.told access.new) (λ s t. Tries (values_at E.Node.NodeSet E.Env E.Hash.KeyHash (A.acting access.old).environment) (A.acting access.old).me self.old s result (frames_of self.new.top self.new.below.items) t) }
+        ensures leads { LeadsOn self.old.for_cell (frames_of self.old.top self.old.below.items) (frames_of self.new.top self.new.below.items) result }
         ensures same { IsSameLoad self.old self.new }
         ensures acting { A.acting access.new ≡ A.acting access.old }
         ensures lender { A.lender access.new ≡ A.lender access.old }
@@ -56,6 +58,7 @@ impl Reading {
         requires top { IsSome self.old.top }
         requires need { need_of (values_at E.Node.NodeSet E.Env E.Hash.KeyHash (A.acting access.old).environment).types (frames_of self.old.top self.old.below.items) ≡ needs_nested kind key }
         ensures step { Told (A.told access.old) (A.told access.new) (λ s t. Tries (values_at E.Node.NodeSet E.Env E.Hash.KeyHash (A.acting access.old).environment) (A.acting access.old).me self.old s result (frames_of self.new.top self.new.below.items) t) }
+        ensures leads { LeadsOn self.old.for_cell (frames_of self.old.top self.old.below.items) (frames_of self.new.top self.new.below.items) result }
         ensures same { IsSameLoad self.old self.new }
         ensures acting { A.acting access.new ≡ A.acting access.old }
         ensures lender { A.lender access.new ≡ A.lender access.old }
@@ -91,6 +94,7 @@ impl Reading {
         requires top { IsSome self.old.top }
         requires need { need_of (values_at E.Node.NodeSet E.Env E.Hash.KeyHash (A.acting access.old).environment).types (frames_of self.old.top self.old.below.items) ≡ needs_lazy kind key }
         ensures step { Told (A.told access.old) (A.told access.new) (λ s t. Tries (values_at E.Node.NodeSet E.Env E.Hash.KeyHash (A.acting access.old).environment) (A.acting access.old).me self.old s result (frames_of self.new.top self.new.below.items) t) }
+        ensures leads { LeadsOn self.old.for_cell (frames_of self.old.top self.old.below.items) (frames_of self.new.top self.new.below.items) result }
         ensures same { IsSameLoad self.old self.new }
         ensures acting { A.acting access.new ≡ A.acting access.old }
         ensures lender { A.lender access.new ≡ A.lender access.old }
@@ -122,6 +126,7 @@ impl Reading {
         requires below { 0 < length self.old.below.items }
         requires node { ReadsNode (values_at E.Node.NodeSet E.Env E.Hash.KeyHash (A.acting access.old).environment) (reading_of self.old) value }
         ensures step { Told (A.told access.old) (A.told access.new) (λ s t. Tries (values_at E.Node.NodeSet E.Env E.Hash.KeyHash (A.acting access.old).environment) (A.acting access.old).me self.old s result (frames_of self.new.top self.new.below.items) t) }
+        ensures leads { LeadsOn self.old.for_cell (frames_of self.old.top self.old.below.items) (frames_of self.new.top self.new.below.items) result }
         ensures same { IsSameLoad self.old self.new }
         ensures acting { A.acting access.new ≡ A.acting access.old }
         ensures lender { A.lender access.new ≡ A.lender access.old }
@@ -152,6 +157,7 @@ impl Reading {
         requires root { ReadsRoot (values_at E.Node.NodeSet E.Env E.Hash.KeyHash (A.acting access.old).environment) (reading_of self.old) value }
         requires sort { self.old.for_cell ≡ true }
         ensures step { Told (A.told access.old) (A.told access.new) (λ s t. Tries (values_at E.Node.NodeSet E.Env E.Hash.KeyHash (A.acting access.old).environment) (A.acting access.old).me self.old s result (frames_of self.new.top self.new.below.items) t) }
+        ensures leads { LeadsOn self.old.for_cell (frames_of self.old.top self.old.below.items) (frames_of self.new.top self.new.below.items) result }
         ensures same { IsSameLoad self.old self.new }
         ensures acting { A.acting access.new ≡ A.acting access.old }
         ensures lender { A.lender access.new ≡ A.lender access.old }
@@ -183,6 +189,7 @@ impl Reading {
         requires root { ReadsRoot (values_at E.Node.NodeSet E.Env E.Hash.KeyHash (A.acting access.old).environment) (reading_of self.old) value }
         requires sort { self.old.for_cell ≡ false }
         ensures step { Told (A.told access.old) (A.told access.new) (λ s t. Tries (values_at E.Node.NodeSet E.Env E.Hash.KeyHash (A.acting access.old).environment) (A.acting access.old).me self.old s result (frames_of self.new.top self.new.below.items) t) }
+        ensures leads { LeadsOn self.old.for_cell (frames_of self.old.top self.old.below.items) (frames_of self.new.top self.new.below.items) result }
         ensures same { IsSameLoad self.old self.new }
         ensures acting { A.acting access.new ≡ A.acting access.old }
         ensures lender { A.lender access.new ≡ A.lender access.old }
@@ -216,6 +223,7 @@ impl Reading {
         requires need { Needs (values_at E.Node.NodeSet E.Env E.Hash.KeyHash (A.acting access.old).environment) (reading_of self.old) self.old.for_cell need }
         requires stack { HasFrames self.old.top self.old.below.items need }
         ensures step { Told (A.told access.old) (A.told access.new) (λ s t. Tries (values_at E.Node.NodeSet E.Env E.Hash.KeyHash (A.acting access.old).environment) (A.acting access.old).me self.old s result (frames_of self.new.top self.new.below.items) t) }
+        ensures leads { LeadsOn self.old.for_cell (frames_of self.old.top self.old.below.items) (frames_of self.new.top self.new.below.items) result }
         ensures same { IsSameLoad self.old self.new }
         ensures acting { A.acting access.new ≡ A.acting access.old }
         ensures lender { A.lender access.new ≡ A.lender access.old }
@@ -256,6 +264,7 @@ impl Reading {
     where
         E::Node: NodeSet<E>,
         ensures step { Told (A.told access.old) (A.told access.new) (λ s t. Steps (values_at E.Node.NodeSet E.Env E.Hash.KeyHash (A.acting access.old).environment) (A.acting access.old).me self.old s result (frames_of self.new.top self.new.below.items) t) }
+        ensures leads { LeadsOn self.old.for_cell (frames_of self.old.top self.old.below.items) (frames_of self.new.top self.new.below.items) (Ok result) }
         ensures steps { self.new.steps ≡ one_more self.old.steps }
         ensures load { self.new.load ≡ self.old.load }
         ensures key { self.new.key ≡ self.old.key }

@@ -9,3 +9,4 @@ pub mod Asking
 pub mod Putting
 pub mod Births
 pub mod Adopting
+pub mod Lending

@@ -2,6 +2,11 @@ use Rattle.pagable_loads.specs.Telling.{values_at}
 use Rattle.std.specs.Arc.{arc_value}
 use Rattle.pagable_core.specs.Data.{blob_of}
 use Rattle.pagable_loads.proofs.Stepped.{told_map, nested_known, nested_blob, nested_deep, nested_refused}
+use Rattle.std.proofs.Common.{refl, []}
+use Rattle.pagable_world.specs.Loads.{nested_frame}
+use Rattle.pagable_loads.specs.Frames.{frame_of, onto}
+use Rattle.pagable_loads.proofs.Lowering.{got_leads, blob_leads, nested_wants}
+use Rattle.pagable_loads.proofs.Needed.{below_short}
 use Rattle.pagable_loads.proofs.reading.Reading.step_nested.Goals as goal
 
 pub returns-in-Ok-Left-clause-step : goal.returns-in-Ok-Left-clause-step
@@ -15,3 +20,11 @@ returns-in-Err-put_blob-clause-step g c = told_map (nested_deep _ (values_at g.E
 
 pub returns-in-Err-load_nested-clause-step : goal.returns-in-Err-load_nested-clause-step
 returns-in-Err-load_nested-clause-step g c = told_map (nested_refused _ (values_at g.E.Node.NodeSet g.E.Env g.E.Hash.KeyHash (g.A.Access.acting c.args.access.now).environment) (g.A.Access.acting c.args.access.now).me c.args.self.now c.args.kind c.args.key c.in-Ok.top c.take_top.new.self.below.items c.in-Ok.ensures.ok.frames (λ d. blob_of (arc_value d)) c.requires.need c.in-Err-load_nested.e _) c.in-Err-load_nested.ensures.step
+
+pub returns-in-Ok-Left-clause-leads : goal.returns-in-Ok-Left-clause-leads
+returns-in-Ok-Left-clause-leads g c = got_leads (frame_of c.in-Ok.top) (onto [] c.take_top.new.self.below.items) c.in-Ok-Left.reference
+    (nested_wants _ _ (frame_of c.in-Ok.top) (onto [] c.take_top.new.self.below.items) c.in-Ok.ensures.ok.frames c.args.kind c.args.key c.requires.need) c.in-Ok.ensures.ok.frames c.put_got.ensures.gets.frames
+
+pub returns-in-Ok-put_blob-clause-leads : goal.returns-in-Ok-put_blob-clause-leads
+returns-in-Ok-put_blob-clause-leads g c = blob_leads (nested_frame c.args.kind c.args.key (blob_of (arc_value c.in-Ok-Right.blob))) (frame_of c.in-Ok.top) (onto [] c.take_top.new.self.below.items) refl c.in-Ok-put_blob.ensures.few (below_short c.take_top.new.self.below.items c.in-Ok-put_blob.ensures.short)
+    (nested_wants _ _ (frame_of c.in-Ok.top) (onto [] c.take_top.new.self.below.items) c.in-Ok.ensures.ok.frames c.args.kind c.args.key c.requires.need) c.in-Ok.ensures.ok.frames c.in-Ok-put_blob.ensures.ok

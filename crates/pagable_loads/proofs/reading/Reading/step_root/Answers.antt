@@ -2,6 +2,9 @@ use Rattle.pagable_loads.specs.Telling.{values_at}
 use Rattle.std.specs.Arc.{arc_value}
 use Rattle.pagable_core.specs.Data.{blob_of}
 use Rattle.pagable_loads.proofs.Stepped.{told_map, root_comes, root_refused}
+use Rattle.pagable_world.specs.Loads.{root_frame}
+use Rattle.pagable_loads.proofs.Lowering.{root_leads}
+use Rattle.std.proofs.Common.{refl}
 use Rattle.pagable_loads.proofs.reading.Reading.step_root.Goals as goal
 
 pub returns-in-Ok-clause-step : goal.returns-in-Ok-clause-step
@@ -9,3 +12,6 @@ returns-in-Ok-clause-step g c = told_map (root_comes _ (values_at g.E.Node.NodeS
 
 pub returns-in-Err-clause-step : goal.returns-in-Err-clause-step
 returns-in-Err-clause-step g c = told_map (root_refused _ (values_at g.E.Node.NodeSet g.E.Env g.E.Hash.KeyHash (g.A.Access.acting c.args.access.now).environment) (g.A.Access.acting c.args.access.now).me c.args.self.now c.requires.first c.in-Err.e _) c.in-Err.ensures.step
+
+pub returns-in-Ok-clause-leads : goal.returns-in-Ok-clause-leads
+returns-in-Ok-clause-leads g c = root_leads (root_frame c.args.self.now.key c.args.self.now.node_type (blob_of (arc_value c.in-Ok.blob))) refl c.put_root.ensures.few c.requires.first c.put_root.ensures.root

@@ -1,0 +1,76 @@
+-- A load's steps, one after another up to its end.
+use Rattle.std.proofs.Common.{◌≡◌, ℕ, Bool, true, false, List, [], Option, Some, None, inl, inr, refl, ap, sym, subst, ◌∙◌, if◌then◌else◌}
+use Rattle.pagable_model.specs.declared.numbers.Kind.{Kind}
+use Rattle.pagable_model.specs.declared.numbers.LoadNumber.{LoadNumber}
+use Rattle.pagable_model.specs.declared.numbers.NodeNumber.{NodeNumber}
+use Rattle.pagable_world.specs.declared.events.LoadAnswer.{LoadAnswer}
+use Rattle.pagable_world.specs.declared.events.LoadAnswer.TheVariants as ends
+use Rattle.pagable_world.specs.declared.handles.Owner.{Owner}
+use Rattle.pagable_world.specs.World.{Core, Frame, Reading, Values, one_more}
+use Rattle.pagable_world.specs.Calls.{with_cached}
+use Rattle.pagable_world.specs.Loads.{GoesOn, Does, gone_on}
+use Rattle.pagable_world.specs.Pager.{PagerState}
+use Rattle.pagable_world.specs.Access.{Told, ReadingStep, LoadRun, load-ends, load-goes-on}
+use Rattle.pagable_loads.specs.declared.reading.Reading.{Reading as Own}
+use Rattle.pagable_loads.specs.Frames.{IsLoadOf, frames_of, reading_of}
+use Rattle.pagable_loads.specs.Stepping.{Steps}
+use Rattle.pagable_loads.specs.Running.{Runs, HasGone}
+
+pub told_same : {S : Type 0} {o : Option S} {R : S → S → Type 0} → ((s : S) → R s s) → Told o o R
+told_same {o = None} f = record { holds = tt }
+told_same {o = Some s} f = record { holds = f s }
+
+cached_loads : (b : Bool) (w : Core) (kind : Kind) (key : ℕ) (n : NodeNumber) (l : ℕ) → (if b then w else with_cached w kind key n).loads l ≡ w.loads l
+cached_loads true w kind key n l = refl
+cached_loads false w kind key n l = refl
+
+module _ {N : Type 0} (v : Values N) (me : Owner) where
+  -- while there is more the load stays open
+  goes_open : (w w' : Core) (reading : Reading) (frames : List Frame) → GoesOn v w me reading frames w' → w'.loads reading.load.0 ≡ w.loads reading.load.0
+  goes_open w w' reading frames (inl g) = g.asked.gives.2.asked.leaves.loads reading.load.0
+  goes_open w w' reading frames (inr (inl g)) = g.asked.gives.2.leaves.loads reading.load.0
+  goes_open w w' reading frames (inr (inr (inl g))) = g.asked.gives.2.1.asked.leaves.loads reading.load.0
+  goes_open w w' reading frames (inr (inr (inr (inl g)))) = elim g.asked.makes.3 [
+    | inl c ↦ c.leaves.loads reading.load.0
+    | inr (none, few, next, a) ↦ a.loads reading.load.0 ∙ cached_loads w.closed _ g.kind g.key _ reading.load.0
+  ]
+  goes_open w w' reading frames (inr (inr (inr (inr g)))) = elim g.adopted.adopts.makes [
+    | inl (n, known, f) ↦ f.falls.leaves.loads reading.load.0
+    | inr (none, few, a) ↦ a.loads reading.load.0 ∙ cached_loads w.closed _ g.reads_node.top.kind g.reads_node.top.key _ reading.load.0
+  ]
+
+  -- and what ends it leaves no blob
+  ended : (w w' : Core) (reading : Reading) (answer : LoadAnswer N) (frames : List Frame) → Does v w me reading (Some answer) frames w' → frames ≡ []
+  ended w w' reading (ends.Pinned k) frames d = d.1
+  ended w w' reading (ends.Read x) frames d = d.1
+  ended w w' reading (ends.Refused e) frames d = d.1
+
+module _ {N E : Type 0} (v : Values N) (me : Owner) where
+  pub not_yet : (own : Own) (s : PagerState N E) → HasGone v me own own s s
+  not_yet own s = record { open_still = λ o. o; then = λ o answer u run. run }
+
+  module _ (own now : Own) (s m t : PagerState N E) (gone : HasGone v me own now s m) where
+    pub went_on : (next : Own) (frames : List Frame) → next.load ≡ now.load → next.key ≡ now.key → next.node_type ≡ now.node_type → next.for_cell ≡ now.for_cell → next.steps ≡ one_more now.steps
+        → frames ≡ frames_of next.top next.below.items → Steps v me now m None frames t → HasGone v me own next s t
+    went_on next frames load key typed sort counted is step = record { open_still = still; then = λ o answer u run. gone.then o answer u (load-goes-on (reading_of now) frames answer m t u (step.does (gone.open_still o)) (subst (λ r. LoadRun v me r t answer u) same run)) }
+      where
+        same : reading_of next ≡ gone_on (reading_of now) frames
+        same = rw (load, typed, counted, is) refl
+
+        still : IsLoadOf s.core me own → IsLoadOf t.core me next
+        still o =
+            let n = gone.open_still o in
+            let stays = goes_open v me m.core t.core (reading_of now) frames (step.does n).does.does in
+            record {
+              load = n.load;
+              owned = record { stands_open = ap (λ (l : LoadNumber). t.core.loads l.0) load ∙ stays ∙ n.owned.stands_open; own = n.owned.own };
+              key = n.key ∙ sym key;
+              sort = n.sort ∙ sym sort;
+            }
+
+    pub ends_so : (answer : LoadAnswer N) (frames : List Frame) → Steps v me now m (Some answer) frames t → Runs v me own s answer t
+    ends_so answer frames step = record {
+      run = λ o.
+          let d = step.does (gone.open_still o) in
+          gone.then o answer t (load-ends (reading_of now) answer m t (subst (λ fs. ReadingStep v me (reading_of now) m (Some answer) fs t) (ended v me m.core t.core (reading_of now) answer frames d.does.does) d));
+    }

@@ -1,0 +1,47 @@
+-- Why a load comes to an end, whatever it meets: each step lowers a number. And what ends it.
+use Rattle.std.specs.Prelude.{ℕ, ◌≡◌, ◌+◌, ◌-◌, ◌*◌, ◌<◌, ◌^◌, Bool, true, false, zero, suc, List, [], ◌∷◌, length, Option, Some, None, Result, Ok, Err}
+use Rattle.pagable_model.specs.declared.error.Error.{Error}
+use Rattle.pagable_world.specs.declared.events.LoadAnswer.{LoadAnswer}
+use Rattle.pagable_world.specs.declared.events.LoadAnswer.TheVariants as ends
+use Rattle.pagable_world.specs.World.{Frame}
+
+-- how many references a blob has still to get; and so, and one more, of one that waits for the blob above it
+abbrev pub left_in : Frame → ℕ
+left_in f = length f.blob.keys - length f.got
+
+abbrev pub waits_for : Frame → ℕ
+waits_for f = length f.blob.keys - (length f.got + 1) + 1
+
+-- a blob has fewer references than this
+abbrev pub many : ℕ
+many = 2 ^ 64
+
+-- the numbers of blobs that wait, as the digits of one, the root's first
+unfoldable pub waiting : List Frame → ℕ
+waiting [] = 0
+waiting (f ∷ fs) = waiting fs * many + waits_for f
+
+-- with so many digits more
+unfoldable pub widened : ℕ → ℕ → ℕ
+widened zero n = n
+widened (suc k) n = widened k (n * many)
+
+-- the innermost blob gets references; its digit is the last that is told, and so many may come
+abbrev pub to_do : List Frame → ℕ
+to_do [] = widened 129 many
+to_do (f ∷ fs) = widened (129 - length fs) (waiting fs * many + left_in f + 1)
+
+-- a load of a cell ends with a pin, one of a key with a value; and a step that ends nothing leaves less to do
+abbrev pub Leads : {N : Type 0} → Bool → List Frame → List Frame → Result (Option (LoadAnswer N)) Error → Type 0
+Leads for_cell old new (Ok None) = to_do new < to_do old
+Leads for_cell old new (Ok (Some (ends.Pinned k))) = for_cell ≡ true
+Leads for_cell old new (Ok (Some (ends.Read x))) = for_cell ≡ false
+Leads for_cell old new (Ok (Some (ends.Refused e))) = Unit {0}
+Leads for_cell old new (Err e) = Unit {0}
+
+pub record LeadsOn {N : Type 0} (for_cell : Bool) (old new : List Frame) (r : Result (Option (LoadAnswer N)) Error) : Type 0 where
+  pub leads : Leads for_cell old new r
+
+-- the answer is one that may end a load of this sort
+pub record EndsAs {N : Type 0} (for_cell : Bool) (answer : LoadAnswer N) : Type 0 where
+  pub is : Leads for_cell [] [] (Ok (Some answer))
