@@ -99,7 +99,7 @@ impl<H: KeyHash> Session<H> {
     fn pin(&mut self, alloc: Global, name: &str, new: &str) -> Result<Answer<'_>, Refusal> {
         let handle = self.find(name)?;
         let vacant = vacant(&mut self.names, alloc, new)?;
-        let (pinned, _) = paging::pin(alloc, &mut self.pager, handle)?;
+        let pinned = paging::pin(alloc, &mut self.pager, handle)?;
         vacant.insert(pinned);
         match self.pager.value(pinned)? {
             Some(node) => Ok(Answer::Text(node.as_str())),

@@ -40,10 +40,9 @@ pub mod impls {
 /// The pager, and the machine that takes lists of its calls.
 pub mod pagable_arc {
     pub use crate::paging::read_value;
-    pub use pagable_loads::{Access, PinStart, pin_over, read_over};
     pub use pagable_machine::Machine;
     pub use pagable_model::{LoadNumber, WorkerNumber};
-    pub use pagable_pager::{ArcCell, DeserializedArcCache, Lent, Pager};
+    pub use pagable_pager::{ArcCell, DeserializedArcCache, Pager};
     pub use pagable_world::handles::Owner;
     pub use pagable_world::{Beginning, Call, Found, Mode, Pinning, Reply, Want};
 }
@@ -106,12 +105,11 @@ pub use pagable_core::{
     Sha256Key, WeighHash,
 };
 pub use pagable_flavors::{DataKey, Error, OptionalDataKey, PagableSlice, PagableVecFlavor};
-pub use pagable_loads::{Access, PinStart, pin_over, read_over};
 pub use pagable_machine::Machine;
 pub use pagable_model::{
     ArcRef, HandleNumber, Identity, Kind, LoadNumber, NodeNumber, PagableCursor, WorkerNumber,
 };
-pub use pagable_pager::{ArcCell, DeserializedArcCache, Lent, Pager};
+pub use pagable_pager::{ArcCell, DeserializedArcCache, Pager};
 pub use pagable_patterns::SavedRegex;
 pub use pagable_registries::{
     ForTag, HasStaticValueRegistry, HasTypetagRegistry, PagableRegisteredFor, PagableTagged,

@@ -1,78 +1,73 @@
-//! Pins and readings of a lent pager; and page-out by its pure calls, one after the other, for values without references.
+//! Pinning and page-out by the pure calls of the pager, one after the other, for values without references.
 
 ghost use Rattle.std.specs.Prelude.{◌≡◌, [], IfOk};
-ghost use Rattle.std.specs.Arc.{arc_value};
 ghost use Rattle.pagable_core.specs.Data.{blob_of};
-ghost use Rattle.pagable_world.specs.World.{seen_as};
-ghost use Rattle.pagable_world.specs.Access.{PinsOver, ReadsOver};
-ghost use Rattle.pagable_loads.specs.Telling.{values_at};
-ghost use Rattle.pagable_pager.specs.View.{state_in, telling};
 ghost use Rattle.pagable.specs.Alone.{ReadsAlone, MeansItsTree};
-ghost use Rattle.pagable.specs.Lent.{ReadsValue};
 
-use pagable_codec::{Env, NodeSet, OfNode, SessionContext};
+use either::Either;
+use pagable_codec::{Env, NodeSet, SessionContext};
 use pagable_core::{
     NoReferences, PagableData, PagableDeserializerImpl, PagableStorage, SerializerForPaging,
 };
-use pagable_loads::{pin_over, read_over};
-use pagable_model::{DataKey, Error, HandleNumber};
-use pagable_pager::{Lent, Pager};
-use pagable_world::Pinning;
+use pagable_model::{Error, HandleNumber, LoadNumber};
+use pagable_pager::Pager;
+use pagable_world::{Beginning, Pinning, Want};
 use std::alloc::Global;
 use std::sync::Arc;
 
-/// Pins a loose handle's cell, reading its value from the storage where it isn't in memory, with all that it refers to and that is read together with it.
-/// Answers the Pinned handle and the value, shared. A refusal leaves the handle as it was, and no load open.
+/// Pins a loose handle's cell, reading its value from the storage where it isn't in memory; one that holds references is
+/// refused as WrongKind. A refusal leaves the handle as it was, and no load open.
 pub fn pin<E: Env, S: PagableStorage<E>>(
     alloc: Global,
     pager: &mut Pager<E, S>,
     handle: HandleNumber,
-) -> Result<(HandleNumber, Arc<E::Node>), Error>
+) -> Result<HandleNumber, Error>
 where
     E::Node: NodeSet<E>,
-    ensures { PinsOver (values_at E.Node.NodeSet E.Env E.Hash.KeyHash pager.old.environment) (state_in (telling S.stored S.is_closed S.failed) pager.old) handle (seen_as (λ a. (a.0, arc_value a.1)) result) (state_in (telling S.stored S.is_closed S.failed) pager.new) }
 {
-    let mut lent = Lent::new(pager);
-    let pinned = pin_over(&mut lent, alloc, handle);
-    pinned
-}
-
-/// Reads a key as a value of this type, with all that it refers to and that is read together with it. The handles of its references are the caller's. A
-/// refusal leaves nothing of it.
-pub fn read<E: Env, S: PagableStorage<E>>(
-    alloc: Global,
-    pager: &mut Pager<E, S>,
-    key: DataKey,
-    node_type: u32,
-) -> Result<E::Node, Error>
-where
-    E::Node: NodeSet<E>,
-    ensures { ReadsOver (values_at E.Node.NodeSet E.Env E.Hash.KeyHash pager.old.environment) (state_in (telling S.stored S.is_closed S.failed) pager.old) key node_type result (state_in (telling S.stored S.is_closed S.failed) pager.new) }
-{
-    let mut lent = Lent::new(pager);
-    let value = read_over(&mut lent, alloc, key, node_type);
-    value
-}
-
-/// Reads a key as a value of the type T, as `read` does, and answers the value that its node holds. Refused as `read`; and where memory is wanting to take the
-/// value out, the node comes back, whose references' handles are the caller's.
-pub fn deserialize_pagable_data<E: Env, S: PagableStorage<E>, T: OfNode<E>>(
-    alloc: Global,
-    pager: &mut Pager<E, S>,
-    key: DataKey,
-) -> Result<Arc<T>, (Error, Option<E::Node>)>
-where
-    E::Node: NodeSet<E>,
-    ensures { ReadsValue (values_at E.Node.NodeSet E.Env E.Hash.KeyHash pager.old.environment) arc_value T.held (state_in (telling S.stored S.is_closed S.failed) pager.old) key T.TYPE result (state_in (telling S.stored S.is_closed S.failed) pager.new) }
-{
-    match read(alloc, pager, key, T::TYPE) {
-        Ok(node) => match T::from_node(alloc, &node) {
-            Ok(Some(value)) => Ok(value),
-            Ok(None) => Err((Error::WrongKind, Some(node))),
-            Err(e) => Err((e, Some(node))),
-        },
-        Err(e) => Err((e, None)),
+    match pager.pin(handle)? {
+        Pinning::Pinned(pinned) => Ok(pinned),
+        Pinning::NeedsLoad(_) => load(alloc, pager, handle),
     }
+}
+
+/// Loads a cell, and pins it by its handle.
+fn load<E: Env, S: PagableStorage<E>>(
+    alloc: Global,
+    pager: &mut Pager<E, S>,
+    handle: HandleNumber,
+) -> Result<HandleNumber, Error>
+where
+    E::Node: NodeSet<E>,
+{
+    let node = pager.node_of(handle)?;
+    let Some(node_type) = pager.node_live(node) else {
+        return Err(Error::NoSuchHandle);
+    };
+    let Beginning::Load(load, _) = pager.load_begin(handle)? else {
+        return Err(Error::NoSuchHandle);
+    };
+    let outcome = finish(alloc, pager, load, node_type);
+    if outcome.is_err() {
+        // A load that is closed already is gone, and this changes nothing then.
+        let _ = pager.load_drop(load);
+    }
+    outcome
+}
+
+/// Ends a load with the value of its root, read as this type.
+fn finish<E: Env, S: PagableStorage<E>>(
+    alloc: Global,
+    pager: &mut Pager<E, S>,
+    load: LoadNumber,
+    node_type: u32,
+) -> Result<HandleNumber, Error>
+where
+    E::Node: NodeSet<E>,
+{
+    let blob = root_of(alloc, pager, load)?;
+    let value = read_value(pager.env(), alloc, blob.as_ref(), node_type)?;
+    ended(alloc, pager, load, value)
 }
 
 /// Reads a blob as a value of this type, in a session of its own, where each reference is refused as WrongKind, so that the
@@ -97,6 +92,37 @@ where
         NoReferences::new(env, &session),
     );
     E::Node::read(node_type, alloc, &mut deserializer)
+}
+
+/// The blob of a load's root.
+fn root_of<E: Env, S: PagableStorage<E>>(
+    alloc: Global,
+    pager: &mut Pager<E, S>,
+    load: LoadNumber,
+) -> Result<Arc<PagableData>, Error>
+where
+    E::Node: NodeSet<E>,
+{
+    match pager.load_fetch(alloc, load, Want::Root)? {
+        Either::Right(blob) => Ok(blob),
+        Either::Left(_) => Err(Error::NoSuchHandle),
+    }
+}
+
+/// Ends a load with this value, which is given up where the load stays open.
+fn ended<E: Env, S: PagableStorage<E>>(
+    alloc: Global,
+    pager: &mut Pager<E, S>,
+    load: LoadNumber,
+    value: E::Node,
+) -> Result<HandleNumber, Error>
+where
+    E::Node: NodeSet<E>,
+{
+    match pager.load_end(alloc, load, value) {
+        Ok(pinned) => Ok(pinned),
+        Err((refusal, _)) => Err(refusal),
+    }
 }
 
 /// Pages out the entries that stand in the list at the call, from the last to the first, and stops at the first

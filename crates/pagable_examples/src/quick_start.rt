@@ -20,7 +20,7 @@ pub fn page_out_and_read_back(alloc: Global, text: &str) -> Result<bool, Error> 
     page_out_pending(alloc, &mut pager)?;
 
     // A pin reads it back.
-    let (pinned, _) = pin(alloc, &mut pager, cell)?;
+    let pinned = pin(alloc, &mut pager, cell)?;
     let found = pager.value(pinned)?;
     Ok(found.is_some_and(|node| node.as_str() == text))
 }

@@ -207,7 +207,7 @@ module _ {N B W : Type 0} (m : Seen N B W) (u u' : World) where
 
 -- ---- the plain world, as trees feel it
 
-pub core-goes : {w w' : Core} (c : Change) → HandlesAreWhole w → Goes c w w' → CoreGoes c w w'
+core-goes : {w w' : Core} (c : Change) → HandlesAreWhole w → Goes c w w' → CoreGoes c w w'
 core-goes {w} {w'} c whole g =
     record {
       nodes = g.nodes;

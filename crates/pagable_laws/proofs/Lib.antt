@@ -26,7 +26,7 @@ mod Joining
 mod Nexts
 pub mod Goes
 pub mod Outlasting
-mod PinSteps
+pub mod PinSteps
 pub mod GoodReferences
 mod Calling
 mod Called
@@ -40,7 +40,7 @@ mod ReadingStepsWithin
 pub mod ReadingStepsHanding
 mod ReadingStepsHeld
 mod ReadingStepsGive
-mod WalkSteps
+pub mod WalkSteps
 mod EventSteps
 mod Once
 mod Standing
@@ -58,7 +58,7 @@ pub mod Arriving
 mod Decoding
 mod Fitting
 mod Following
-mod Naming
+pub mod Naming
 mod Held
 mod KeysGoing
 pub mod Sparing
@@ -111,4 +111,3 @@ mod LoadsLive
 mod LoadsReady
 mod OnePiece
 mod DeepLoads
-mod LoadRuns

@@ -41,14 +41,14 @@ AreLow w = AreUpTo w.last.handle w.rows
 pub low-whole : {w : Core} → HandlesAreWhole w → AreLow w
 low-whole whole h among = (whole.numbered h among).1
 
-low-changed : (last : ℕ) (rows : List HandleRow) (test : HandleRow → Bool) (f : HandleRow → HandleRow) → ((h : HandleRow) → (f h).number ≡ h.number)
+pub low-changed : (last : ℕ) (rows : List HandleRow) (test : HandleRow → Bool) (f : HandleRow → HandleRow) → ((h : HandleRow) → (f h).number ≡ h.number)
     → AreUpTo last rows → AreUpTo last (changed test f rows)
 low-changed last rows test f same low h among =
     let a = among-changed (λ h. if test h then f h else h) rows h among in
     subst (λ (k : HandleNumber). k.0 ≤ last) (sym (ap (λ (r : HandleRow). r.number) a.2 ∙ after-number test f same a.0)) (low a.0 a.1)
 
 -- the handle that was made last
-new-handle : (w : Core) (node : NodeNumber) (mode : Mode) (owner : Owner) → AreLow w → Stands (w.last.handle + 1) (w.rows ++ row_of (w.last.handle + 1) node mode owner ∷ []) (w.last.handle + 1) (row_of (w.last.handle + 1) node mode owner)
+pub new-handle : (w : Core) (node : NodeNumber) (mode : Mode) (owner : Owner) → AreLow w → Stands (w.last.handle + 1) (w.rows ++ row_of (w.last.handle + 1) node mode owner ∷ []) (w.last.handle + 1) (row_of (w.last.handle + 1) node mode owner)
 new-handle w node mode owner low = stands-new w.last.handle w.rows (row_of (w.last.handle + 1) node mode owner) low refl
 
 pins-by : {last : ℕ} (w : Core) {row : HandleRow} (k : HandleNumber) (q : ℕ) → k.0 ≡ q → Stands last w.rows q row → is_pinning row.mode ≡ true → HasPin w k
@@ -65,13 +65,13 @@ module _ (w w' : Core) (low : AreLow w) where
       let s = new-handle (with_mode w h modes.LoosePinned) row.node modes.Pinned me low' in
       pins-by w' k (w.last.handle + 1) c.pins.2.1.above (stands-alike {w = with_handle (with_mode w h modes.LoosePinned) row.node modes.Pinned me} c.pins.2.2 s) refl
 
-  clone-call : (me : Owner) (h k : HandleNumber) → CloneCall w me h (Ok k) w' → (row : HandleRow) × (row_at w h ≡ Some row) × Stands w'.last.handle w'.rows (w.last.handle + 1) (row_of (w.last.handle + 1) row.node row.mode me)
+  pub clone-call : (me : Owner) (h k : HandleNumber) → CloneCall w me h (Ok k) w' → (row : HandleRow) × (row_at w h ≡ Some row) × Stands w'.last.handle w'.rows (w.last.handle + 1) (row_of (w.last.handle + 1) row.node row.mode me)
   clone-call me h k c =
       let row : HandleRow = c.made.0 in
       (row, c.made.1, stands-alike {w = with_handle w row.node row.mode me} c.made.3 (new-handle w row.node row.mode me low))
 
   -- what the load owned goes, and not the pin
-  owned-none : (l : LoadNumber) → is_owned_in w (owners.Load l) (w.last.handle + 1) ≡ false
+  pub owned-none : (l : LoadNumber) → is_owned_in w (owners.Load l) (w.last.handle + 1) ≡ false
   owned-none l = let none = none-above w.last.handle (w.last.handle + 1) w.rows low (omega arith) in rw none refl
 
   pin-stays : (u : Core) (h : HandleNumber) (node : NodeNumber) (me : Owner) (k : HandleNumber) (given : ℕ → Bool) → NotValues me → AreLow u → u.last.handle ≡ w.last.handle → k.0 ≡ w.last.handle + 1 → given (w.last.handle + 1) ≡ false
@@ -93,13 +93,13 @@ module _ (w w' : Core) (low : AreLow w) where
         | inr (there, f) ↦ pin-stays (without_load w l) h node me k (is_owned_in w (owners.Load l)) free low refl i.next.above (owned-none l) f
       ]
 
-not-loose : (mode : Mode) → is_loose mode ≡ false → is_pinning mode ≡ true
+pub not-loose : (mode : Mode) → is_loose mode ≡ false → is_pinning mode ≡ true
 not-loose modes.LoosePinned is = absurd (cc)
 not-loose modes.LooseUnpinned is = absurd (cc)
 not-loose modes.Pinned is = refl
 not-loose modes.Shared is = refl
 
-low-handle : (w m : Core) (node : NodeNumber) (mode : Mode) (owner : Owner) → AreLow w → Alike (with_handle w node mode owner) m → AreLow m
+pub low-handle : (w m : Core) (node : NodeNumber) (mode : Mode) (owner : Owner) → AreLow w → Alike (with_handle w node mode owner) m → AreLow m
 low-handle w m node mode owner low a h among =
     let last : m.last.handle ≡ w.last.handle + 1 = ap (λ (l : Last). l.handle) a.last in
     let there : Among (w.rows ++ row_of (w.last.handle + 1) node mode owner ∷ []) h = subst (λ rows. Among rows h) a.rows among in

@@ -57,7 +57,7 @@ no-end : {X : Type 0} {answer : Option X} {x : X} → answer ≡ None → answer
 no-end none is = let e = sym none ∙ is in cc
 
 -- what a load's step leaves
-pub held-after : {N : Type 0} {v : Values N} {w w' : Core} (reading : Reading) (answer : Option (LoadAnswer N)) (frames : List Frame) {c : Change} → CoreGoes c w w' → answer ≡ None → FramesHeld w reading.load reading.frames → ReadingFeels v w reading answer frames w' c → FramesHeld w' reading.load frames
+held-after : {N : Type 0} {v : Values N} {w w' : Core} (reading : Reading) (answer : Option (LoadAnswer N)) (frames : List Frame) {c : Change} → CoreGoes c w w' → answer ≡ None → FramesHeld w reading.load reading.frames → ReadingFeels v w reading answer frames w' c → FramesHeld w' reading.load frames
 held-after {w' = w'} reading answer frames goes none held (reads-root load blob none_read at stored a is) =
     subst (λ fs. FramesHeld w' reading.load fs) (sym is) (new-held (root_frame load.key reading.node_type blob) [] refl (none-held w' reading.load [] refl))
 held-after {w' = w'} reading answer frames goes none held (reads-blob kind key blob needs stored a is) =

@@ -53,7 +53,7 @@ some-value None is = absurd (cc)
 some-value (Some x) is = (x, refl)
 
 module _ {N E : Type 0} {v : Values N} {s : PagerState N E} where
-  pub stands-here : {n : ℕ} {t : Tree} {x : N} → NodeStands v s n t → s.values n ≡ Some x → ValueStands v s x t
+  stands-here : {n : ℕ} {t : Tree} {x : N} → NodeStands v s n t → s.values n ≡ Some x → ValueStands v s x t
   stands-here (here n y own t held typed means stands fits) is =
       let same : y ≡ _ = same_some _ _ (sym held ∙ is) in
       subst (λ z. ValueStands v s z t) same (record { own = own; typed = typed; means = means; stands = stands })

@@ -1,6 +1,6 @@
 mod NextStep
 mod Needed
-mod Stepped
+pub mod Stepped
 mod Lowering
 mod Driven
 pub mod Pinned

@@ -7,3 +7,4 @@ pub mod Stepping
 pub mod Ending
 pub mod Starting
 pub mod Running
+pub mod Working

@@ -10,6 +10,7 @@ pub mod running;
 mod stack;
 pub mod starting;
 pub mod step;
+pub mod working;
 
 pub use access::Access;
 pub use decoding::{Decoded, decode};
@@ -17,3 +18,4 @@ pub use got::GotReferences;
 pub use over::{pin_over, read_over};
 pub use reading::{Frame, Need, Reading};
 pub use starting::PinStart;
+pub use working::{Taken, WorkerAccess};

@@ -21,6 +21,7 @@ pub mod pins;
 pub mod places;
 pub mod releases;
 pub mod stores;
+pub mod workers;
 
 use indexmap::IndexMap;
 use pagable_codec::{Env, NodeSet};

@@ -69,7 +69,7 @@ fn load(
 ) -> anyhow::Result<Vec<HandleNumber>> {
     let mut pins = Vec::with_capacity(alloc, cells.len())?;
     for cell in cells {
-        pins.push(paging::pin(alloc, pager, *cell)?.0)?;
+        pins.push(paging::pin(alloc, pager, *cell)?)?;
     }
     Ok(pins)
 }

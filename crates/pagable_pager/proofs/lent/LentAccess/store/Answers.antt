@@ -1,3 +1,4 @@
+use Rattle.pagable_pager.specs.View.{telling}
 use Rattle.pagable_pager.proofs.Lending.{stored_key}
 use Rattle.pagable_pager.proofs.lent.LentAccess.store.Goals as goal
 

@@ -1,0 +1,94 @@
+//! What a page-out worker asks of an access besides: each call one step for the worker.
+
+ghost use Rattle.std.specs.Prelude.{◌≡◌, ◌≤◌, length, IfOk, IfErr, IfSome, IfNone};
+ghost use Rattle.pagable_model.specs.declared.error.Error.TheVariants as errors;
+ghost use Rattle.pagable_model.specs.declared.numbers.HandleNumber.{HandleNumber as Handle};
+ghost use Rattle.pagable_world.specs.World.{Alike};
+ghost use Rattle.pagable_world.specs.Cascade.{FallsAnyhow};
+ghost use Rattle.pagable_world.specs.Calls.{ScheduleCall, TakeCall};
+ghost use Rattle.pagable_world.specs.Workers.{claim_fault, is_workers_at, WorkerEnds};
+ghost use Rattle.pagable_world.specs.Access.{Called, Told, WorkerStarts, EntryHas};
+ghost use Rattle.pagable_loads.specs.Telling.{Tells, values_at};
+ghost use Rattle.pagable_loads.specs.Working.{fault_in, TakesReference, StartsEntry, RefusesEntry, acting_after, as_caller};
+
+use crate::access::Access;
+use pagable_codec::{Env, NodeSet};
+use pagable_flavors::DataKey;
+use pagable_model::{
+    ArcRef, Error, HandleNumber, LoadNumber, NodeNumber, OptionalDataKey, WorkerNumber,
+};
+
+/// What a worker got of a reference that it claimed.
+#[derive(Drop)]
+pub enum Taken {
+    /// A handle of the reference's mode, and the handle that pins the node.
+    Held(HandleNumber, HandleNumber),
+    /// A handle of the reference's mode, and the load of its cell that has begun, under this key.
+    Begun(HandleNumber, LoadNumber, DataKey),
+}
+
+/// The calls of a pager for one worker.
+pub trait WorkerAccess<E: Env>: Access<E>
+where
+    E::Node: NodeSet<E>,
+{
+    /// Whether a reference can be claimed, whoever owns its handle. Refused with NoSuchHandle where the handle isn't live or isn't at the reference's node, and with
+    /// WrongMode and WrongKind where mode or type don't fit the kind.
+    fn check_reference(&self, reference: ArcRef) -> Result<(), Error>
+        ensures { Tells (Self.told self.now) (λ s. fault_in result ≡ claim_fault s.core reference) };
+
+    /// Clones a reference's handle for the worker and pins the clone, or begins a load by it. Refused as the clone, the pin and the load's begin are.
+    fn take_reference(&mut self, reference: ArcRef) -> Result<Taken, Error>
+        ensures step { Told (Self.told self.old) (Self.told self.new) (λ s t. Called (values_at E.Node.NodeSet E.Env E.Hash.KeyHash (Self.acting self.old).environment) (λ w'. TakesReference s.core (Self.acting self.old).me reference result w') s t) }
+        ensures acting { Self.acting self.new ≡ Self.acting self.old }
+        ensures lender { Self.lender self.new ≡ Self.lender self.old };
+
+    /// All handles of a worker at a node are given up.
+    fn give_up(&mut self, worker: WorkerNumber, node: NodeNumber)
+        ensures step { Told (Self.told self.old) (Self.told self.new) (λ s t. Called (values_at E.Node.NodeSet E.Env E.Hash.KeyHash (Self.acting self.old).environment) (λ w'. FallsAnyhow s.core s.core (is_workers_at s.core worker.0 node.0) w') s t) }
+        ensures acting { Self.acting self.new ≡ Self.acting self.old }
+        ensures lender { Self.lender self.new ≡ Self.lender self.old };
+
+    /// A loose unpinned handle moves to the list's end. Refused with NoSuchHandle, NotYours, WrongMode and OutOfMemory.
+    fn schedule_for_paging(&mut self, handle: HandleNumber) -> Result<(), Error>
+        ensures step { Told (Self.told self.old) (Self.told self.new) (λ s t. Called (values_at E.Node.NodeSet E.Env E.Hash.KeyHash (Self.acting self.old).environment) (λ w'. ScheduleCall s.core (Self.acting self.old).me handle result w') s t) }
+        ensures acting { Self.acting self.new ≡ Self.acting self.old }
+        ensures lender { Self.lender self.new ≡ Self.lender self.old };
+
+    /// A worker begins, and the calls are its own from now on. Refused with OutOfMemory; then nothing changes.
+    fn worker_begin(&mut self) -> Result<WorkerNumber, Error>
+        ensures begins { IfOk result (λ n. Told (Self.told self.old) (Self.told self.new) (λ s t. WorkerStarts (values_at E.Node.NodeSet E.Env E.Hash.KeyHash (Self.acting self.old).environment) s.core s n.0 t)) }
+        ensures refused { IfErr result (λ e. (e ≡ errors.OutOfMemory) × Told (Self.told self.old) (Self.told self.new) (λ s t. Called (values_at E.Node.NodeSet E.Env E.Hash.KeyHash (Self.acting self.old).environment) (λ w'. Alike s.core w') s t)) }
+        ensures acting { Self.acting self.new ≡ acting_after (λ n. n) result (Self.acting self.old) }
+        ensures lender { Self.lender self.new ≡ Self.lender self.old };
+
+    /// A worker begins for the entry at this place of the list, counted from 0, which moves to it; and the calls are its own from now on. Answers the reference that
+    /// it pages out: the entry's handle, as a loose one of its cell. Refused with NoSuchHandle where there is no such place, with WrongKind where the cell's type is
+    /// too great a number for its kinds, and with OutOfMemory; then nothing changes.
+    fn worker_listed(&mut self, place: usize) -> Result<(WorkerNumber, ArcRef), Error>
+        ensures begins { IfOk result (λ b. Told (Self.told self.old) (Self.told self.new) (λ s t. StartsEntry (values_at E.Node.NodeSet E.Env E.Hash.KeyHash (Self.acting self.old).environment) s place b.0 b.1 t)) }
+        ensures refused { IfErr result (λ e. Told (Self.told self.old) (Self.told self.new) (λ s t. RefusesEntry (values_at E.Node.NodeSet E.Env E.Hash.KeyHash (Self.acting self.old).environment) s place e t)) }
+        ensures acting { Self.acting self.new ≡ acting_after (λ b. b.0) result (Self.acting self.old) }
+        ensures lender { Self.lender self.new ≡ Self.lender self.old };
+
+    /// A worker has answered: what it still has is given up, its loads are closed, and the calls are the caller's again.
+    fn worker_end(&mut self, worker: WorkerNumber)
+        ensures step { Told (Self.told self.old) (Self.told self.new) (λ s t. Called (values_at E.Node.NodeSet E.Env E.Hash.KeyHash (Self.acting self.old).environment) (λ w'. WorkerEnds s.core worker.0 w') s t) }
+        ensures acting { Self.acting self.new ≡ as_caller (Self.acting self.old) }
+        ensures lender { Self.lender self.new ≡ Self.lender self.old };
+
+    /// How many entries the list has.
+    fn pending(&self) -> usize
+        ensures { Tells (Self.told self.now) (λ s. result ≡ length s.core.list) };
+
+    /// The key of the cell of the entry at this place of the list, which stays there; or None past the list's end.
+    fn entry_key(&self, place: usize) -> Option<OptionalDataKey>
+        ensures some { IfSome result (λ key. Tells (Self.told self.now) (λ s. (h : Handle) × EntryHas s.core place h key)) }
+        ensures none { IfNone result (Tells (Self.told self.now) (λ s. length s.core.list ≤ place)) };
+
+    /// The entry at this place of the list moves to the one who asks; or None past the list's end.
+    fn take_pending(&mut self, place: usize) -> Option<HandleNumber>
+        ensures step { Told (Self.told self.old) (Self.told self.new) (λ s t. Called (values_at E.Node.NodeSet E.Env E.Hash.KeyHash (Self.acting self.old).environment) (λ w'. TakeCall s.core (Self.acting self.old).me place result w') s t) }
+        ensures acting { Self.acting self.new ≡ Self.acting self.old }
+        ensures lender { Self.lender self.new ≡ Self.lender self.old };
+}
