@@ -19,7 +19,7 @@ use pagable_model::{
 };
 
 /// What a worker got of a reference that it claimed.
-#[derive(Drop)]
+#[derive(Clone, Copy)]
 pub enum Taken {
     /// A handle of the reference's mode, and the handle that pins the node.
     Held(HandleNumber, HandleNumber),

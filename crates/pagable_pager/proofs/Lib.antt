@@ -1,4 +1,3 @@
-mod AtWork
 pub mod Spared
 pub mod Stored
 pub mod Shed
@@ -10,6 +9,3 @@ pub mod Asking
 pub mod Putting
 pub mod Births
 pub mod Adopting
-mod Working
-pub mod Lending
-pub mod Taking

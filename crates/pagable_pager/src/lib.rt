@@ -2,9 +2,7 @@
 #![tactic(auto)]
 
 pub mod cache;
-pub mod lent;
 pub mod pager;
 
 pub use cache::{ArcCell, DeserializedArcCache};
-pub use lent::Lent;
 pub use pager::Pager;

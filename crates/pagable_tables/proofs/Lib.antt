@@ -5,7 +5,7 @@ mod Leaving
 mod Left
 mod Standing
 pub mod Worlds
-pub mod Entries
+mod Entries
 mod Coming
 mod Beginning
 mod Ended
@@ -53,6 +53,3 @@ pub mod Adoptions
 mod Joined
 mod Upheld
 pub mod Installed
-mod GivenAll
-mod LastGiven
-mod LeftWork

@@ -22,7 +22,7 @@ use Rattle.pagable_tables.proofs.Coming.{no-value}
 use Rattle.pagable_model.specs.declared.numbers.LoadNumber.{LoadNumber}
 use Rattle.pagable_world.specs.declared.handles.Owner.TheVariants as owners
 use Rattle.pagable_world.specs.declared.rows.Mode.TheVariants as modes
-use Rattle.pagable_tables.proofs.Regiven.{loaded, passes-here, passes-none}
+use Rattle.pagable_tables.proofs.Regiven.{loaded, loaded-here, loaded-none}
 use Rattle.pagable_tables.proofs.Left.{times-left}
 use Rattle.pagable_tables.proofs.Next.{within-less}
 use Rattle.pagable_tables.proofs.Dropped.{owned-given}
@@ -188,8 +188,8 @@ eager-pins kind eager = split (is_shared_kind kind) (is_loose_kind kind) eager
     split false true e = absurd (cc)
 
 pub loaded-append : (l : LoadNumber) (q : ℕ) (rows more : List HandleRow) → loaded l q rows ≡ true → loaded l q (rows ++ more) ≡ true
-loaded-append l q [] more own = absurd (let a = passes-none (is_owned_by (owners.Load l)) q in cc)
-loaded-append l q (x ∷ xs) more own = passes-here (is_owned_by (owners.Load l)) q x (xs ++ more) ∙ split (is_handle q x) (sym (passes-here (is_owned_by (owners.Load l)) q x xs) ∙ own) (loaded-append l q xs more)
+loaded-append l q [] more own = absurd (let a = loaded-none l q in cc)
+loaded-append l q (x ∷ xs) more own = loaded-here l q x (xs ++ more) ∙ split (is_handle q x) (sym (loaded-here l q x xs) ∙ own) (loaded-append l q xs more)
   where
     split : (b : Bool) → (if b then is_owner (owners.Load l) x.owner else loaded l q xs) ≡ true → (loaded l q xs ≡ true → loaded l q (xs ++ more) ≡ true) → (if b then is_owner (owners.Load l) x.owner else loaded l q (xs ++ more)) ≡ true
     split true own rest = own

@@ -17,4 +17,3 @@ pub mod CacheCalls
 pub mod LoadCalls
 pub mod AdoptCalls
 pub mod EndCalls
-pub mod WorkerCalls

@@ -13,4 +13,3 @@ pub mod Offering
 pub mod Bearing
 pub mod Closing
 pub mod Ready
-pub mod Giving

@@ -7,7 +7,7 @@ use Rattle.std.specs.Option.{option_map}
 use Rattle.pagable_world.specs.Plain.{Identity}
 use Rattle.pagable_world.specs.World.{Slot, failed, is_identity}
 use Rattle.pagable_world.specs.Workers.{is_open_outcome, with_outcome}
-use Rattle.pagable_tables.specs.ByNumber.{is_same}
+use Rattle.pagable_walk.specs.Slots.{is_same}
 use Rattle.pagable_walk.specs.Slots.{Changes, failed_by, after_failure, open_worker}
 use Rattle.pagable_walk.proofs.Held.{same-as, same-identity, same-pair}
 use Rattle.pagable_walk.proofs.Ends.{outcome-less}

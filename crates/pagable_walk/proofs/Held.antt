@@ -6,7 +6,7 @@ use Rattle.std.specs.Prelude.{◌⊎◌, Result, Ok, Err, OnOk, OnErr}
 use Rattle.indexmap.specs.IndexMap.{IndexMap, get}
 use Rattle.pagable_world.specs.Plain.{Identity, SameAt, updated, if_there}
 use Rattle.pagable_world.specs.World.{Slot, is_identity}
-use Rattle.pagable_tables.specs.ByNumber.{is_same}
+use Rattle.pagable_walk.specs.Slots.{is_same}
 use Rattle.pagable_walk.specs.declared.results.Trees.{Ghosts}
 use Rattle.pagable_walk.specs.declared.slots.ArcSerSlot.{ArcSerSlot}
 use Rattle.pagable_walk.specs.declared.results.SlotResult.{SlotResult}

@@ -4,5 +4,12 @@ pub mod Ends
 pub mod Claims
 pub mod Failing
 pub mod Stacks
-pub mod Turning
+pub mod Ways
 pub mod Below
+pub mod Telling
+pub mod Turning
+pub mod Forming
+pub mod Pinning
+pub mod Closing
+pub mod Stepping
+pub mod Joined

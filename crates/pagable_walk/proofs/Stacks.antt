@@ -1,21 +1,55 @@
--- What a worker has to do, by its stack, after an entry came.
-use Rattle.std.proofs.Common.{ℕ, ◌≡◌, ◌≤◌, ◌<◌, ◌+◌, List, [], ◌∷◌, ◌++◌, length, drop, get_or, refl, sym, ap, ◌∙◌}
-use Rattle.std.proofs.lemmas.List.{at_drop_more, at_drop_all}
+-- What a worker has to do, after a reference was done.
+use Rattle.std.proofs.Common.{ℕ, ◌≡◌, ◌≤◌, ◌<◌, ◌+◌, List, [], ◌∷◌, ◌++◌, length, drop, take, map, get_or, refl, sym, ap, ◌∙◌, arith, Some, slice_get}
+use Rattle.std.specs.Prelude.{Option, None}
+use Rattle.std.proofs.lemmas.List.{at_drop_more, at_drop_all, take_more, length-append, map-append}
+use Rattle.std.proofs.lemmas.Option.{get_or_from_slice_get, slice_get_within}
 use Rattle.pagable_model.specs.declared.numbers.ArcRef.{ArcRef}
+use Rattle.pagable_model.specs.declared.numbers.HandleNumber.{HandleNumber}
+use Rattle.pagable_world.specs.Kinds.{identity_of}
 use Rattle.pagable_world.specs.Workers.{place_below, next_start}
-use Rattle.pagable_world.specs.World.{Open, Reading, Todo, to_start}
+use Rattle.pagable_world.specs.World.{Open, Todo, to_start}
 use Rattle.pagable_walk.specs.declared.results.Trees.{Ghosts}
-use Rattle.pagable_walk.specs.declared.tasks.Task.{Task}
-use Rattle.pagable_walk.specs.Tasks.{todo_of, todos_onto, todos}
+use Rattle.pagable_walk.specs.declared.results.SlotResult.{SlotResult}
+use Rattle.pagable_walk.specs.declared.tasks.Waiting.{Waiting}
+use Rattle.pagable_walk.specs.Failing.{back_of}
+use Rattle.pagable_walk.specs.Found.{ids_of}
+use Rattle.pagable_walk.specs.Tasks.{waiting_todo, todos_onto, todos}
 
-module _ {N R E : Type 0} {g : Ghosts E} (see : R → Reading) where
-  onto-more : (ts : List (Task N R E g)) (t : Task N R E g) (below : List Todo) → todos_onto see (ts ++ t ∷ []) below ≡ todo_of see t ∷ todos_onto see ts below
+module _ {E : Type 0} {g : Ghosts E} where
+  onto-more : (ws : List (Waiting E g)) (w : Waiting E g) (below : List Todo) → todos_onto (ws ++ w ∷ []) below ≡ waiting_todo w ∷ todos_onto ws below
   unfolding todos_onto
-  onto-more [] t below = refl
-  onto-more (x ∷ ts) t below = onto-more ts t (todo_of see x ∷ below)
+  onto-more [] w below = refl
+  onto-more (x ∷ ws) w below = onto-more ws w (waiting_todo x ∷ below)
 
-  pub todos-more : (ts : List (Task N R E g)) (t : Task N R E g) → todos see (ts ++ t ∷ []) ≡ todo_of see t ∷ todos see ts
-  todos-more ts t = onto-more ts t []
+  pub todos-more : (ws : List (Waiting E g)) (w : Waiting E g) → todos (ws ++ w ∷ []) ≡ waiting_todo w ∷ todos ws
+  todos-more ws w = onto-more ws w []
+
+  pub todos-none : (ws : List (Waiting E g)) → length ws ≡ 0 → todos ws ≡ []
+  unfolding todos_onto
+  todos-none [] none = refl
+  todos-none (w ∷ ws) none = absurd (omega arith)
+
+  -- where something waits no entry goes back
+  onto-some : (ws : List (Waiting E g)) (x : Todo) (below : List Todo) (entry : Option HandleNumber) → back_of entry (todos_onto ws (x ∷ below)) ≡ None
+  unfolding todos_onto
+  onto-some [] x below entry = refl
+  onto-some (w ∷ ws) x below entry = onto-some ws (waiting_todo w) (x ∷ below) entry
+
+  pub back-none : (ws : List (Waiting E g)) (entry : Option HandleNumber) → 0 < length ws → back_of entry (todos ws) ≡ None
+  unfolding todos_onto
+  back-none [] entry some = absurd (omega arith)
+  back-none (w ∷ ws) entry some = onto-some ws (waiting_todo w) [] entry
+
+  -- the identities of one result more
+  pub ids-more : (refs : List ArcRef) (xs ys : List (SlotResult E g)) (r : ArcRef) (x : SlotResult E g) → ids_of xs ≡ map identity_of (take (length xs) refs) → slice_get refs (length xs) ≡ Some r → x.identity ≡ identity_of r → ys ≡ xs ++ x ∷ []
+      → ids_of ys ≡ map identity_of (take (length ys) refs)
+  ids-more refs xs ys r x each at own is =
+      let lt = slice_get_within refs (length xs) r at in
+      let next : get_or refs (length xs) r ≡ r = get_or_from_slice_get refs (length xs) r r at in
+      let more : length ys ≡ length xs + 1 = ap length is ∙ length-append xs (x ∷ []) in
+      ap ids_of is ∙ map-append (λ (r : SlotResult E g). r.identity) xs (x ∷ []) ∙ ap (λ is. is ++ x.identity ∷ []) each ∙ ap (λ i. map identity_of (take (length xs) refs) ++ i ∷ []) own
+      ∙ sym (map-append identity_of (take (length xs) refs) (r ∷ []))
+      ∙ sym (ap (λ n. map identity_of (take n refs)) more ∙ ap (map identity_of) (take_more refs (length xs) r lt ∙ ap (λ z. take (length xs) refs ++ z ∷ []) next))
 
 -- what is started next, of so many references that are done
 pub none-next : (place m n : ℕ) (rs : List ArcRef) (todo : List Todo) → m ≡ n → length rs ≤ n → todo ≡ next_start place (drop m rs) ++ todo

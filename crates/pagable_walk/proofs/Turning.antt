@@ -1,18 +1,32 @@
--- A claim of a table is a worker's claim.
-use Rattle.std.proofs.Common.{ℕ, ◌≡◌, List, ◌∷◌, Some, None, ◌⊎◌, inl, inr, refl, arith}
-use Rattle.std.specs.Prelude.{Result, Ok, Err}
+-- A claim of a table is a worker's claim, and a turn of the worker.
+use Rattle.std.proofs.Common.{ℕ, ◌≡◌, List, ◌∷◌, Some, None, ◌⊎◌, inl, inr, refl, sym, subst, ◌∙◌, arith}
+use Rattle.std.specs.Prelude.{Result, Ok, Err, IfOk}
 use Rattle.pagable_model.specs.declared.error.Error.TheVariants as errors
 use Rattle.pagable_model.specs.declared.numbers.ArcRef.{ArcRef}
 use Rattle.pagable_world.specs.Plain.{Error}
+use Rattle.pagable_world.specs.declared.handles.Owner.{Owner}
 use Rattle.pagable_world.specs.declared.events.Claim.{Claim}
 use Rattle.pagable_world.specs.declared.events.Claim.TheVariants as claims
 use Rattle.pagable_world.specs.Kinds.{identity_of}
-use Rattle.pagable_world.specs.World.{Core, Shelf, Todo, to_start, SameShelf, Alike}
-use Rattle.pagable_world.specs.Workers.{claim_fault, Claims, Finds, Turns, IsTooDeep, with_wait}
+use Rattle.pagable_world.specs.World.{Core, Shelf, Todo, to_start, SameShelf, Alike, Values}
+use Rattle.pagable_world.specs.Workers.{Site, claim_fault, Claims, Finds, Turns, IsTooDeep, with_wait}
+use Rattle.pagable_world.specs.declared.events.Took.TheVariants as took
+use Rattle.pagable_world.specs.Pager.{PagerState, HandlesAreWhole}
+use Rattle.pagable_laws.proofs.Trees.{same_some}
+use Rattle.pagable_laws.proofs.Naming.{may-claim, claimed-stands}
+use Rattle.pagable_loads.specs.Working.{fault_in}
 use Rattle.pagable_walk.specs.Slots.{Would, claimed_shelf, RefusesClaim, ClaimsThere}
-use Rattle.pagable_walk.specs.Turns.{site, claim_todo}
+use Rattle.pagable_walk.specs.declared.results.Trees.{Ghosts}
+use Rattle.pagable_walk.specs.declared.table.Found.{Found}
+use Rattle.pagable_walk.specs.declared.table.Found.TheVariants as founds
+use Rattle.pagable_walk.specs.declared.tasks.Task.{Task}
+use Rattle.pagable_walk.specs.declared.tasks.Task.TheVariants as tasks
+use Rattle.pagable_walk.specs.declared.tasks.Turn.TheVariants as comes
+use Rattle.pagable_walk.specs.Table.{found_as, IsFoundOf}
+use Rattle.pagable_walk.specs.Tasks.{IsPlain}
+use Rattle.pagable_walk.specs.Turns.{site, claim_todo, ClaimFits, ClaimLeaves, IsOfKind, TaskFits, Fits, Turned, TurnsTo}
 
-alike : (w : Core) → Alike w w
+pub alike : (w : Core) → Alike w w
 alike w =
     record {
       rows = refl;
@@ -52,3 +66,57 @@ module _ (core : Core) (v : ℕ) (s s' : Shelf) (r : ArcRef) (place : ℕ) (belo
   pub refuses : (e : Error) → claim_fault core r ≡ Some e → SameShelf (with_wait s v None) s'
       → Claims v (site core s (to_start r place ∷ below)) r place below (Err e) (site core s' (claim_todo r place below (Err e)))
   refuses e h same = record { finds = tt; refused = (inl h, turns _ _ same) }
+
+-- ---- the turn
+
+kind-claimed : (w : Core) (r : ArcRef) → HandlesAreWhole w → claim_fault w r ≡ None → IsOfKind w r
+kind-claimed w r whole may =
+    let c = may-claim w r may in
+    record { given = (claimed-stands whole r may).node_given; typed = λ t is. same_some _ _ (sym is ∙ c.typed) }
+
+module _ {X : Type 0} {g : Ghosts X} where
+  pub claim-fits : (v : ℕ) (s s' : Shelf) (r : ArcRef) (place : ℕ) (claim : Result (Found X g) Error) → ClaimsThere v s (identity_of r) place (found_as claim) s' → IfOk claim (IsFoundOf (identity_of r)) → ClaimFits r place claim
+  claim-fits v s s' r place (Ok founds.Claimed) there own = there.finds.0.0
+  claim-fits v s s' r place (Ok (founds.Known found)) there own = (own, there.finds.0.0)
+  claim-fits v s s' r place (Ok founds.Waiting) there own = tt
+  claim-fits v s s' r place (Ok founds.AlreadyFailed) there own = tt
+  claim-fits v s s' r place (Err e) there own = tt
+
+  -- a task that needs nothing fits
+  pub plain-fits : (n : ℕ) (w : Core) (t : Task X g) → IsPlain t → TaskFits n w t
+  plain-fits n w (tasks.Start r place) plain = tt
+  plain-fits n w (tasks.Pin r place) plain = absurd plain
+  plain-fits n w (tasks.Load r place through reading) plain = absurd plain
+  plain-fits n w (tasks.Write r place through pin) plain = absurd plain
+  plain-fits n w (tasks.Finish o) plain = tt
+  plain-fits n w (tasks.Item i) plain = tt
+  plain-fits n w (tasks.SetKey d through) plain = tt
+  plain-fits n w (tasks.Publish d) plain = tt
+  plain-fits n w (tasks.Release d) plain = tt
+  plain-fits n w (tasks.Fail e back) plain = tt
+
+  claim-leaves : (n : ℕ) (w : Core) (shelf : Shelf) (s' : Site) (r : ArcRef) (place : ℕ) (below : List Todo) (claim : Result (Found X g) Error) (task : Task X g) → HandlesAreWhole w → ClaimLeaves r place claim task
+      → Claims n (site w shelf (to_start r place ∷ below)) r place below (found_as claim) s' → TaskFits n w task
+  claim-leaves n w shelf s' r place below (Ok founds.Claimed) task whole leaves c = subst (TaskFits n w) (sym leaves) (claimed-stands whole r c.finds.0, kind-claimed w r whole c.finds.0)
+  claim-leaves n w shelf s' r place below (Ok (founds.Known found)) task whole leaves c = plain-fits n w task leaves
+  claim-leaves n w shelf s' r place below (Ok founds.Waiting) task whole leaves c = plain-fits n w task leaves
+  claim-leaves n w shelf s' r place below (Ok founds.AlreadyFailed) task whole leaves c = plain-fits n w task leaves
+  claim-leaves n w shelf s' r place below (Err e) task whole leaves c = plain-fits n w task leaves
+
+  pub start-turns : {N E : Type 0} (v : Values N) (me : Owner) (n : ℕ) (shelf shelf' : Shelf) (r : ArcRef) (place : ℕ) (below after : List Todo) (checked : Result (Unit {0}) Error) (claim : Result (Found X g) Error) (task : Task X g)
+      → ((core : Core) (below : List Todo) → fault_in checked ≡ claim_fault core r → Claims n (site core shelf (to_start r place ∷ below)) r place below (found_as claim) (site core shelf' (claim_todo r place below (found_as claim))))
+      → after ≡ claim_todo r place below (found_as claim) → ClaimLeaves r place claim task
+      → (s : PagerState N E) → fault_in checked ≡ claim_fault s.core r → TurnsTo v me n shelf (tasks.Start r place) below shelf' (comes.Goes task) after s s
+  start-turns v me n shelf shelf' r place below after checked claim task claims is leaves s fault = record {
+    turns = λ fits.
+        let c = claims s.core below fault in
+        record {
+          step = took.Claim (identity_of r) (found_as claim);
+          does = record { does = (refl, subst (λ todo. Claims n (site s.core shelf (to_start r place ∷ below)) r place below (found_as claim) (site s.core shelf' todo)) (sym is) c) };
+          answers = refl;
+          moves = record { each = λ q x h. inl h; environment = refl };
+          writes = tt;
+          whole = fits.whole;
+          fits = claim-leaves n s.core shelf (site s.core shelf' (claim_todo r place below (found_as claim))) r place below claim task fits.whole.whole.handles leaves c;
+        };
+  }

@@ -1,5 +1,10 @@
 pub mod Results
+pub mod Found
 pub mod Slots
 pub mod Table
 pub mod Tasks
+pub mod Failing
 pub mod Turns
+pub mod Writing
+pub mod Ending
+pub mod Walking

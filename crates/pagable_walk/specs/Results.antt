@@ -4,27 +4,22 @@ use Rattle.pagable_model.specs.Blob.{key_of}
 use Rattle.pagable_model.specs.Merkle.{blob_of}
 use Rattle.pagable_world.specs.Plain.{ArcRef, Identity, type_of}
 use Rattle.pagable_world.specs.Kinds.{identity_of}
-use Rattle.pagable_world.specs.World.{Written, HasForm}
-use Rattle.pagable_pager.specs.View.{Spelling, values_of}
+use Rattle.pagable_world.specs.World.{Written, HasForm, Values}
 
--- these bytes, with these references in their order, are a form of the value
-pub record IsForm {N E : Type 0} (g : Spelling N E) (x : N) (written : Written) : Type 0 where
+-- some value of the identity's type has this form in some environment: these bytes, with these references in their order
+pub record HasFormOf {N E : Type 0} (values : E → Values N) (i : Identity) (written : Written) : Type 0 where
   pub environment : E
-  pub form : HasForm (values_of g environment) x written
+  pub x : N
+  pub typed : (values environment).node_type x ≡ type_of i.kind.0
+  pub form : HasForm (values environment) x written
 
 mutual
-  -- Below the identity, with this value and key, stands a finite tree of results: the value is of the identity's type and has a form, and the key is
-  -- that of the form over the keys of one result for each of its references.
-  pub data ResultStands {N E : Type 0} (g : Spelling N E) : Identity → N → ℕ → Type 0 where
-    stands-over : (i : Identity) (x : N) (written : Written) (keys : List ℕ) → g.type_of x ≡ type_of i.kind.0 → IsForm g x written → ResultsStand g written.references keys
-        → ResultStands g i x (key_of g.hash (blob_of written.bytes keys))
+  -- Below the identity with this key stands a finite tree of results: some value of the identity's type has a form, and the key is that of the form over the keys of
+  -- one result for each of its references. So a table keeps no value in memory.
+  pub data ResultStands {N E : Type 0} (hash : List ℕ → List ℕ) (values : E → Values N) : Identity → ℕ → Type 0 where
+    stands-over : (i : Identity) (written : Written) (keys : List ℕ) → HasFormOf values i written → ResultsStand hash values written.references keys → ResultStands hash values i (key_of hash (blob_of written.bytes keys))
 
   -- one such tree for each of these references, of its identity
-  pub data ResultsStand {N E : Type 0} (g : Spelling N E) : List ArcRef → List ℕ → Type 0 where
-    no-results : ResultsStand g [] []
-    more-results : (r : ArcRef) (x : N) (key : ℕ) (references : List ArcRef) (keys : List ℕ) → ResultStands g (identity_of r) x key → ResultsStand g references keys → ResultsStand g (r ∷ references) (key ∷ keys)
-
--- some value with such a tree below it; so that a table keeps no value in memory
-pub record HasResult {N E : Type 0} (g : Spelling N E) (i : Identity) (key : ℕ) : Type 0 where
-  pub x : N
-  pub stands : ResultStands g i x key
+  pub data ResultsStand {N E : Type 0} (hash : List ℕ → List ℕ) (values : E → Values N) : List ArcRef → List ℕ → Type 0 where
+    no-results : ResultsStand hash values [] []
+    more-results : (r : ArcRef) (key : ℕ) (references : List ArcRef) (keys : List ℕ) → ResultStands hash values (identity_of r) key → ResultsStand hash values references keys → ResultsStand hash values (r ∷ references) (key ∷ keys)

@@ -1,5 +1,5 @@
 -- The plain claims that a lent table tells; whom each waiting worker waits for; and what a claim finds.
-use Rattle.std.specs.Prelude.{ℕ, ◌≡◌, ◌≤◌, ◌+◌, ◌⊎◌, Bool, true, false, if◌then◌else◌, Option, Some, None, Result, IfOk, IfErr, nat_eq}
+use Rattle.std.specs.Prelude.{ℕ, ◌≡◌, ◌≤◌, ◌+◌, ◌⊎◌, ◌&&◌, Bool, true, false, if◌then◌else◌, Option, Some, None, Result, IfOk, IfErr, nat_eq}
 use Rattle.std.specs.Arc.{arc_value}
 use Rattle.std.specs.Option.{option_map}
 use Rattle.indexmap.specs.IndexMap.{IndexMap, get}
@@ -11,7 +11,6 @@ use Rattle.pagable_world.specs.declared.events.Claim.TheVariants as claims
 use Rattle.pagable_world.specs.World.{Written, Slot, Shelf, no_result, published, failed, SameShelf, is_identity}
 use Rattle.pagable_world.specs.World as world
 use Rattle.pagable_world.specs.Workers.{with_slot, with_wait, with_outcome, is_open_outcome, IsOpenSlot, IsPublished, ComesBack, ComesToEnd, IsTooDeep}
-use Rattle.pagable_tables.specs.ByNumber.{is_same}
 use Rattle.pagable_walk.specs.declared.results.Trees.{Ghosts}
 use Rattle.pagable_walk.specs.declared.results.SlotResult.{SlotResult}
 use Rattle.pagable_walk.specs.declared.slots.Outcome.{Outcome}
@@ -19,6 +18,10 @@ use Rattle.pagable_walk.specs.declared.slots.Outcome.TheVariants as outcomes
 use Rattle.pagable_walk.specs.declared.slots.ArcSerSlot.{ArcSerSlot}
 use Rattle.pagable_walk.specs.declared.slots.Standing.{Standing}
 use Rattle.pagable_walk.specs.declared.slots.Standing.TheVariants as standings
+
+-- whether kind and node are the same
+abbrev pub is_same : ℕ × ℕ → ℕ × ℕ → Bool
+is_same x y = nat_eq x.0 y.0 && nat_eq x.1 y.1
 
 -- what was written, without where it lies in memory
 abbrev pub written_of : SerializedData → Written

@@ -1,6 +1,6 @@
 -- What a lent table tells.
-use Rattle.std.specs.Prelude.{Result, Ok, Err}
-use Rattle.pagable_world.specs.Plain.{Error}
+use Rattle.std.specs.Prelude.{◌≡◌, Result, Ok, Err}
+use Rattle.pagable_world.specs.Plain.{Error, Identity}
 use Rattle.pagable_world.specs.declared.events.Claim.{Claim}
 use Rattle.pagable_world.specs.declared.events.Claim.TheVariants as claims
 use Rattle.pagable_world.specs.World.{Shelf}
@@ -23,3 +23,8 @@ module _ {E : Type 0} {g : Ghosts E} where
   abbrev pub found_as : Result (Found E g) Error → Result Claim Error
   found_as (Ok c) = Ok (claim_of c)
   found_as (Err e) = Err e
+
+  -- a result that is known is of this identity
+  abbrev pub IsFoundOf : Identity → Found E g → Type 0
+  IsFoundOf i (founds.Known r) = r.identity ≡ i
+  IsFoundOf i found = Unit {0}

@@ -1,54 +1,92 @@
--- A worker's stack as plain data: what it has to do, what comes next first.
-use Rattle.std.specs.Prelude.{ℕ, List, [], ◌∷◌, ◌++◌, map, max}
+-- A worker's task at hand and its path as plain data: what it has to do, what comes next first.
+use Rattle.std.specs.Prelude.{ℕ, ◌≡◌, ◌≤◌, ◌+◌, List, [], ◌∷◌, ◌++◌, length, map, max, Some, slice_get}
 use Rattle.std.specs.Arc.{arc_value}
 use Rattle.pagable_model.specs.declared.numbers.ArcRef.{ArcRef}
-use Rattle.pagable_world.specs.Plain.{Identity, above}
-use Rattle.pagable_world.specs.World.{Reading, Todo, to_start, to_pin, to_load, to_write, to_finish, to_item, to_set, to_publish, to_release, to_fail, Fault, was_refused, was_failed}
+use Rattle.pagable_world.specs.Plain.{above, longest_path}
+use Rattle.pagable_world.specs.World.{Todo, to_start, to_pin, to_load, to_write, to_finish, to_item, to_set, to_publish, to_release, to_fail, Fault, was_refused, was_failed}
 use Rattle.pagable_world.specs.World as world
+use Rattle.pagable_world.specs.Workers.{place_below}
+use Rattle.pagable_loads.specs.Frames.{reading_of}
 use Rattle.pagable_walk.specs.declared.results.Trees.{Ghosts}
-use Rattle.pagable_walk.specs.declared.results.SlotResult.{SlotResult}
 use Rattle.pagable_walk.specs.declared.table.PageOutError.{PageOutError}
 use Rattle.pagable_walk.specs.declared.table.PageOutError.TheVariants as causes
 use Rattle.pagable_walk.specs.declared.tasks.Open.{Open}
+use Rattle.pagable_walk.specs.declared.tasks.Item.{Item}
+use Rattle.pagable_walk.specs.declared.tasks.Waiting.{Waiting}
+use Rattle.pagable_walk.specs.declared.tasks.Waiting.TheVariants as waitings
 use Rattle.pagable_walk.specs.declared.tasks.Task.{Task}
 use Rattle.pagable_walk.specs.declared.tasks.Task.TheVariants as tasks
+use Rattle.pagable_walk.specs.Found.{keys_of}
 use Rattle.pagable_walk.specs.Slots.{written_of}
 
 abbrev pub fault_of : PageOutError → Fault
 fault_of (causes.Failed e) = was_refused e
 fault_of causes.AlreadyFailed = was_failed
 
-abbrev pub keys_of : {E : Type 0} {g : Ghosts E} → List (SlotResult E g) → List ℕ
-keys_of xs = map (λ r. r.key) xs
-
-abbrev pub ids_of : {E : Type 0} {g : Ghosts E} → List (SlotResult E g) → List Identity
-ids_of xs = map (λ r. r.identity) xs
-
-abbrev pub open_of : {N E : Type 0} {g : Ghosts E} → Open N E g → world.Open
-open_of o = record { reference = o.reference; place = o.place; through = o.through; written = written_of (arc_value o.written); keys = keys_of o.children.items; height = o.height }
-
 -- a written node with one result more
 abbrev pub with_child : ArcRef → ℕ → ℕ → world.Open → world.Open
 with_child r key height o = record o { keys = o.keys ++ key ∷ []; height = max o.height (above r.kind.0 height) }
 
-module _ {N R E : Type 0} {g : Ghosts E} (see : R → Reading) where
-  abbrev pub todo_of : Task N R E g → Todo
+module _ {E : Type 0} {g : Ghosts E} where
+  abbrev pub open_of : Open E g → world.Open
+  open_of o = record { reference = o.reference; place = o.place; through = o.through; written = written_of (arc_value o.written); keys = keys_of o.children.items; height = o.height }
+
+  abbrev pub item_todo : Item E g → Todo
+  item_todo i = to_item (written_of (arc_value i.written)) (keys_of i.children.items)
+
+  abbrev pub todo_of : Task E g → Todo
   todo_of (tasks.Start r place) = to_start r place
   todo_of (tasks.Pin r place) = to_pin r place
-  todo_of (tasks.Load r place through reading) = to_load r place through (see reading)
-  todo_of (tasks.Write r place through node) = to_write r place through
+  todo_of (tasks.Load r place through reading) = to_load r place through (reading_of reading)
+  todo_of (tasks.Write r place through pin) = to_write r place through
   todo_of (tasks.Finish o) = to_finish (open_of o)
-  todo_of (tasks.Item written children) = to_item (written_of (arc_value written)) (keys_of children.items)
-  todo_of (tasks.SetKey r through found) = to_set r through found.key found.height
-  todo_of (tasks.Publish r found) = to_publish r found.key found.height
-  todo_of (tasks.Release r found) = to_release r found.key found.height
+  todo_of (tasks.Item i) = item_todo i
+  todo_of (tasks.SetKey d through) = to_set d.reference through d.found.key d.found.height
+  todo_of (tasks.Publish d) = to_publish d.reference d.found.key d.found.height
+  todo_of (tasks.Release d) = to_release d.reference d.found.key d.found.height
   todo_of (tasks.Fail e back) = to_fail (fault_of e) back
 
-  -- the entries of a stack, the last first, and then these
-  unfoldable pub todos_onto : List (Task N R E g) → List Todo → List Todo
-  todos_onto [] below = below
-  todos_onto (t ∷ ts) below = todos_onto ts (todo_of t ∷ below)
+  -- a task that needs nothing of the pager
+  abbrev pub IsPlain : Task E g → Type 0
+  IsPlain (tasks.Pin r place) = ⊥
+  IsPlain (tasks.Load r place through reading) = ⊥
+  IsPlain (tasks.Write r place through pin) = ⊥
+  IsPlain task = Unit {0}
 
-  -- what a worker of this stack has to do
-  abbrev pub todos : List (Task N R E g) → List Todo
-  todos ts = todos_onto ts []
+  abbrev pub waiting_todo : Waiting E g → Todo
+  waiting_todo (waitings.Node o) = to_finish (open_of o)
+  waiting_todo (waitings.Item i) = item_todo i
+
+  -- what waits on a path, the last first, and then these
+  unfoldable pub todos_onto : List (Waiting E g) → List Todo → List Todo
+  todos_onto [] below = below
+  todos_onto (w ∷ ws) below = todos_onto ws (waiting_todo w ∷ below)
+
+  abbrev pub todos : List (Waiting E g) → List Todo
+  todos ws = todos_onto ws []
+
+-- The list waits for this reference, at this place on the path: it is the next of what stands in front, which was itself waited for so.
+unfoldable pub Awaits : List Todo → ArcRef → ℕ → Type 0
+Awaits [] r place = place ≡ 0
+Awaits (to_finish o ∷ below) r place =
+    (slice_get o.written.references (length o.keys) ≡ Some r) × (place ≡ place_below o.place r.kind.0) × (o.place + o.height ≤ longest_path) × Awaits below o.reference o.place
+Awaits (to_item written keys ∷ below) r place = (slice_get written.references (length keys) ≡ Some r) × (place ≡ place_below 0 r.kind.0) × (below ≡ [])
+Awaits (_ ∷ below) r place = ⊥
+
+-- The list waits for a reference with a height that fits.
+abbrev pub AwaitsLow : List Todo → ArcRef → ℕ → Type 0
+AwaitsLow below r height = (place : ℕ) × Awaits below r place × (place + height ≤ longest_path)
+
+-- Each entry is the next of what stands below it, and all references of what is finished are done.
+abbrev pub IsWay : List Todo → Type 0
+IsWay [] = Unit {0}
+IsWay (to_start r place ∷ below) = Awaits below r place
+IsWay (to_pin r place ∷ below) = Awaits below r place × (place ≤ longest_path)
+IsWay (to_load r place through reading ∷ below) = Awaits below r place × (place ≤ longest_path)
+IsWay (to_write r place through ∷ below) = Awaits below r place × (place ≤ longest_path)
+IsWay (to_finish o ∷ below) = (length o.keys ≡ length o.written.references) × Awaits below o.reference o.place × (o.place + o.height ≤ longest_path)
+IsWay (to_item written keys ∷ below) = (length keys ≡ length written.references) × (below ≡ [])
+IsWay (to_set r through key height ∷ below) = AwaitsLow below r height
+IsWay (to_publish r key height ∷ below) = AwaitsLow below r height
+IsWay (to_release r key height ∷ below) = AwaitsLow below r height
+IsWay (to_fail fault back ∷ below) = below ≡ []

@@ -1,19 +1,37 @@
--- A worker's turn at a reference that isn't claimed yet, over the pager's plain world and its table.
-use Rattle.std.specs.Prelude.{ℕ, List, ◌∷◌, Option, Some, None, Result, Ok, Err}
+-- A worker's turn over the pager's plain state and its table: what it needs to hold, what it does, and what it leaves to be done.
+use Rattle.std.specs.Prelude.{ℕ, ◌≡◌, ◌≤◌, ◌+◌, true, List, [], ◌∷◌, Option, Some, None, Result, Ok, Err}
+use Rattle.pagable_model.specs.declared.error.Error.{Error}
 use Rattle.pagable_model.specs.declared.numbers.ArcRef.{ArcRef}
-use Rattle.pagable_world.specs.Plain.{Error}
+use Rattle.pagable_model.specs.declared.numbers.HandleNumber.{HandleNumber}
+use Rattle.pagable_world.specs.Plain.{Blob, type_of, longest_path}
+use Rattle.pagable_world.specs.declared.handles.Owner.{Owner}
+use Rattle.pagable_world.specs.declared.handles.HandleRow.{HandleRow}
+use Rattle.pagable_world.specs.declared.events.Took.{Took}
+use Rattle.pagable_world.specs.declared.events.WorkerAnswer.{WorkerAnswer}
 use Rattle.pagable_world.specs.declared.events.Claim.{Claim}
 use Rattle.pagable_world.specs.declared.events.Claim.TheVariants as claims
-use Rattle.pagable_world.specs.World.{Core, Shelf, Todo, to_start, to_pin, was_failed}
-use Rattle.pagable_world.specs.Workers.{Site, give_known, failing, failing_by}
+use Rattle.pagable_world.specs.Kinds.{is_pinning, owner_worker, identity_of}
+use Rattle.pagable_world.specs.World.{Core, Shelf, Todo, to_start, to_pin, was_failed, of_cell, Written, Values, Seen, row_at, type_at}
+use Rattle.pagable_world.specs.Workers.{Site, WalkDoes, WorkerEnds, give_known, failing, failing_by, answer_after}
+use Rattle.pagable_world.specs.Access.{Called, WalkStep}
+use Rattle.pagable_loads.specs.Telling.{Acting}
+use Rattle.pagable_loads.specs.Working.{as_caller}
+use Rattle.pagable_world.specs.Pager.{PagerState, WellFormed, Moves, TodoBrings, TookWrites}
+use Rattle.pagable_laws.specs.KeyRuns.{StandsAt}
+use Rattle.pagable_loads.specs.declared.reading.Reading.{Reading as Own}
+use Rattle.pagable_loads.specs.Frames.{IsLoadOf}
+use Rattle.pagable_walk.specs.declared.results.Trees.{Ghosts}
+use Rattle.pagable_walk.specs.declared.tasks.Task.{Task}
+use Rattle.pagable_walk.specs.declared.tasks.Task.TheVariants as tasks
+use Rattle.pagable_walk.specs.declared.tasks.Turn.{Turn}
+use Rattle.pagable_walk.specs.declared.tasks.Turn.TheVariants as comes
+use Rattle.pagable_walk.specs.declared.tasks.Waiting.{Waiting}
+use Rattle.pagable_walk.specs.declared.table.Found.{Found}
+use Rattle.pagable_walk.specs.declared.table.Found.TheVariants as founds
+use Rattle.pagable_walk.specs.Tasks.{IsPlain, todo_of, todos}
 
 abbrev pub site : Core → Shelf → List Todo → Site
 site core shelf todo = record { core = core; shelf = shelf; todo = todo }
-
--- why a check refused, if it did
-abbrev pub refusal_of : Result (Unit {0}) Error → Option Error
-refusal_of (Ok u) = None
-refusal_of (Err e) = Some e
 
 -- what is to be done after a claim
 abbrev pub claim_todo : ArcRef → ℕ → List Todo → Result Claim Error → List Todo
@@ -22,3 +40,105 @@ claim_todo r place below (Ok (claims.Known key height)) = give_known r key heigh
 claim_todo r place below (Ok claims.Waiting) = to_start r place ∷ below
 claim_todo r place below (Ok claims.AlreadyFailed) = failing was_failed (to_start r place ∷ below)
 claim_todo r place below (Err e) = failing_by e (to_start r place ∷ below)
+
+-- plain blobs, and what is written, as they are
+abbrev pub plain : {N : Type 0} → Values N → Seen N Blob Written
+plain v = record { values = v; blob_of = λ b. b; written_of = λ w. w }
+
+-- while the reference's node lives it has the type of the reference's kind
+pub record IsOfKind (w : Core) (r : ArcRef) : Type 0 where
+  pub given : r.node.0 ≤ w.last.node
+  pub typed : (t : ℕ) → type_at w r.node.0 ≡ Some t → t ≡ type_of r.kind.0
+
+-- the handle pins the reference's node
+pub record PinsAt (w : Core) (r : ArcRef) (k : HandleNumber) : Type 0 where
+  pub row : HandleRow
+  pub live : row_at w k ≡ Some row
+  pub at : row.node ≡ r.node
+  pub pins : is_pinning row.mode ≡ true
+
+-- and it is its owner's
+pub record HoldsPin (w : Core) (me : Owner) (r : ArcRef) (k : HandleNumber) : Type 0 where
+  pub pins : PinsAt w r k
+  pub own : pins.row.owner ≡ me
+
+-- the load is open, and reads the reference's cell for this handle
+pub record IsLoading (w : Core) (n : ℕ) (r : ArcRef) (through : HandleNumber) (own : Own) : Type 0 where
+  pub is : IsLoadOf w (owner_worker n) own
+  pub for_cell : own.for_cell ≡ true
+  pub t : ℕ
+  pub root : is.load.root ≡ of_cell r.node t through
+
+module _ {X : Type 0} {g : Ghosts X} where
+  -- what a task needs of the pager
+  abbrev pub TaskFits : ℕ → Core → Task X g → Type 0
+  TaskFits n w (tasks.Pin r place) = StandsAt w r r.handle × IsOfKind w r
+  TaskFits n w (tasks.Load r place through own) = IsOfKind w r × IsLoading w n r through own
+  TaskFits n w (tasks.Write r place through pin) = IsOfKind w r × HoldsPin w (owner_worker n) r pin
+  TaskFits n w task = Unit {0}
+
+  -- what a claim found is the reference's, and fits at its place
+  abbrev pub ClaimFits : ArcRef → ℕ → Result (Found X g) Error → Type 0
+  ClaimFits r place (Ok founds.Claimed) = place ≤ longest_path
+  ClaimFits r place (Ok (founds.Known found)) = (found.identity ≡ identity_of r) × (place + found.height ≤ longest_path)
+  ClaimFits r place claim = Unit {0}
+
+  abbrev pub ClaimLeaves : ArcRef → ℕ → Result (Found X g) Error → Task X g → Type 0
+  ClaimLeaves r place (Ok founds.Claimed) task = task ≡ tasks.Pin r place
+  ClaimLeaves r place claim task = IsPlain task
+
+  -- the pager is whole, the calls are the worker's, and the task fits
+  pub record Fits {N E : Type 0} (v : Values N) (me : Owner) (n : ℕ) (task : Task X g) (s : PagerState N E) : Type 0 where
+    pub me_is : me ≡ owner_worker n
+    pub whole : WellFormed v s
+    pub task_fits : TaskFits n s.core task
+
+  -- what a turn comes to
+  abbrev pub plan : Turn X g → List (Waiting X g) → List Todo
+  plan (comes.Goes t) path = todo_of t ∷ todos path
+  plan (comes.Answers a) path = []
+
+  abbrev pub answer_in : Turn X g → Option WorkerAnswer
+  answer_in (comes.Goes t) = None
+  answer_in (comes.Answers a) = Some a
+
+  abbrev pub LeavesFit : ℕ → Core → Turn X g → Type 0
+  LeavesFit n w (comes.Goes t) = TaskFits n w t
+  LeavesFit n w (comes.Answers a) = Unit {0}
+
+  -- some step of the worker, up to its end
+  pub record Turned {N E : Type 0} (v : Values N) (n : ℕ) (shelf : Shelf) (todo : List Todo) (s : PagerState N E) (shelf' : Shelf) (turn : Turn X g) (after : List Todo) (t : PagerState N E) : Type 0 where
+    pub step : Took Written
+    pub does : WalkDoes (plain v) n (site s.core shelf todo) step (site t.core shelf' after)
+    pub answers : answer_after todo step ≡ answer_in turn
+    pub moves : Moves (TodoBrings v s.core todo) s t
+    pub writes : TookWrites v (λ w. w) s step
+    pub whole : WellFormed v t
+    pub fits : LeavesFit n t.core turn
+
+  -- A turn is a step of the worker, where the task fits.
+  pub record TurnsTo {N E : Type 0} (v : Values N) (me : Owner) (n : ℕ) (shelf : Shelf) (task : Task X g) (below : List Todo) (shelf' : Shelf) (turn : Turn X g) (after : List Todo) (s t : PagerState N E) : Type 0 where
+    pub turns : Fits v me n task s → Turned v n shelf (todo_of task ∷ below) s shelf' turn after t
+
+  -- with an answer the worker ends
+  abbrev pub Closing : {N E : Type 0} → Values N → ℕ → Turn X g → PagerState N E → PagerState N E → Type 0
+  Closing v n (comes.Goes t) s s' = s' ≡ s
+  Closing v n (comes.Answers a) s s' = Called v (λ w'. WorkerEnds s.core n w') s s'
+
+  pub record Closes {N E : Type 0} (v : Values N) (n : ℕ) (turn : Turn X g) (s s' : PagerState N E) : Type 0 where
+    pub closes : Closing v n turn s s'
+
+  abbrev pub acting_then : {E : Type 0} → Turn X g → Acting E → Acting E
+  acting_then (comes.Goes t) a = a
+  acting_then (comes.Answers answer) a = as_caller a
+
+  -- some step of the worker, with its end
+  pub record Stepped {N E : Type 0} (v : Values N) (n : ℕ) (shelf : Shelf) (todo : List Todo) (s : PagerState N E) (shelf' : Shelf) (turn : Turn X g) (after : List Todo) (t : PagerState N E) : Type 0 where
+    pub step : Took Written
+    pub does : WalkStep (plain v) n todo (record { pager = s; shelf = shelf }) step after (record { pager = t; shelf = shelf' })
+    pub answers : answer_after todo step ≡ answer_in turn
+    pub fits : LeavesFit n t.core turn
+
+  -- It is a step of the worker, where the task fits.
+  pub record StepsTo {N E : Type 0} (v : Values N) (me : Owner) (n : ℕ) (shelf : Shelf) (task : Task X g) (below : List Todo) (shelf' : Shelf) (turn : Turn X g) (after : List Todo) (s t : PagerState N E) : Type 0 where
+    pub steps : Fits v me n task s → Stepped v n shelf (todo_of task ∷ below) s shelf' turn after t

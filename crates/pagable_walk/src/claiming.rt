@@ -1,11 +1,11 @@
 //! Claims of a lent table, and what is known of them.
 
-ghost use Rattle.std.specs.Prelude.{◌≡◌, Some, None, OnOk, OnErr, IfErr};
+ghost use Rattle.std.specs.Prelude.{◌≡◌, Some, None, OnOk, OnErr, IfOk, IfErr};
 ghost use Rattle.std.specs.Arc.{arc_value};
 ghost use Rattle.pagable_world.specs.World.{Slot, SameShelf, published};
 ghost use Rattle.pagable_world.specs.Workers.{with_slot, with_wait, IsOpenSlot, ComesToEnd, with_changed_slot, with_failed, with_outcome};
 ghost use Rattle.pagable_walk.specs.Slots.{no_claims, claimed_by, Judges, ClaimsThere, with_written, written_of};
-ghost use Rattle.pagable_walk.specs.Table.{shelf_of, found_as};
+ghost use Rattle.pagable_walk.specs.Table.{shelf_of, found_as, IsFoundOf};
 
 use crate::slots::{comes_back, look_up};
 use crate::{Found, SlotResult, SlotTable, Standing, Trees, slots};
@@ -18,7 +18,8 @@ use std::sync::Arc;
 impl<E: Trees> SlotTable<E> {
     // What a claim of an identity at this place on a path would find.
     fn judge(&self, worker: WorkerNumber, identity: Identity, place: u64) -> Result<Found<E>, Error>
-        ensures { Judges worker.0 (shelf_of self.now) identity place (found_as result) }
+        ensures judges { Judges worker.0 (shelf_of self.now) identity place (found_as result) }
+        ensures own { IfOk result (IsFoundOf identity) }
     {
         if place > 128 {
             return Err(Error::TooDeep);
@@ -90,7 +91,8 @@ impl<E: Trees> SlotTable<E> {
         identity: Identity,
         place: u64,
     ) -> Result<Found<E>, Error>
-        ensures { ClaimsThere worker.0 (shelf_of self.old) identity place (found_as result) (shelf_of self.new) }
+        ensures claims { ClaimsThere worker.0 (shelf_of self.old) identity place (found_as result) (shelf_of self.new) }
+        ensures own { IfOk result (IsFoundOf identity) }
     {
         let judged = self.judge(worker, identity, place);
         self.stop_waiting(worker);

@@ -2,16 +2,19 @@
 #![tactic(auto)]
 
 pub mod claiming;
-pub mod giving;
+pub mod ending;
 pub mod making;
 pub mod results;
 pub mod slots;
 pub mod stack;
+pub mod step;
 pub mod table;
 pub mod tasks;
 pub mod turns;
+pub mod walk;
+pub mod writing;
 
 pub use results::{SlotResult, Trees};
 pub use slots::{ArcSerSlot, Outcome, Standing};
 pub use table::{Found, PageOutError, SlotTable};
-pub use tasks::{Open, Task};
+pub use tasks::{Done, Item, Open, Task, Turn, Waiting};

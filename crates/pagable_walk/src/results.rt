@@ -1,9 +1,11 @@
 //! What page-out found of a node, with a finite tree of such results below it.
 
-ghost use Rattle.std.specs.Prelude.{◌≡◌, ℕ};
+ghost use Rattle.std.specs.Prelude.{◌≡◌, ◌≤◌, ℕ};
 ghost use Rattle.pagable_model.specs.declared.numbers.Identity.{Identity as Named};
-ghost use Rattle.pagable_pager.specs.View.{spelling};
-ghost use Rattle.pagable_walk.specs.Results.{HasResult};
+ghost use Rattle.pagable_world.specs.Plain.{longest_path};
+ghost use Rattle.pagable_world.specs.World.{Written};
+ghost use Rattle.pagable_loads.specs.Telling.{values_at};
+ghost use Rattle.pagable_walk.specs.Results.{HasFormOf, ResultStands};
 
 use pagable_codec::{Env, NodeSet};
 use pagable_model::{DataKey, Identity};
@@ -11,6 +13,9 @@ use std::marker::PhantomData;
 
 /// What stands below a result.
 pub trait Trees {
+    // Some value of the identity's type has this form.
+    ghost has_form: { Named → Written → Type 0 };
+
     // Below this identity with this key stands a finite tree of results.
     ghost has_result: { Named → ℕ → Type 0 };
 }
@@ -19,16 +24,19 @@ impl<E: Env> Trees for E
 where
     E::Node: NodeSet<E>,
 {
-    ghost has_result = { λ i key. HasResult (spelling E.Node.type_of E.Node.refs_of E.Node.means E.Node.read_causes E.Node.write_causes E.Node.shape_of E.parts E.Hash.digest) i key };
+    ghost has_form = { λ i written. HasFormOf (values_at E.Node.NodeSet E.Env E.Hash.KeyHash) i written };
+
+    ghost has_result = { λ i key. ResultStands E.Hash.digest (values_at E.Node.NodeSet E.Env E.Hash.KeyHash) i key };
 }
 
-/// What page-out found of a node: its key and height.
+/// What page-out found of a node: its key, and its height, which is at most the longest path.
 #[derive(Drop)]
 pub struct SlotResult<E: Trees> {
     pub identity: Identity,
     pub key: DataKey,
     pub height: u64,
     pub(crate) of: PhantomData<E>,
+    pub ghost low: { height ≤ longest_path },
     pub ghost stands: { ∥ E.has_result identity key ∥₁ },
 }
 

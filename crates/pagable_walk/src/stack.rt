@@ -1,18 +1,18 @@
-//! A worker's stack: what was written and waits for its references lies below what is done for the next of them.
+//! A worker's path: what was written and waits for the next of its references.
 
-ghost use Rattle.std.specs.Prelude.{◌≡◌, ◌≤◌, ◌<◌, ◌+◌, ◌∷◌, ◌++◌, [], vec_len, vec_capacity};
+ghost use Rattle.std.specs.Prelude.{◌≡◌, ◌≤◌, ◌<◌, ◌+◌, ◌∷◌, ◌++◌, [], Some, max, length, slice_get, vec_len, vec_capacity};
 ghost use Rattle.std.specs.Arc.{arc_value};
-ghost use Rattle.pagable_world.specs.Plain.{longest_path};
-ghost use Rattle.pagable_world.specs.World.{Reading, to_finish, to_item};
-ghost use Rattle.pagable_world.specs.Workers.{place_below, settle};
-ghost use Rattle.pagable_walk.specs.Tasks.{keys_of, open_of, todos};
+ghost use Rattle.pagable_world.specs.Plain.{above, longest_path};
+ghost use Rattle.pagable_world.specs.World.{to_finish, to_item};
+ghost use Rattle.pagable_world.specs.Workers.{place_below, settle, give, give_known};
+ghost use Rattle.pagable_walk.specs.Found.{keys_of};
 ghost use Rattle.pagable_walk.specs.Slots.{written_of};
+ghost use Rattle.pagable_walk.specs.Tasks.{AwaitsLow, IsPlain, fault_of, item_todo, open_of, todo_of, todos, waiting_todo, with_child};
+ghost use Rattle.pagable_walk.specs.Failing.{back_of, fails};
 
-use crate::tasks::{Open, Task};
-use crate::{SlotResult, Trees};
-use pagable_core::SerializedData;
-use pagable_model::Kind;
-use std::sync::Arc;
+use crate::tasks::{Done, Item, Open, Task, Waiting};
+use crate::{PageOutError, Trees};
+use pagable_model::{HandleNumber, Kind};
 
 /// The place of a reference of this kind on the path below a node at this place. A path ends at a reference through a loose handle.
 pub fn place_below(place: u64, kind: Kind) -> u64
@@ -22,47 +22,130 @@ pub fn place_below(place: u64, kind: Kind) -> u64
     if kind.0 % 3 == 1 { 0 } else { place + 1 }
 }
 
-/// An entry is put onto a stack that has room.
-pub fn put<N: Drop, R: Drop, E: Trees>(stack: &mut Vec<Task<N, R, E>>, task: Task<N, R, E>)
-    requires { vec_len stack.old < vec_capacity stack.old }
-    ensures items { stack.new.items ≡ stack.old.items ++ task ∷ [] }
-    ensures capacity { vec_capacity stack.old ≤ vec_capacity stack.new }
+// The height by a reference of this kind too, to what is so high.
+fn raised(height: u64, kind: Kind, below: u64) -> u64
+    requires { below ≤ longest_path }
+    ensures { result ≡ max height (above kind.0 below) }
 {
-    stack.push(task).unwrap();
+    let own = if kind.0 % 3 == 1 { 0 } else { below + 1 };
+    height.max(own)
 }
 
-/// A written node goes onto a stack that has room, and above it what is to be done for its next reference, if one is left.
-pub fn settle_open<N: Drop, R: Drop, E: Trees>(stack: &mut Vec<Task<N, R, E>>, node: Open<N, E>)
-    requires { vec_len stack.old + 2 ≤ vec_capacity stack.old }
-    ensures { (see : R → Reading) → todos see stack.new.items ≡ settle (to_finish (open_of node) ∷ todos see stack.old.items) }
+/// A written node goes on: its next reference is started, for which it waits on a path that has room; or it is finished.
+pub fn settle_open<E: Trees>(path: &mut Vec<Waiting<E>>, node: Open<E>) -> Task<E>
+    requires { vec_len path.old < vec_capacity path.old }
+    ensures todo { todo_of result ∷ todos path.new.items ≡ settle (to_finish (open_of node) ∷ todos path.old.items) }
+    ensures plain { IsPlain result }
 {
     let done = node.children.len();
     if done >= node.written.arcs.len() {
-        put(stack, Task::Finish(node));
-        return;
+        return Task::Finish(node);
     }
     let next = node.written.arcs[done];
     let place = place_below(node.place, next.kind);
-    put(stack, Task::Finish(node));
-    put(stack, Task::Start(next, place));
+    path.push_reserved(Waiting::Node(node));
+    Task::Start(next, place)
 }
 
 /// The same of an item, at which a path begins.
-pub fn settle_item<N: Drop, R: Drop, E: Trees>(
-    stack: &mut Vec<Task<N, R, E>>,
-    written: Arc<SerializedData>,
-    children: Vec<SlotResult<E>>,
-)
-    requires { vec_len stack.old + 2 ≤ vec_capacity stack.old }
-    ensures { (see : R → Reading) → todos see stack.new.items ≡ settle (to_item (written_of (arc_value written)) (keys_of children.items) ∷ todos see stack.old.items) }
+pub fn settle_item<E: Trees>(path: &mut Vec<Waiting<E>>, item: Item<E>) -> Task<E>
+    requires { vec_len path.old < vec_capacity path.old }
+    ensures todo { todo_of result ∷ todos path.new.items ≡ settle (item_todo item ∷ todos path.old.items) }
+    ensures plain { IsPlain result }
 {
-    let done = children.len();
-    if done >= written.arcs.len() {
-        put(stack, Task::Item(written, children));
-        return;
+    let done = item.children.len();
+    if done >= item.written.arcs.len() {
+        return Task::Item(item);
     }
-    let next = written.arcs[done];
+    let next = item.written.arcs[done];
     let place = place_below(0, next.kind);
-    put(stack, Task::Item(written, children));
-    put(stack, Task::Start(next, place));
+    path.push_reserved(Waiting::Item(item));
+    Task::Start(next, place)
+}
+
+// A written node with the result of its next reference.
+fn with_result<E: Trees>(node: Open<E>, done: Done<E>) -> Open<E>
+    requires next { slice_get (arc_value node.written).arcs.items (length node.children.items) ≡ Some done.reference }
+    requires near { node.place + max node.height (above done.reference.kind.0 done.found.height) ≤ longest_path }
+    ensures { open_of result ≡ with_child done.reference done.found.key done.found.height (open_of node) }
+{
+    let height = raised(node.height, done.reference.kind, done.found.height);
+    let Open {
+        reference,
+        place,
+        through,
+        written,
+        mut children,
+        height: _,
+    } = node;
+    children.push_reserved(done.found);
+    Open {
+        reference,
+        place,
+        through,
+        written,
+        children,
+        height,
+    }
+}
+
+// The same of an item.
+fn item_with_result<E: Trees>(item: Item<E>, done: Done<E>) -> Item<E>
+    requires { slice_get (arc_value item.written).arcs.items (length item.children.items) ≡ Some done.reference }
+    ensures { item_todo result ≡ to_item (written_of (arc_value item.written)) (keys_of item.children.items ++ done.found.key ∷ []) }
+{
+    let Item {
+        written,
+        mut children,
+    } = item;
+    children.push_reserved(done.found);
+    Item { written, children }
+}
+
+/// A result goes to what waits for it and was taken from its path, and that goes on.
+pub fn give<E: Trees>(path: &mut Vec<Waiting<E>>, waiting: Waiting<E>, done: Done<E>) -> Task<E>
+    requires room { vec_len path.old < vec_capacity path.old }
+    requires way { AwaitsLow (waiting_todo waiting ∷ todos path.old.items) done.reference done.found.height }
+    ensures todo { todo_of result ∷ todos path.new.items ≡ give done.reference done.found.key done.found.height (waiting_todo waiting ∷ todos path.old.items) }
+    ensures plain { IsPlain result }
+{
+    match waiting {
+        Waiting::Node(node) => {
+            let node = with_result(node, done);
+            settle_open(path, node)
+        }
+        Waiting::Item(item) => {
+            let item = item_with_result(item, done);
+            settle_item(path, item)
+        }
+    }
+}
+
+/// A result that was known already goes to what waits for it; where nothing does, the handle of the listed cell is released.
+pub fn give_known<E: Trees>(path: &mut Vec<Waiting<E>>, done: Done<E>) -> Task<E>
+    requires { AwaitsLow (todos path.old.items) done.reference done.found.height }
+    ensures todo { todo_of result ∷ todos path.new.items ≡ give_known done.reference done.found.key done.found.height (todos path.old.items) }
+    ensures plain { IsPlain result }
+{
+    match path.pop() {
+        None => Task::Release(done),
+        Some(waiting) => give(path, waiting, done),
+    }
+}
+
+/// The walk fails: all that waits goes. Where nothing waits, this entry goes back to the list.
+pub fn fail<E: Trees>(
+    path: &mut Vec<Waiting<E>>,
+    why: PageOutError,
+    entry: Option<HandleNumber>,
+) -> Task<E>
+    ensures todo { todo_of result ∷ todos path.new.items ≡ fails (fault_of why) (back_of entry (todos path.old.items)) }
+    ensures plain { IsPlain result }
+    ensures none { todos path.new.items ≡ [] }
+{
+    if path.is_empty() {
+        return Task::Fail(why, entry);
+    }
+    path.clear();
+    Task::Fail(why, None)
 }

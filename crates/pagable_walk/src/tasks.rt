@@ -1,48 +1,107 @@
-//! What a page-out worker has still to do: the entries of its stack. N is the caller's type of values, R that of a load under way.
+//! What a page-out worker has still to do: the task at hand, and the path of what waits below it.
 
-ghost use Rattle.std.specs.Prelude.{◌≤◌};
+ghost use Rattle.std.specs.Prelude.{◌≡◌, ◌≤◌, ◌+◌, length, map, take, vec_capacity};
+ghost use Rattle.std.specs.Arc.{arc_value};
 ghost use Rattle.pagable_world.specs.Plain.{longest_path};
+ghost use Rattle.pagable_world.specs.Kinds.{identity_of};
+ghost use Rattle.pagable_walk.specs.Slots.{written_of};
+ghost use Rattle.pagable_walk.specs.Found.{ids_of};
 
 use crate::{PageOutError, SlotResult, Trees};
 use pagable_core::SerializedData;
-use pagable_model::{ArcRef, HandleNumber};
+use pagable_loads::Reading;
+use pagable_model::{ArcRef, DataKey, HandleNumber, NodeNumber};
+use pagable_world::WorkerAnswer;
 use std::sync::Arc;
 
 /// A node that was written and whose references are walked: the reference by which it was claimed, its place on the path, the worker's handle of the
-/// reference's mode, its value and what was written of it; and of the references done so far their results, and the height by them.
+/// reference's mode, and what was written; and of the references done so far their results, and the height by them. There are places for all results.
 #[derive(Drop)]
-pub struct Open<N: Drop, E: Trees> {
+pub struct Open<E: Trees> {
     pub reference: ArcRef,
     pub place: u64,
     pub through: HandleNumber,
-    pub node: Arc<N>,
     pub written: Arc<SerializedData>,
     pub children: Vec<SlotResult<E>>,
     pub height: u64,
-    pub ghost near: { place ≤ longest_path },
+    pub ghost near: { place + height ≤ longest_path },
+    pub ghost places: { length (written_of (arc_value written)).references ≤ vec_capacity children },
+    pub ghost form: { ∥ E.has_form (identity_of reference) (written_of (arc_value written)) ∥₁ },
+    pub ghost each: { ids_of children.items ≡ map identity_of (take (length children.items) (written_of (arc_value written)).references) },
 }
 
-/// One entry of a worker's stack.
+/// An item whose references are walked, with the results of those done so far. There are places for all results.
 #[derive(Drop)]
-pub enum Task<N: Drop, R: Drop, E: Trees> {
+pub struct Item<E: Trees> {
+    pub written: Arc<SerializedData>,
+    pub children: Vec<SlotResult<E>>,
+    pub ghost places: { length (written_of (arc_value written)).references ≤ vec_capacity children },
+    pub ghost each: { ids_of children.items ≡ map identity_of (take (length children.items) (written_of (arc_value written)).references) },
+}
+
+/// A reference with the result of what it names.
+#[derive(Drop)]
+pub struct Done<E: Trees> {
+    pub reference: ArcRef,
+    pub found: SlotResult<E>,
+    pub ghost own: { found.identity ≡ identity_of reference },
+}
+
+impl<E: Trees> Done<E> {
+    /// The key of what the reference names.
+    pub fn key(&self) -> DataKey
+        ensures { result ≡ self.now.found.key }
+    {
+        self.found.key
+    }
+
+    /// Its node.
+    pub fn node(&self) -> NodeNumber
+        ensures { result ≡ self.now.reference.node }
+    {
+        self.reference.node
+    }
+}
+
+/// What waits for one of its references.
+#[derive(Drop)]
+pub enum Waiting<E: Trees> {
+    /// A written node.
+    Node(Open<E>),
+    /// The item.
+    Item(Item<E>),
+}
+
+/// What is to be done next.
+#[derive(Drop)]
+pub enum Task<E: Trees> {
     /// Claims what the reference names, at this place on the path.
     Start(ArcRef, u64),
     /// Pins what was claimed.
     Pin(ArcRef, u64),
     /// Goes on with the load that this handle began.
-    Load(ArcRef, u64, HandleNumber, R),
-    /// Writes the value that is pinned; the handle has the reference's mode.
-    Write(ArcRef, u64, HandleNumber, Arc<N>),
+    Load(ArcRef, u64, HandleNumber, Reading),
+    /// Writes the value: the first handle has the reference's mode, the second pins it.
+    Write(ArcRef, u64, HandleNumber, HandleNumber),
     /// Stores its blob, once its references are done.
-    Finish(Open<N, E>),
-    /// Stores the item's blob, once its references are done: these results are known so far.
-    Item(Arc<SerializedData>, Vec<SlotResult<E>>),
+    Finish(Open<E>),
+    /// Stores the item's blob, once its references are done.
+    Item(Item<E>),
     /// Sets its key through this handle.
-    SetKey(ArcRef, HandleNumber, SlotResult<E>),
+    SetKey(Done<E>, HandleNumber),
     /// Puts its result where others see it.
-    Publish(ArcRef, SlotResult<E>),
+    Publish(Done<E>),
     /// Gives up the worker's handles of it.
-    Release(ArcRef, SlotResult<E>),
+    Release(Done<E>),
     /// Gives all up, and this entry back to the list.
     Fail(PageOutError, Option<HandleNumber>),
+}
+
+/// What a turn comes to: what is to be done next, or the worker's answer.
+#[derive(Drop)]
+pub enum Turn<E: Trees> {
+    /// There is more to do.
+    Goes(Task<E>),
+    /// Nothing is left.
+    Answers(WorkerAnswer),
 }

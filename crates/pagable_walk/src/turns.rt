@@ -1,27 +1,39 @@
-//! A worker's turns at its table.
+//! A worker's turns at a reference that it has come to: it claims what the reference names, and pins it, by a load where it is needed.
 
-ghost use Rattle.std.specs.Prelude.{◌≡◌, ◌∷◌, List};
-ghost use Rattle.pagable_world.specs.World.{Core, Todo, to_start};
+ghost use Rattle.std.specs.Prelude.{◌≡◌, ◌≤◌, ◌∷◌, ℕ, List};
+ghost use Rattle.pagable_world.specs.Plain.{longest_path};
+ghost use Rattle.pagable_world.specs.World.{Core, Shelf, Todo, to_start};
 ghost use Rattle.pagable_world.specs.Workers.{claim_fault, Claims};
+ghost use Rattle.pagable_world.specs.Access.{Told};
+ghost use Rattle.pagable_loads.specs.Telling.{Tells, values_at};
+ghost use Rattle.pagable_loads.specs.Working.{fault_in};
+ghost use Rattle.pagable_walk.specs.declared.tasks.Turn.{Turn};
 ghost use Rattle.pagable_walk.specs.Table.{shelf_of, found_as};
-ghost use Rattle.pagable_walk.specs.Turns.{site, refusal_of, claim_todo};
+ghost use Rattle.pagable_walk.specs.Tasks.{Awaits, IsWay, todo_of, todos};
+ghost use Rattle.pagable_walk.specs.Turns.{site, claim_todo, ClaimFits, ClaimLeaves, TurnsTo};
 
-use crate::{Found, SlotTable, Trees};
-use pagable_model::{ArcRef, Error, Identity, WorkerNumber};
+use crate::stack::{fail, give_known};
+use crate::tasks::{Done, Task, Waiting};
+use crate::{Found, PageOutError, SlotTable, Trees};
+use pagable_codec::{Env, NodeSet};
+use pagable_loads::{Reading, Taken, WorkerAccess};
+use pagable_model::{ArcRef, Error, HandleNumber, Identity, WorkerNumber};
+use pagable_world::LoadAnswer;
+use std::alloc::Global;
 
-/// A worker's turn at a reference that it has come to, at this place on the path. `checked` is why the reference itself can't be claimed: its handle isn't live or isn't
-/// at its node, or mode or type don't fit its kind. It is refused so first, and then as `try_claim`. A refused turn leaves the claims as they were, and the worker
-/// waits for nothing.
-pub fn start<E: Trees>(
+// A claim of what a reference names, at this place on the path. `checked` is why the reference itself can't be claimed. It is refused so first, and then as `try_claim`.
+// A claim that is refused leaves the claims as they were, and the worker waits for nothing.
+fn claim<E: Trees>(
     table: &mut SlotTable<E>,
     worker: WorkerNumber,
     reference: ArcRef,
     place: u64,
     checked: Result<(), Error>,
 ) -> Result<Found<E>, Error>
-    ensures { (core : Core) (below : List Todo) → refusal_of checked ≡ claim_fault core reference
+    ensures step { (core : Core) (below : List Todo) → fault_in checked ≡ claim_fault core reference
         → Claims worker.0 (site core (shelf_of table.old) (to_start reference place ∷ below)) reference place below (found_as result)
         (site core (shelf_of table.new) (claim_todo reference place below (found_as result))) }
+    ensures fits { ClaimFits reference place result }
 {
     match checked {
         Ok(()) => {
@@ -35,5 +47,110 @@ pub fn start<E: Trees>(
             table.stop_waiting(worker);
             Err(e)
         }
+    }
+}
+
+// What is done after a claim.
+fn after_claim<E: Trees>(
+    path: &mut Vec<Waiting<E>>,
+    reference: ArcRef,
+    place: u64,
+    claim: Result<Found<E>, Error>,
+) -> Task<E>
+    requires way { Awaits (todos path.old.items) reference place }
+    requires fits { ClaimFits reference place claim }
+    ensures todo { todo_of result ∷ todos path.new.items ≡ claim_todo reference place (todos path.old.items) (found_as claim) }
+    ensures way { IsWay (todo_of result ∷ todos path.new.items) }
+    ensures leaves { ClaimLeaves reference place claim result }
+{
+    match claim {
+        Ok(Found::Claimed) => Task::Pin(reference, place),
+        Ok(Found::Known(found)) => give_known(path, Done { reference, found }),
+        Ok(Found::Waiting) => Task::Start(reference, place),
+        Ok(Found::AlreadyFailed) => fail(path, PageOutError::AlreadyFailed, Some(reference.handle)),
+        Err(e) => fail(path, PageOutError::Failed(e), Some(reference.handle)),
+    }
+}
+
+/// Claims what a reference names, at this place on the path.
+pub fn start<E: Env, A: WorkerAccess<E>>(
+    access: &A,
+    table: &mut SlotTable<E>,
+    worker: WorkerNumber,
+    path: &mut Vec<Waiting<E>>,
+    reference: ArcRef,
+    place: u64,
+) -> Task<E>
+where
+    E::Node: NodeSet<E>,
+    requires { Awaits (todos path.old.items) reference place }
+    ensures way { IsWay (todo_of result ∷ todos path.new.items) }
+    ensures step { Tells (A.told access.now) (λ s. TurnsTo (values_at E.Node.NodeSet E.Env E.Hash.KeyHash (A.acting access.now).environment) (A.acting access.now).me worker.0 (shelf_of table.old) (Task.Start reference place) (todos path.old.items) (shelf_of table.new) (Turn.Goes result) (todo_of result ∷ todos path.new.items) s s) }
+{
+    let checked = access.check_reference(reference);
+    let claim = claim(table, worker, reference, place, checked);
+    after_claim(path, reference, place, claim)
+}
+
+/// Pins what was claimed, or begins a load of it.
+pub fn pin<E: Env, A: WorkerAccess<E>>(
+    access: &mut A,
+    alloc: Global,
+    path: &mut Vec<Waiting<E>>,
+    reference: ArcRef,
+    place: u64,
+) -> Task<E>
+where
+    E::Node: NodeSet<E>,
+    requires way { Awaits (todos path.old.items) reference place }
+    requires near { place ≤ longest_path }
+    ensures way { IsWay (todo_of result ∷ todos path.new.items) }
+    ensures step { (n : ℕ) (shelf : Shelf) → Told (A.told access.old) (A.told access.new) (TurnsTo (values_at E.Node.NodeSet E.Env E.Hash.KeyHash (A.acting access.old).environment) (A.acting access.old).me n shelf (Task.Pin reference place) (todos path.old.items) shelf (Turn.Goes result) (todo_of result ∷ todos path.new.items)) }
+    ensures acting { A.acting access.new ≡ A.acting access.old }
+    ensures lender { A.lender access.new ≡ A.lender access.old }
+{
+    let taken = match access.take_reference(reference) {
+        Ok(taken) => taken,
+        Err(e) => return fail(path, PageOutError::Failed(e), Some(reference.handle)),
+    };
+    match taken {
+        Taken::Held(through, pin) => Task::Write(reference, place, through, pin),
+        Taken::Begun(through, load, key) => {
+            let reading = Reading::new(alloc, load, key, reference.kind.0 / 3, true);
+            Task::Load(reference, place, through, reading)
+        }
+    }
+}
+
+/// Makes the next step of the load of what was claimed.
+pub fn load<E: Env, A: WorkerAccess<E>>(
+    access: &mut A,
+    alloc: Global,
+    path: &mut Vec<Waiting<E>>,
+    reference: ArcRef,
+    place: u64,
+    through: HandleNumber,
+    mut reading: Reading,
+) -> Task<E>
+where
+    E::Node: NodeSet<E>,
+    requires way { Awaits (todos path.old.items) reference place }
+    requires near { place ≤ longest_path }
+    ensures way { IsWay (todo_of result ∷ todos path.new.items) }
+    ensures step { (n : ℕ) (shelf : Shelf) → Told (A.told access.old) (A.told access.new) (TurnsTo (values_at E.Node.NodeSet E.Env E.Hash.KeyHash (A.acting access.old).environment) (A.acting access.old).me n shelf (Task.Load reference place through reading) (todos path.old.items) shelf (Turn.Goes result) (todo_of result ∷ todos path.new.items)) }
+    ensures acting { A.acting access.new ≡ A.acting access.old }
+    ensures lender { A.lender access.new ≡ A.lender access.old }
+{
+    match reading.step(access, alloc) {
+        None => Task::Load(reference, place, through, reading),
+        Some(LoadAnswer::Pinned(pin)) => Task::Write(reference, place, through, pin),
+        Some(LoadAnswer::Refused(e)) => {
+            fail(path, PageOutError::Failed(e), Some(reference.handle))
+        }
+        Some(LoadAnswer::Read(_value)) => fail(
+            path,
+            PageOutError::Failed(Error::WrongMode),
+            Some(reference.handle),
+        ),
     }
 }

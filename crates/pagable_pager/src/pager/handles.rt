@@ -1,9 +1,9 @@
 //! Handles that come to live nodes, and what is asked of them.
 
-ghost use Rattle.std.specs.Prelude.{◌≡◌, true};
+ghost use Rattle.std.specs.Prelude.{◌≡◌};
 ghost use Rattle.pagable_world.specs.declared.handles.Owner.TheVariants as owners;
 ghost use Rattle.pagable_world.specs.Calls.{CloneCall, PinCall, LoosenCall, CountCall, KeyCall, AwayCall, NodeCall, TypeCall};
-ghost use Rattle.pagable_pager.specs.View.{core_in, telling, OnlyTables, is_at_work};
+ghost use Rattle.pagable_pager.specs.View.{core_in, telling, OnlyTables};
 
 use crate::pager::Pager;
 use pagable_codec::{Env, NodeSet};
@@ -23,20 +23,7 @@ where
         ensures step { CloneCall (core_in (telling S.stored S.is_closed S.failed) self.old) owners.Caller handle result (core_in (telling S.stored S.is_closed S.failed) self.new) }
         ensures only { OnlyTables self.old self.new }
     {
-        self.clone_by(Owner::Caller, handle)
-    }
-
-    /// The same for this owner.
-    pub(crate) fn clone_by(
-        &mut self,
-        me: Owner,
-        handle: HandleNumber,
-    ) -> Result<HandleNumber, Error>
-        requires { is_at_work (core_in (telling S.stored S.is_closed S.failed) self.old) me ≡ true }
-        ensures step { CloneCall (core_in (telling S.stored S.is_closed S.failed) self.old) me handle result (core_in (telling S.stored S.is_closed S.failed) self.new) }
-        ensures only { OnlyTables self.old self.new }
-    {
-        making::clone(&mut self.tables, me, handle)
+        making::clone(&mut self.tables, Owner::Caller, handle)
     }
 
     /// A Pinned handle becomes a loose pinned one, and keeps its number. It takes no memory. Refused with NoSuchHandle, NotYours, and WrongMode where the handle
@@ -54,16 +41,7 @@ where
         ensures step { PinCall (core_in (telling S.stored S.is_closed S.failed) self.old) owners.Caller handle result (core_in (telling S.stored S.is_closed S.failed) self.new) }
         ensures only { OnlyTables self.old self.new }
     {
-        self.pin_by(Owner::Caller, handle)
-    }
-
-    /// The same for this owner.
-    pub(crate) fn pin_by(&mut self, me: Owner, handle: HandleNumber) -> Result<Pinning, Error>
-        requires { is_at_work (core_in (telling S.stored S.is_closed S.failed) self.old) me ≡ true }
-        ensures step { PinCall (core_in (telling S.stored S.is_closed S.failed) self.old) me handle result (core_in (telling S.stored S.is_closed S.failed) self.new) }
-        ensures only { OnlyTables self.old self.new }
-    {
-        pinning::pin(&mut self.tables, me, handle)
+        pinning::pin(&mut self.tables, Owner::Caller, handle)
     }
 
     /// How many handles pin the node. Refused with NoSuchHandle.

@@ -54,7 +54,7 @@ closes {before} {u} l given was whole on gives =
       listed = λ q. inl (o.listed q);
       waiting = o.waiting;
       loads_there = λ x k among own. there x k among own (k.0 == l.0) refl;
-      workers_there = λ x v among is. inl (o.workers x v among is);
+      workers_there = o.workers;
       loads = record {
         numbered = λ k some. loads.numbered k (some-still k some);
         owned = λ k load is. may-own u (without_load u l) (λ v at. at) load.owner (loads.owned k load (still-there l.0 u.loads k load is));
@@ -290,7 +290,7 @@ close-whole {w} {w'} r whole call placed = falls-opened fall call.falls.falls pl
           listed = λ q. at q (times (λ (h : HandleNumber). h.0 == q) w.list) refl;
           waiting = o.waiting;
           loads_there = λ x l among own. inl (o.loads x l among own);
-          workers_there = λ x v among is. inl (o.workers x v among is);
+          workers_there = o.workers;
           loads = record {
             numbered = whole.loads.numbered;
             owned = λ l load is. may-own w after (λ v at. at) load.owner (whole.loads.owned l load is);

@@ -1,14 +1,12 @@
-use Rattle.std.proofs.Common.{sym, ap, ◌∙◌}
-use Rattle.pagable_walk.specs.Table.{shelf_of, found_as}
-use Rattle.pagable_walk.specs.Turns.{refusal_of}
-use Rattle.pagable_walk.proofs.Turning.{claims-there, refuses}
+use Rattle.pagable_loads.specs.Telling.{values_at}
+use Rattle.pagable_walk.specs.Table.{shelf_of}
+use Rattle.pagable_walk.specs.Tasks.{todos}
+use Rattle.pagable_walk.proofs.Telling.{tells-map}
+use Rattle.pagable_walk.proofs.Turning.{start-turns}
 use Rattle.pagable_walk.proofs.turns.start.Goals as goal
 
-pub returns-in-Ok : goal.returns-in-Ok
-returns-in-Ok g c core below fault =
-    claims-there core c.args.worker.0 (shelf_of c.args.table.now) (shelf_of c.try_claim.new.self) c.args.reference c.args.place below (found_as c.try_claim.result)
-    (sym fault ∙ ap refusal_of c.in-Ok.is) c.try_claim.ensures
-
-pub returns-in-Err : goal.returns-in-Err
-returns-in-Err g c core below fault =
-    refuses core c.args.worker.0 (shelf_of c.args.table.now) (shelf_of c.stop_waiting.new.self) c.args.reference c.args.place below c.in-Err.e (sym fault ∙ ap refusal_of c.in-Err.is) c.stop_waiting.ensures
+pub returns-clause-step : goal.returns-clause-step
+returns-clause-step g c =
+    let acting = g.A.Access.acting c.args.access.now in
+    tells-map (λ s fault. start-turns (values_at g.E.Node.NodeSet g.E.Env g.E.Hash.KeyHash acting.environment) acting.me c.args.worker.0 (shelf_of c.args.table.now) (shelf_of c.claim-claim.new.table) c.args.reference c.args.place
+    (todos c.args.path.now.items) _ c.check_reference-checked.result c.claim-claim.result c.after_claim.result c.claim-claim.ensures.step c.after_claim.ensures.todo c.after_claim.ensures.leaves s fault) c.check_reference-checked.ensures

@@ -1,0 +1,165 @@
+-- What was written is a form of the node's value.
+use Rattle.std.specs.Prelude.{IfOk, IfErr}
+use Rattle.std.proofs.Common.{ℕ, ◌≡◌, ◌++◌, List, [], ◌∷◌, true, false, Some, None, Result, Ok, Err, inl, inr, refl, sym, ap, subst, ◌∙◌}
+use Rattle.pagable_codec.specs.declared.env.Env.{Ghosts as Environments}
+use Rattle.pagable_codec.specs.declared.hash.KeyHash.{Ghosts as Hashes}
+use Rattle.pagable_codec.specs.declared.nodes.NodeSet.{Ghosts as Nodes}
+use Rattle.pagable_core.specs.Context.{nothing}
+use Rattle.pagable_model.specs.declared.error.Error.{Error}
+use Rattle.pagable_model.specs.declared.error.Error.TheVariants as errors
+use Rattle.pagable_model.specs.declared.numbers.ArcRef.{ArcRef}
+use Rattle.pagable_model.specs.declared.numbers.HandleNumber.{HandleNumber}
+use Rattle.pagable_model.specs.declared.numbers.NodeNumber.{NodeNumber}
+use Rattle.pagable_model.specs.Refusals.{is_writing_fault}
+use Rattle.pagable_model.specs.Form.{Form}
+use Rattle.pagable_model.specs.Reading.{deepest}
+use Rattle.pagable_model.specs.Writing.{Out, WritesSome, nesting, Refused, kind_of_arc}
+use Rattle.pagable_world.specs.Plain.{type_of}
+use Rattle.pagable_world.specs.declared.handles.HandleRow.{HandleRow}
+use Rattle.pagable_world.specs.declared.handles.Owner.{Owner}
+use Rattle.pagable_world.specs.declared.events.Took.TheVariants as took
+use Rattle.pagable_world.specs.Kinds.{identity_of, is_pinning}
+use Rattle.pagable_world.specs.World.{Values, Written, Shelf, Todo, SameShelf, seen_as, was_refused, row_at}
+use Rattle.pagable_world.specs.Workers.{with_changed_slot, open_node}
+use Rattle.pagable_world.specs.Refusals.{live_fault}
+use Rattle.pagable_world.specs.Pager.{PagerState, ValueCall, RefusesWriting}
+use Rattle.pagable_laws.proofs.Trees.{same_some}
+use Rattle.pagable_loads.specs.Starting.{Shares}
+use Rattle.pagable_loads.specs.Telling.{values_at}
+use Rattle.pagable_walk.specs.declared.results.Trees.{Ghosts}
+use Rattle.pagable_walk.specs.declared.tasks.Task.{Task}
+use Rattle.pagable_walk.specs.declared.tasks.Task.TheVariants as tasks
+use Rattle.pagable_walk.specs.declared.tasks.Turn.TheVariants as comes
+use Rattle.pagable_walk.specs.Slots.{with_written}
+use Rattle.pagable_walk.specs.Failing.{back_of, fails}
+use Rattle.pagable_walk.specs.Tasks.{IsPlain}
+use Rattle.pagable_walk.specs.Turns.{Fits, Turned, TurnsTo}
+use Rattle.pagable_walk.specs.Writing.{IsForm, WriteRefused, IsPinned, Finds, Forms}
+use Rattle.pagable_walk.proofs.Turning.{alike, plain-fits}
+
+module _ {N E H K V : Type 0} (n : Nodes N E N H K V) (e : Environments E N H K V) (h : Hashes H) (env : E) (x : N) (shaped : n.shape_of env (n.type_of x) ≡ Some (n.own_shape env x)) where
+  pub is-form : (env' : E) (levels : ℕ) (old new : Out) (w : Written) → env' ≡ env → levels ≡ 0 → old ≡ nothing → WritesSome (n.means x) (nesting levels (e.parts env')) (n.own_shape env' x) old new → new.refs ≡ old.refs ++ n.refs_of x
+      → record { bytes = w.bytes; refs = w.references } ≡ new → IsForm (values_at n e h env) x w
+  is-form env' levels old new w at zero start wrote listed is =
+      let here = subst (λ (o : E). WritesSome (n.means x) (nesting levels (e.parts o)) (n.own_shape o x) old new) at wrote in
+      let flat = subst (λ l. WritesSome (n.means x) (nesting l (e.parts env)) (n.own_shape env x) old new) zero here in
+      let fresh = subst (λ (o : Out). WritesSome (n.means x) (nesting 0 (e.parts env)) (n.own_shape env x) o new) start flat in
+      let bytes : w.bytes ≡ fresh.wrote.bytes = ap (λ (o : Out). o.bytes) (is ∙ fresh.wrote.grown) in
+      let refs : w.references ≡ fresh.wrote.refs = ap (λ (o : Out). o.refs) (is ∙ fresh.wrote.grown) in
+      record {
+        form = record {
+          shape = n.own_shape env x;
+          own = fresh.m;
+          is = shaped;
+          means = fresh.is;
+          form = subst (λ bs. Form ArcRef kind_of_arc (e.parts env) deepest (n.own_shape env x) fresh.m bs w.references) (sym bytes) (subst (λ rs. Form ArcRef kind_of_arc (e.parts env) deepest (n.own_shape env x) fresh.m fresh.wrote.bytes rs) (sym refs) fresh.wrote.form);
+        };
+        listed = ap (λ (o : Out). o.refs) is ∙ listed ∙ ap (λ (o : Out). o.refs ++ n.refs_of x) start;
+      }
+
+  pub write-refused : (env' : E) (levels : ℕ) (err : Error) → env' ≡ env → levels ≡ 0 → Refused (n.means x) (nesting levels (e.parts env')) (n.own_shape env' x) err → n.write_causes (n.type_of x) err → WriteRefused (values_at n e h env) x err
+  write-refused env' levels err at zero refused cause =
+      let here = subst (λ (o : E). Refused (n.means x) (nesting levels (e.parts o)) (n.own_shape o x) err) at refused in
+      let flat = subst (λ l. Refused (n.means x) (nesting l (e.parts env)) (n.own_shape env x) err) zero here in
+      record { cause = cause; formless = λ is. record { shape = n.own_shape env x; is = shaped; formless = flat is } }
+
+-- ---- what a handle pins
+
+module _ {N E : Type 0} (v : Values N) (s : PagerState N E) (r : ArcRef) (pin : HandleNumber) where
+  shared-some : (x : N) → ValueCall s pin (Ok (Some x)) → IsPinned v s r pin → (s.values r.node.0 ≡ Some x) × (v.node_type x ≡ type_of r.kind.0)
+  shared-some x call p =
+      let row : HandleRow = call.found.0 in
+      let same : row ≡ p.pins.row = same_some _ _ (sym call.found.1 ∙ p.pins.live) in
+      let at : row.node.0 ≡ r.node.0 = ap (λ (h : HandleRow). h.node.0) same ∙ ap (λ (q : NodeNumber). q.0) p.pins.at in
+      let held = subst (λ q. s.values q ≡ Some x) at call.found.2.1 in
+      (held, p.kind.typed (v.node_type x) (p.whole.typed r.node.0 x held))
+
+  shared-none : {A : Type 0} → ValueCall s pin (Ok None) → IsPinned v s r pin → A
+  shared-none call p =
+      let row : HandleRow = call.found.0 in
+      let same : row ≡ p.pins.row = same_some _ _ (sym call.found.1 ∙ p.pins.live) in
+      let no : false ≡ true = sym call.found.2 ∙ ap (λ (h : HandleRow). is_pinning h.mode) same ∙ p.pins.pins in
+      absurd (cc)
+
+  shared-refused : {A : Type 0} (e : Error) → live_fault (row_at s.core pin) ≡ Some e → IsPinned v s r pin → A
+  shared-refused e why p = let no : None ≡ Some e = sym (ap live_fault p.pins.live) ∙ why in absurd (cc)
+
+  module _ {X : Type 0} (see : X → N) where
+    pub finds-some : (y : X) → Shares see s pin (Ok (Some y)) → Finds v s r pin (Ok (see y))
+    finds-some y shared = record { found = λ p. shared-some (see y) shared.given p; refused = λ p. tt }
+
+    pub finds-other : (y : X) (e : Error) (t : ℕ) → t ≡ v.node_type (see y) → (t ≡ type_of r.kind.0 → ⊥) → Shares see s pin (Ok (Some y)) → Finds v s r pin (Err e)
+    finds-other y e t is differs shared = record { found = λ p. tt; refused = λ p. absurd (differs (is ∙ (shared-some (see y) shared.given p).1)) }
+
+    pub finds-none : (e : Error) → Shares see s pin (Ok None) → Finds v s r pin (Err e)
+    finds-none e shared = record { found = λ p. tt; refused = λ p. shared-none shared.given p }
+
+    pub finds-refused : (e : Error) → Shares see s pin (Err e) → Finds v s r pin (Err e)
+    finds-refused e shared = record { found = λ p. tt; refused = λ p. elim shared.refused [ inl why ↦ shared-refused e why p | inr oom ↦ oom ] }
+
+  pub pinned-forms : (x : N) (w : Written) → Finds v s r pin (Ok x) → IsForm v x w → Forms v s r pin (Ok w)
+  pinned-forms x w finds is = record { written = λ p. record { x = x; held = (finds.found p).0; form = is.form; listed = is.listed }; refused = λ p. tt }
+
+  pub pinned-refuses : (x : N) (e : Error) → Finds v s r pin (Ok x) → WriteRefused v x e → Forms v s r pin (Err e)
+  pinned-refuses x e finds why =
+      record {
+        written = λ p. tt;
+        refused = λ p. (inl (subst (λ t. v.write_causes t e) (finds.found p).1 why.cause), λ is. (x, (finds.found p).0, why.formless is));
+      }
+
+  none-written : (e : Error) → e ≡ errors.OutOfMemory → RefusesWriting v s r.node.0 e
+  none-written e oom is = let no : false ≡ true = sym (ap is_writing_fault oom) ∙ is in absurd (cc)
+
+  pub memory-refuses : (e : Error) → e ≡ errors.OutOfMemory → Forms v s r pin (Err e)
+  memory-refuses e oom = record { written = λ p. tt; refused = λ p. (inr oom, none-written e oom) }
+
+  pub unfound-refuses : (e : Error) → Finds v s r pin (Err e) → Forms v s r pin (Err e)
+  unfound-refuses e finds = record { written = λ p. tt; refused = λ p. (inr (finds.refused p), none-written e (finds.refused p)) }
+
+module _ {N E : Type 0} (v : Values N) (s : PagerState N E) (r : ArcRef) (pin : HandleNumber) {W : Type 0} (see : W → Written) where
+  pub forms-from : (x : N) (result : Result W Error) → IfOk result (λ d. IsForm v x (see d)) → IfErr result (λ e. WriteRefused v x e) → Finds v s r pin (Ok x) → Forms v s r pin (seen_as see result)
+  forms-from x (Ok d) is why finds = pinned-forms v s r pin x (see d) finds is
+  forms-from x (Err e) is why finds = pinned-refuses v s r pin x e finds why
+
+  pub kept-forms : (w : Written) (result : Result W Error) → IfOk result (λ p. see p ≡ w) → IfErr result (λ e. e ≡ errors.OutOfMemory) → Forms v s r pin (Ok w) → Forms v s r pin (seen_as see result)
+  kept-forms w (Ok p) same only forms = subst (λ x. Forms v s r pin (Ok x)) (sym same) forms
+  kept-forms w (Err e) same only forms = memory-refuses v s r pin e only
+
+-- ---- the turn
+
+pub none-back : (below : List Todo) → back_of None below ≡ None
+none-back [] = refl
+none-back (x ∷ below) = refl
+
+module _ {X : Type 0} {g : Ghosts X} {N E : Type 0} (v : Values N) (me : Owner) (n : ℕ) (shelf shelf' : Shelf) (r : ArcRef) (place : ℕ) (through pin : HandleNumber) (below after : List Todo) (task : Task X g) (plain : IsPlain task) (s : PagerState N E) where
+  is-pinned : Fits {g = g} v me n (tasks.Write r place through pin) s → IsPinned v s r pin
+  is-pinned f = record { whole = f.whole; kind = f.task_fits.0; pins = f.task_fits.1.pins }
+
+  pub write-turns : (w : Written) → Forms v s r pin (Ok w) → SameShelf (with_changed_slot shelf (identity_of r) (with_written w)) shelf' → after ≡ open_node r place through w below
+      → TurnsTo v me n shelf (tasks.Write r place through pin) below shelf' (comes.Goes task) after s s
+  write-turns w forms same is = record {
+    turns = λ f. record {
+      step = took.Write (identity_of r) (Ok w);
+      does = record { does = (refl, record { writes = record { pager_stays = alike s.core; table_is = same; list_is = is }; refused = tt }) };
+      answers = refl;
+      moves = record { each = λ q x h. inl h; environment = refl };
+      writes = forms.written (is-pinned f);
+      whole = f.whole;
+      fits = plain-fits n s.core task plain;
+    };
+  }
+
+  pub write-fails : (e : Error) → Forms v s r pin (Err e) → SameShelf shelf shelf' → after ≡ fails (was_refused e) (back_of None below) → TurnsTo v me n shelf (tasks.Write r place through pin) below shelf' (comes.Goes task) after s s
+  write-fails e forms same is = record {
+    turns = λ f.
+        let why = forms.refused (is-pinned f) in
+        record {
+          step = took.Write (identity_of r) (Err e);
+          does = record { does = (refl, record { writes = tt; refused = (why.0, record { pager_stays = alike s.core; table_is = same; list_is = is ∙ ap (fails (was_refused e)) (none-back below) }) }) };
+          answers = refl;
+          moves = record { each = λ q x h. inl h; environment = refl };
+          writes = why.1;
+          whole = f.whole;
+          fits = plain-fits n s.core task plain;
+        };
+  }

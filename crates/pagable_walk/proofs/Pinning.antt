@@ -1,0 +1,329 @@
+-- A turn that pins what was claimed, or loads it, is the worker's.
+use Rattle.std.proofs.Common.{ℕ, ◌≡◌, ◌+◌, ◌<◌, ◌≤◌, ◌==◌, ◌⊎◌, Bool, true, false, List, [], ◌∷◌, Some, None, Result, Ok, Err, inl, inr, refl, sym, ap, subst, ◌∙◌, arith}
+use Rattle.std.specs.Prelude.{Option, if◌then◌else◌, not, ◌&&◌}
+use Rattle.std.proofs.lemmas.Bool.Decides.{nat_tests}
+use Rattle.pagable_model.specs.declared.error.Error.{Error}
+use Rattle.pagable_world.specs.Plain.{ArcRef, HandleNumber, Kind, LoadNumber, NodeNumber, OptionalDataKey, type_of, if_there}
+use Rattle.pagable_world.specs.declared.handles.Owner.{Owner}
+use Rattle.pagable_world.specs.declared.handles.HandleRow.{HandleRow}
+use Rattle.pagable_world.specs.declared.events.LoadAnswer.{LoadAnswer}
+use Rattle.pagable_model.specs.declared.data_key.OptionalDataKey.TheVariants as optional
+use Rattle.pagable_world.specs.declared.rows.Mode.TheVariants as modes
+use Rattle.pagable_world.specs.declared.handles.Owner.TheVariants as owners
+use Rattle.pagable_world.specs.declared.answers.Pinning.TheVariants as pinnings
+use Rattle.pagable_world.specs.declared.answers.Beginning.TheVariants as beginnings
+use Rattle.pagable_world.specs.declared.events.LoadAnswer.TheVariants as ends
+use Rattle.pagable_world.specs.declared.events.PinStep.TheVariants as pinsteps
+use Rattle.pagable_world.specs.declared.events.Took.TheVariants as took
+use Rattle.pagable_world.specs.Kinds.{identity_of, is_loose, is_pinning, mode_of, owner_worker, owner_value, find_row, is_handle}
+use Rattle.pagable_world.specs.World.{Core, Cell, Shelf, SameShelf, Todo, to_pin, to_load, to_write, Frame, OpenLoad, Reading, Root, of_cell, of_key, Values, was_refused, type_at, one_more}
+use Rattle.pagable_world.specs.Cascade.{FallsAnyhow}
+use Rattle.pagable_world.specs.Calls.{with_handle, with_mode, with_node, next_node, with_cached, moved, is_named_by, CloneCall, PinCall}
+use Rattle.pagable_world.specs.LoadCalls.{with_pin, without_load, is_owned_in, adopted, first_key}
+use Rattle.pagable_world.specs.Loads.{GoesOn, EndsPinned, IsOfKey, gone_on}
+use Rattle.pagable_world.specs.Workers.{PinsAtOnce, PinRefused, RowIs, fresh, entry_left, Does}
+use Rattle.pagable_world.specs.Pager.{PagerState, HandlesAreWhole, Moves}
+use Rattle.pagable_world.specs.Access.{Called, ReadingStep}
+use Rattle.pagable_laws.specs.KeyRuns.{StandsAt}
+use Rattle.pagable_laws.specs.TreeSteps.{Change}
+use Rattle.pagable_laws.proofs.Trees.{same_some}
+use Rattle.pagable_laws.proofs.Goes.{Goes, Kept}
+use Rattle.pagable_laws.proofs.Outlasting.{NotValues, Stands, stands-alike, stands-fell}
+use Rattle.pagable_laws.proofs.PinSteps.{AreLow, low-whole, low-changed, low-handle, new-handle, clone-call, not-loose, owned-none}
+use Rattle.pagable_laws.proofs.Naming.{clone-stands}
+use Rattle.pagable_laws.proofs.WalkSteps.{walk-goes}
+use Rattle.pagable_loads.specs.declared.reading.Reading.{Reading as Own}
+use Rattle.pagable_loads.specs.declared.working.Taken.TheVariants as takens
+use Rattle.pagable_loads.specs.Frames.{IsLoadOf, frames_of, reading_of}
+use Rattle.pagable_loads.specs.Stepping.{Steps}
+use Rattle.pagable_loads.specs.Working.{TakesReference, BeginsAt}
+use Rattle.pagable_walk.specs.declared.results.Trees.{Ghosts}
+use Rattle.pagable_walk.specs.declared.tasks.Task.{Task}
+use Rattle.pagable_walk.specs.declared.tasks.Task.TheVariants as tasks
+use Rattle.pagable_walk.specs.declared.tasks.Turn.{Turn}
+use Rattle.pagable_walk.specs.declared.tasks.Turn.TheVariants as comes
+use Rattle.pagable_walk.specs.Failing.{back_of, fails}
+use Rattle.pagable_walk.specs.Tasks.{IsPlain}
+use Rattle.pagable_walk.specs.Turns.{IsLoading, IsOfKind, HoldsPin, Fits, TurnsTo, plain, site}
+use Rattle.pagable_walk.proofs.Turning.{plain-fits}
+
+-- ---- what stays
+
+module _ {c : Change} {w w' : Core} (goes : Goes c w w') where
+  pub kind-on : {r : ArcRef} → IsOfKind w r → IsOfKind w' r
+  kind-on {r} k = record { given = let a = k.given in let b = goes.nodes in omega arith; typed = typed }
+    where
+      of-cell : (t : ℕ) (found : Option Cell) → w'.cells r.node.0 ≡ found → if_there (λ (cell : Cell). Some cell.node_type) None found ≡ Some t → t ≡ type_of r.kind.0
+      of-cell t None live is = absurd (cc)
+      of-cell t (Some cell) live is =
+          let same : cell.node_type ≡ t = same_some _ _ is in
+          elim (goes.cells r.node.0 cell live) [
+            | inl kept ↦ sym same ∙ kept.typed ∙ k.typed kept.was.node_type (ap (λ (found : Option Cell). if_there (λ (x : Cell). Some x.node_type) None found) kept.live)
+            | inr (next, bears) ↦ let a = k.given in absurd (omega arith)
+          ]
+
+      typed : (t : ℕ) → type_at w' r.node.0 ≡ Some t → t ≡ type_of r.kind.0
+      typed t is = of-cell t (w'.cells r.node.0) refl is
+
+-- ---- the new pin
+
+pins-by : {last : ℕ} (w : Core) (r : ArcRef) {row : HandleRow} (k : HandleNumber) (q : ℕ) → k.0 ≡ q → Stands last w.rows q row → row.node ≡ r.node → is_pinning row.mode ≡ true → HoldsPin w row.owner r k
+pins-by w r {row} k q is s at pins = record { pins = record { row = row; live = subst (λ n. find_row n w.rows ≡ Some row) (sym is) s.live; at = at; pins = pins }; own = refl }
+
+clone-pins : (w w' : Core) (me : Owner) (r : ArcRef) (k : HandleNumber) → HandlesAreWhole w → StandsAt w r r.handle → RowIs w r.handle false → CloneCall w me r.handle (Ok k) w' → HoldsPin w' me r k
+clone-pins w w' me r k whole stands is clone =
+    let c = clone-call w w' (low-whole whole) me r.handle k clone in
+    let row : HandleRow = c.0 in
+    let same : is.row ≡ row = same_some _ _ (sym is.live ∙ c.1) in
+    pins-by w' r k (w.last.handle + 1) clone.made.2.above c.2 (stands.is row c.1).0 (not-loose row.mode (ap (λ (h : HandleRow). is_loose h.mode) (sym same) ∙ is.sort))
+
+pin-pins : (w w' : Core) (me : Owner) (r : ArcRef) (h k : HandleNumber) → AreLow w → StandsAt w r h → PinCall w me h (Ok (pinnings.Pinned k)) w' → HoldsPin w' me r k
+pin-pins w w' me r h k low stands c =
+    let row : HandleRow = c.pins.0 in
+    let low' = low-changed w.last.handle w.rows (is_handle h.0) (λ r. record r { mode = modes.LoosePinned }) (λ r. refl) low in
+    let s = new-handle (with_mode w h modes.LoosePinned) row.node modes.Pinned me low' in
+    pins-by w' r k (w.last.handle + 1) c.pins.2.1.above (stands-alike {w = with_handle (with_mode w h modes.LoosePinned) row.node modes.Pinned me} c.pins.2.2 s) (stands.is row c.pins.1.live).0 refl
+
+low-cloned : (w w' : Core) (me : Owner) (h k : HandleNumber) → HandlesAreWhole w → CloneCall w me h (Ok k) w' → AreLow w'
+low-cloned w w' me h k whole c = let row : HandleRow = c.made.0 in low-handle w w' row.node row.mode me (low-whole whole) c.made.3
+
+pub at-once-pins : (w w' : Core) (me : Owner) (r : ArcRef) (through k : HandleNumber) → HandlesAreWhole w → StandsAt w r r.handle → PinsAtOnce w me r through k w' → HoldsPin w' me r k
+at-once-pins w w' me r through k whole stands does = elim does [
+  | inl (is, same, clone) ↦ clone-pins w w' me r k whole stands is clone
+  | inr (is, (mid, clone, pin)) ↦ pin-pins mid w' me r through k (low-cloned w mid me r.handle through whole clone) (clone-stands whole r through stands clone) pin
+]
+
+-- ---- a load that has begun
+
+pub begun-loads : (w w' : Core) (n : ℕ) (r : ArcRef) (through : HandleNumber) (l : LoadNumber) (key : ℕ) (own : Own) → HandlesAreWhole w → StandsAt w r r.handle → BeginsAt w (owner_worker n) r through l key w'
+    → own.load ≡ l → own.key ≡ key → own.for_cell ≡ true → IsLoading w' n r through own
+begun-loads w w' n r through l key own whole stands (is, (mid, clone, begin)) same_load same_key cell =
+    let row : HandleRow = begin.begins.0 in
+    let b = begin.begins.2 in
+    let t : ℕ = b.4.0 in
+    let at : row.node ≡ r.node = ((clone-stands whole r through stands clone).is row begin.begins.1.live).0 in
+    let next : l.0 ≡ mid.last.load + 1 = b.2.above in
+    let new : OpenLoad = record { owner = owner_worker n; key = key; root = of_cell row.node t through } in
+    let found : w'.loads l.0 ≡ Some new = b.4.2.loads l.0 ∙ ap (λ c. if c then Some new else mid.loads l.0) (is-at l.0 (mid.last.load + 1) next) in
+    record {
+      is = record { load = new; owned = record { stands_open = ap (λ (x : LoadNumber). w'.loads x.0) same_load ∙ found; own = refl }; key = sym same_key; sort = sym cell };
+      for_cell = cell;
+      t = t;
+      root = ap (λ q. of_cell q t through) at;
+    }
+  where
+    is-at : (a b : ℕ) → a ≡ b → (a == b) ≡ true
+    is-at a b e = grind (arith, nat_tests)
+
+-- ---- a load that goes on, and one that ends with the pin
+
+adopted-loads : (w : Core) (l : LoadNumber) (kind : Kind) (key : ℕ) (own : OptionalDataKey) (references : List ArcRef) (q : ℕ) → (adopted w l kind key own references).loads q ≡ w.loads q
+adopted-loads w l kind key own references q = at w.closed
+  where
+    u : Core
+    u = with_handle (with_node w (type_of kind.0) own references) (next_node w) (mode_of kind.0) (owners.Load l)
+
+    at : (b : Bool) → (if b then u else with_cached u kind key (next_node w)).loads q ≡ w.loads q
+    at true = refl
+    at false = refl
+
+goes-open : {N : Type 0} (v : Values N) (w w' : Core) (me : Owner) (reading : Reading) (frames : List Frame) (l : ℕ) → GoesOn v w me reading frames w' → w'.loads l ≡ w.loads l
+goes-open v w w' me reading frames l (inl g) = let a = g.asked.gives.2 in a.asked.leaves.loads l
+goes-open v w w' me reading frames l (inr (inl g)) = let a = g.asked.gives.2 in a.leaves.loads l
+goes-open v w w' me reading frames l (inr (inr (inl g))) = let a = g.asked.gives.2.1 in a.asked.leaves.loads l
+goes-open v w w' me reading frames l (inr (inr (inr (inl g)))) = elim g.asked.makes.3 [
+  | inl known ↦ known.leaves.loads l
+  | inr (none, left, next, a) ↦ a.loads l ∙ adopted-loads w reading.load g.kind g.key (optional.Some g.key) [] l
+]
+goes-open v w w' me reading frames l (inr (inr (inr (inr g)))) = elim g.adopted.adopts.makes [
+  | inl (n, known, f) ↦ f.falls.leaves.loads l
+  | inr (none, left, a) ↦ a.loads l ∙ adopted-loads w reading.load g.reads_node.top.kind g.reads_node.top.key (first_key g.reads_node.top.kind.0 g.reads_node.top.key) (v.references g.x) l
+]
+
+worker-free : (n : ℕ) → NotValues (owner_worker n)
+worker-free n m is = absurd (cc)
+
+abbrev node-in : NodeNumber → Root → NodeNumber
+node-in other (of_cell node t h) = node
+node-in other of_key = other
+
+module _ (w w' : Core) (n : ℕ) (r : ArcRef) (whole : HandlesAreWhole w) where
+  stays-pinned : (u : Core) (h : HandleNumber) (node : NodeNumber) (k : HandleNumber) (given : ℕ → Bool) → AreLow u → u.last.handle ≡ w.last.handle → k.0 ≡ w.last.handle + 1 → given (w.last.handle + 1) ≡ false → node ≡ r.node
+      → FallsAnyhow w (with_pin u h node (owner_worker n)) given w' → HoldsPin w' (owner_worker n) r k
+  stays-pinned u h node k given low same next kept at f =
+      let low' = low-changed u.last.handle u.rows (is_handle h.0) (λ r. record r { mode = modes.LoosePinned }) (λ r. refl) low in
+      let s = new-handle (with_mode u h modes.LoosePinned) node modes.Pinned (owner_worker n) low' in
+      let q : u.last.handle + 1 ≡ w.last.handle + 1 = ap (λ n. n + 1) same in
+      pins-by w' r k (u.last.handle + 1) (next ∙ sym q) (stands-fell f.falls (worker-free n) (ap given q ∙ kept) s) at refl
+
+  pub end-pins : {N : Type 0} (v : Values N) (through : HandleNumber) (own : Own) (k : HandleNumber) → IsLoading w n r through own → EndsPinned v w (owner_worker n) (reading_of own) k w' → HoldsPin w' (owner_worker n) r k
+  end-pins v through own k is e =
+      let l = own.load in
+      let node : NodeNumber = e.ended.installs.0 in
+      let h : HandleNumber = e.ended.installs.1 in
+      let may = e.ended.installs.2 in
+      let i = e.ended.installs.3 in
+      let same : may.load ≡ is.is.load = same_some _ _ (sym may.owned.stands_open ∙ is.is.owned.stands_open) in
+      let at : node ≡ r.node = sym (ap (node-in r.node) may.of_node) ∙ ap (λ (x : OpenLoad). node-in r.node x.root) same ∙ ap (node-in r.node) is.root in
+      let references = v.references e.x in
+      let low = low-whole whole in
+      elim i.falls [
+        | inl (away, f) ↦ stays-pinned (record (without_load w l) { rows = moved (is_named_by references) (owner_value node.0) w.rows }) h node k _
+            (low-changed w.last.handle w.rows (λ r. is_named_by references r.number.0) (λ r. record r { owner = owner_value node.0 }) (λ r. refl) low) refl i.next.above (ap (λ b. b && not (is_named_by references (w.last.handle + 1))) (owned-none w w low l)) at f
+        | inr (there, f) ↦ stays-pinned (without_load w l) h node k (is_owned_in w (owners.Load l)) low refl i.next.above (owned-none w w low l) at f
+      ]
+
+-- ---- the turns
+
+no-key : (root : Root) (node : NodeNumber) (t : ℕ) (h : HandleNumber) → root ≡ of_cell node t h → IsOfKey root → ⊥
+no-key (of_cell m u k) node t h is key = key
+no-key of_key node t h is key = absurd (cc)
+
+pub comes-none : {N E : Type 0} {comes : ℕ → N → Type 0} {s t : PagerState N E} → Moves (λ n x. ⊥) s t → Moves comes s t
+comes-none m = record { each = λ n x is. elim (m.each n x is) [ inl was ↦ inl was | inr came ↦ absurd came.1 ]; environment = m.environment }
+
+pub same-shelf : (shelf : Shelf) → SameShelf shelf shelf
+same-shelf shelf = record { slots = λ i. refl; waits = λ q. refl }
+
+pub pin-back : (r : ArcRef) (place : ℕ) (below : List Todo) → back_of (Some r.handle) below ≡ entry_left (to_pin r place ∷ below)
+pin-back r place [] = refl
+pin-back r place (x ∷ below) = refl
+
+pub load-back : (r : ArcRef) (place : ℕ) (through : HandleNumber) (reading : Reading) (below : List Todo) → back_of (Some r.handle) below ≡ entry_left (to_load r place through reading ∷ below)
+load-back r place through reading [] = refl
+load-back r place through reading (x ∷ below) = refl
+
+module _ {X : Type 0} {g : Ghosts X} {N E : Type 0} (v : Values N) (me : Owner) (n : ℕ) (shelf : Shelf) (r : ArcRef) (place : ℕ) (below : List Todo) where
+  pub pin-holds : (through k : HandleNumber) (s t : PagerState N E) → Called v (λ w'. TakesReference s.core me r (Ok (takens.Held through k)) w') s t
+      → TurnsTo {g = g} v me n shelf (tasks.Pin r place) below shelf (comes.Goes (tasks.Write r place through k)) (to_write r place through ∷ below) s t
+  pin-holds through k s t call = record {
+    turns = λ f.
+        let takes = subst (λ o. PinsAtOnce s.core o r through k t.core) f.me_is call.step.takes in
+        let does : Does (plain v) n (site s.core shelf (to_pin r place ∷ below)) (to_pin r place ∷ below) (took.Pin (identity_of r) (Ok (pinsteps.Held k))) (site t.core shelf (to_write r place through ∷ below)) =
+        (refl, record { pins = (through, takes, record { table_stays = same-shelf shelf; list_is = refl }); refused = tt }) in
+        let goes = walk-goes (plain v) n (site s.core shelf (to_pin r place ∷ below)) (site t.core shelf (to_write r place through ∷ below)) (to_pin r place ∷ below) (took.Pin (identity_of r) (Ok (pinsteps.Held k))) does in
+        record {
+          step = took.Pin (identity_of r) (Ok (pinsteps.Held k));
+          does = record { does = does };
+          answers = refl;
+          moves = comes-none call.moves;
+          writes = tt;
+          whole = call.whole;
+          fits = (kind-on goes.goes f.task_fits.1, at-once-pins s.core t.core (owner_worker n) r through k f.whole.whole.handles f.task_fits.0 takes);
+        };
+  }
+
+  pub pin-begins : (through : HandleNumber) (l : LoadNumber) (key : ℕ) (own : Own) → reading_of own ≡ fresh l (type_of r.kind.0) → own.key ≡ key → own.for_cell ≡ true → (s t : PagerState N E)
+      → Called v (λ w'. TakesReference s.core me r (Ok (takens.Begun through l key)) w') s t → TurnsTo {g = g} v me n shelf (tasks.Pin r place) below shelf (comes.Goes (tasks.Load r place through own)) (to_load r place through (reading_of own) ∷ below) s t
+  pin-begins through l key own is same_key cell s t call = record {
+    turns = λ f.
+        let takes = subst (λ o. BeginsAt s.core o r through l key t.core) f.me_is call.step.takes in
+        let does : Does (plain v) n (site s.core shelf (to_pin r place ∷ below)) (to_pin r place ∷ below) (took.Pin (identity_of r) (Ok (pinsteps.LoadBegun l))) (site t.core shelf (to_load r place through (reading_of own) ∷ below)) =
+        (refl, record { pins = (through, (takes.0, (takes.1.0, key, takes.1.1, takes.1.2)), record { table_stays = same-shelf shelf; list_is = ap (λ x. to_load r place through x ∷ below) is }); refused = tt }) in
+        let goes = walk-goes (plain v) n (site s.core shelf (to_pin r place ∷ below)) (site t.core shelf (to_load r place through (reading_of own) ∷ below)) (to_pin r place ∷ below) (took.Pin (identity_of r) (Ok (pinsteps.LoadBegun l))) does in
+        record {
+          step = took.Pin (identity_of r) (Ok (pinsteps.LoadBegun l));
+          does = record { does = does };
+          answers = refl;
+          moves = comes-none call.moves;
+          writes = tt;
+          whole = call.whole;
+          fits = (kind-on goes.goes f.task_fits.1, begun-loads s.core t.core n r through l key own f.whole.whole.handles f.task_fits.0 takes (ap (λ (x : Reading). x.load) is) same_key cell);
+        };
+  }
+
+  pub pin-fails : (e : Error) (task : Task X g) (after : List Todo) → IsPlain task → after ≡ fails (was_refused e) (back_of (Some r.handle) below) → (s t : PagerState N E) → Called v (λ w'. TakesReference s.core me r (Err e) w') s t
+      → TurnsTo v me n shelf (tasks.Pin r place) below shelf (comes.Goes task) after s t
+  pin-fails e task after plain-task is s t call = record {
+    turns = λ f. record {
+      step = took.Pin (identity_of r) (Err e);
+      does = record { does = (refl, record { pins = tt; refused = (subst (λ o. PinRefused s.core o r e t.core) f.me_is call.step.refused, record { table_stays = same-shelf shelf; list_is = is ∙ ap (fails (was_refused e)) (pin-back r place below) }) }) };
+      answers = refl;
+      moves = comes-none call.moves;
+      writes = tt;
+      whole = call.whole;
+      fits = plain-fits n t.core task plain-task;
+    };
+  }
+
+  module _ (through : HandleNumber) (own : Own) where
+    stepped : {s t : PagerState N E} {answer : Option (LoadAnswer N)} {frames : List Frame} → Fits {g = g} v me n (tasks.Load r place through own) s → Steps v me own s answer frames t → ReadingStep v (owner_worker n) (reading_of own) s answer frames t
+    stepped {s} {t} {answer} {frames} f steps = subst (λ o. IsLoadOf s.core o own → ReadingStep v o (reading_of own) s answer frames t) f.me_is steps.does f.task_fits.1.is
+
+    pub load-goes : (new : Own) (frames : List Frame) → frames ≡ frames_of new.top new.below.items → new.load ≡ own.load → new.node_type ≡ own.node_type → new.steps ≡ one_more own.steps → new.key ≡ own.key → new.for_cell ≡ own.for_cell → (s t : PagerState N E)
+        → Steps v me own s None frames t → TurnsTo {g = g} v me n shelf (tasks.Load r place through own) below shelf (comes.Goes (tasks.Load r place through new)) (to_load r place through (reading_of new) ∷ below) s t
+    load-goes new frames at load node_type steps key cell s t call = record {
+      turns = λ f.
+          let step = stepped f call in
+          let same : reading_of new ≡ gone_on (reading_of own) frames = λ i. record { load = load i; node_type = node_type i; frames = sym at i; steps = steps i } in
+          let does : Does (plain v) n (site s.core shelf (to_load r place through (reading_of own) ∷ below)) (to_load r place through (reading_of own) ∷ below) (took.Pin (identity_of r) (Ok pinsteps.LoadWent)) (site t.core shelf (to_load r place through (reading_of new) ∷ below)) =
+          (refl, record { goes = (frames, step.does, record { table_stays = same-shelf shelf; list_is = ap (λ x. to_load r place through x ∷ below) same }); refused = tt }) in
+          let goes = walk-goes (plain v) n (site s.core shelf (to_load r place through (reading_of own) ∷ below)) (site t.core shelf (to_load r place through (reading_of new) ∷ below)) (to_load r place through (reading_of own) ∷ below) (took.Pin (identity_of r) (Ok pinsteps.LoadWent)) does in
+          let old = f.task_fits.1 in
+          let open_load : t.core.loads new.load.0 ≡ Some old.is.load = ap (λ (x : LoadNumber). t.core.loads x.0) load ∙ goes-open v s.core t.core (owner_worker n) (reading_of own) frames own.load.0 step.does.does ∙ old.is.owned.stands_open in
+          record {
+            step = took.Pin (identity_of r) (Ok pinsteps.LoadWent);
+            does = record { does = does };
+            answers = refl;
+            moves = step.moves;
+            writes = tt;
+            whole = step.whole;
+            fits = (
+              kind-on goes.goes f.task_fits.0,
+              record {
+                is = record { load = old.is.load; owned = record { stands_open = open_load; own = old.is.owned.own }; key = old.is.key ∙ sym key; sort = old.is.sort ∙ sym cell };
+                for_cell = cell ∙ old.for_cell;
+                t = old.t;
+                root = old.root;
+              },
+            );
+          };
+    }
+
+    pub load-pins : (k : HandleNumber) (frames : List Frame) (s t : PagerState N E) → Steps v me own s (Some (ends.Pinned k)) frames t
+        → TurnsTo {g = g} v me n shelf (tasks.Load r place through own) below shelf (comes.Goes (tasks.Write r place through k)) (to_write r place through ∷ below) s t
+    load-pins k frames s t call = record {
+      turns = λ f.
+          let step = stepped f call in
+          let end = step.does.does in
+          let does : Does (plain v) n (site s.core shelf (to_load r place through (reading_of own) ∷ below)) (to_load r place through (reading_of own) ∷ below) (took.Pin (identity_of r) (Ok (pinsteps.Held k))) (site t.core shelf (to_write r place through ∷ below)) =
+          (refl, record { goes = (record { does = (end.0, refl) }, record { table_stays = same-shelf shelf; list_is = refl }); refused = tt }) in
+          let goes = walk-goes (plain v) n (site s.core shelf (to_load r place through (reading_of own) ∷ below)) (site t.core shelf (to_write r place through ∷ below)) (to_load r place through (reading_of own) ∷ below) (took.Pin (identity_of r) (Ok (pinsteps.Held k))) does in
+          record {
+            step = took.Pin (identity_of r) (Ok (pinsteps.Held k));
+            does = record { does = does };
+            answers = refl;
+            moves = step.moves;
+            writes = tt;
+            whole = step.whole;
+            fits = (kind-on goes.goes f.task_fits.0, end-pins s.core t.core n r f.whole.whole.handles v through own k f.task_fits.1 end.0);
+          };
+    }
+
+    pub load-fails : (e : Error) (frames : List Frame) (task : Task X g) (after : List Todo) → IsPlain task → after ≡ fails (was_refused e) (back_of (Some r.handle) below) → (s t : PagerState N E) → Steps v me own s (Some (ends.Refused e)) frames t
+        → TurnsTo v me n shelf (tasks.Load r place through own) below shelf (comes.Goes task) after s t
+    load-fails e frames task after plain-task is s t call = record {
+      turns = λ f.
+          let step = stepped f call in
+          let end = step.does.does in
+          record {
+            step = took.Pin (identity_of r) (Err e);
+            does = record { does = (refl, record { goes = tt; refused = (record { does = (end.0, refl) }, record { table_stays = same-shelf shelf; list_is = is ∙ ap (fails (was_refused e)) (load-back r place through (reading_of own) below) }) }) };
+            answers = refl;
+            moves = step.moves;
+            writes = tt;
+            whole = step.whole;
+            fits = plain-fits n t.core task plain-task;
+          };
+    }
+
+    -- a load of a cell reads out nothing
+    pub load-reads-none : (x : N) (frames : List Frame) (turn : Turn X g) (after : List Todo) (s t : PagerState N E) → Steps v me own s (Some (ends.Read x)) frames t → TurnsTo v me n shelf (tasks.Load r place through own) below shelf turn after s t
+    load-reads-none x frames turn after s t call = record {
+      turns = λ f.
+          let step = stepped f call in
+          let key = step.does.does.0.of_key_load in
+          let old = f.task_fits.1 in
+          let same : key.load ≡ old.is.load = same_some _ _ (sym key.open_load ∙ old.is.owned.stands_open) in
+          absurd (no-key key.load.root r.node old.t through (ap (λ (x : OpenLoad). x.root) same ∙ old.root) key.sort);
+    }

@@ -1,0 +1,38 @@
+use Rattle.std.proofs.Common.{ap, ◌∙◌, rules, subst, sym}
+use Rattle.pagable_loads.specs.Telling.{values_at}
+use Rattle.pagable_loads.proofs.Stepped.{told_map}
+use Rattle.pagable_walk.specs.Tasks.{todos}
+use Rattle.pagable_walk.specs.declared.tasks.Turn.TheVariants as comes
+use Rattle.pagable_world.specs.declared.events.WorkerAnswer.TheVariants as finals
+use Rattle.pagable_world.specs.Workers.{give}
+use Rattle.pagable_walk.specs.Tasks.{AwaitsLow, IsWay, waiting_todo}
+use Rattle.pagable_walk.proofs.Stacks.{todos-more, todos-none}
+use Rattle.pagable_walk.proofs.Ways.{give-way}
+use Rattle.pagable_walk.proofs.Closing.{release-ends, release-gives}
+use Rattle.pagable_walk.proofs.ending.release.Goals as goal
+
+pub give-requires-clause-way : goal.give-requires-clause-way
+give-requires-clause-way g c =
+    let d = c.args.done in
+    let e = ap todos c.in-Some.ensures.items ∙ todos-more c.pop.new.self.items c.in-Some.waiting in
+    subst (λ ts. AwaitsLow ts d.reference d.found.height) e c.requires
+
+pub returns-in_default-clause-step : goal.returns-in_default-clause-step
+returns-in_default-clause-step g c shelf =
+    let acting = g.A.Access.acting c.args.access.now in
+    let call = rw c.node-node.ensures at c.give_up.ensures.step in
+    rw c.key.ensures (told_map (release-ends (values_at g.E.Node.NodeSet g.E.Env g.E.Hash.KeyHash acting.environment) acting.me c.args.worker.0 shelf c.args.done (todos c.args.path.now.items) (todos-none c.args.path.now.items (search rules))) call)
+
+pub returns-clause-way : goal.returns-clause-way
+returns-clause-way g c =
+    let d = c.args.done in
+    let e = ap todos c.in-Some.ensures.items ∙ todos-more c.pop.new.self.items c.in-Some.waiting in
+    let way = subst (λ ts. IsWay (give d.reference d.found.key d.found.height ts)) e (give-way (todos c.args.path.now.items) d.reference d.found.key d.found.height c.requires) in
+    subst IsWay (sym c.give.ensures.todo) way
+
+pub returns-clause-step : goal.returns-clause-step
+returns-clause-step g c shelf =
+    let acting = g.A.Access.acting c.args.access.now in
+    let e = ap todos c.in-Some.ensures.items ∙ todos-more c.pop.new.self.items c.in-Some.waiting in
+    let call = rw c.node-node.ensures at c.give_up.ensures.step in
+    told_map (release-gives (values_at g.E.Node.NodeSet g.E.Env g.E.Hash.KeyHash acting.environment) acting.me c.args.worker.0 shelf c.args.done (todos c.args.path.now.items) (waiting_todo c.in-Some.waiting) (todos c.pop.new.self.items) c.give.result _ e c.give.ensures.plain c.give.ensures.todo) call

@@ -1,0 +1,26 @@
+-- What a worker's turns at what it has written do.
+use Rattle.std.specs.Prelude.{ℕ, Option, Some, None, Result}
+use Rattle.pagable_model.specs.declared.error.Error.{Error}
+use Rattle.pagable_model.specs.declared.numbers.HandleNumber.{HandleNumber}
+use Rattle.pagable_model.specs.Blob.{key_of}
+use Rattle.pagable_world.specs.Plain.{Blob}
+use Rattle.pagable_world.specs.declared.handles.Owner.{Owner}
+use Rattle.pagable_world.specs.World.{Core, Values, Alike}
+use Rattle.pagable_world.specs.Calls.{StoreCall, ScheduleCall}
+use Rattle.pagable_world.specs.Pager.{PagerState, WellFormed, Moves}
+
+-- the blob is stored, or the call is refused
+pub record Stores {N E : Type 0} (v : Values N) (s : PagerState N E) (blob : Blob) (r : Result ℕ Error) (t : PagerState N E) : Type 0 where
+  pub stored : StoreCall (key_of v.hash) s.core blob r t.core
+  pub moves : Moves (λ n x. ⊥) s t
+  pub whole : WellFormed v s → WellFormed v t
+
+abbrev pub Back : Owner → Option HandleNumber → Core → Core → Type 0
+Back me None w w' = Alike w w'
+Back me (Some h) w w' = (r : Result (Unit {0}) Error) × ScheduleCall w me h r w'
+
+-- an entry goes back to the list, if one is to
+pub record GoesBack {N E : Type 0} (v : Values N) (me : Owner) (back : Option HandleNumber) (s t : PagerState N E) : Type 0 where
+  pub goes : Back me back s.core t.core
+  pub moves : Moves (λ n x. ⊥) s t
+  pub whole : WellFormed v s → WellFormed v t

@@ -1,0 +1,263 @@
+//! A worker's turns at what it has written: its blob is stored, its key set and published, and its handles given up. And the end of a walk.
+
+ghost use Rattle.std.specs.Prelude.{◌≡◌, ◌∷◌, [], ℕ, List, IfOk, IfErr, length};
+ghost use Rattle.std.specs.Arc.{arc_value};
+ghost use Rattle.pagable_core.specs.Data.{blob_of};
+ghost use Rattle.pagable_model.specs.Merkle.{blob_of as blob_over};
+ghost use Rattle.pagable_model.specs.Blob.{key_of};
+ghost use Rattle.pagable_world.specs.World.{Shelf, Todo, answer_of_fault, to_set};
+ghost use Rattle.pagable_world.specs.Access.{Told};
+ghost use Rattle.pagable_loads.specs.Telling.{Tells, values_at};
+ghost use Rattle.pagable_walk.specs.declared.tasks.Turn.{Turn};
+ghost use Rattle.pagable_walk.specs.Found.{keys_of};
+ghost use Rattle.pagable_walk.specs.Slots.{written_of};
+ghost use Rattle.pagable_walk.specs.Table.{shelf_of};
+ghost use Rattle.pagable_walk.specs.Tasks.{Awaits, AwaitsLow, IsPlain, IsWay, fault_of, todo_of, todos};
+ghost use Rattle.pagable_walk.specs.Ending.{Stores, GoesBack};
+ghost use Rattle.pagable_walk.specs.Turns.{TurnsTo, plan};
+
+use crate::stack::{fail, give};
+use crate::tasks::{Done, Item, Open, Task, Turn, Waiting};
+use crate::{PageOutError, SlotResult, SlotTable, Trees};
+use pagable_codec::{Env, NodeSet};
+use pagable_core::{PagableData, SerializedData};
+use pagable_loads::WorkerAccess;
+use pagable_model::{DataKey, Error, HandleNumber, Identity, WorkerNumber};
+use pagable_world::WorkerAnswer;
+use std::alloc::Global;
+
+// The keys of results, in their order.
+fn keys<E: Trees>(alloc: Global, children: &[SlotResult<E>]) -> Result<Vec<DataKey>, Error>
+    ensures keys { IfOk result (λ keys. keys.items ≡ keys_of children.now) }
+    ensures only { IfErr result (λ e. e ≡ Error.OutOfMemory) }
+{
+    match children.iter().map(|found| found.key).collect(alloc) {
+        Ok(keys) => Ok(keys),
+        Err(_) => Err(Error::OutOfMemory),
+    }
+}
+
+// The blob of what was written over the results of its references. Refused by want of memory alone.
+fn blob<E: Trees>(
+    alloc: Global,
+    written: &SerializedData,
+    children: &[SlotResult<E>],
+) -> Result<PagableData, Error>
+    ensures blob { IfOk result (λ blob. blob_of blob ≡ blob_over (written_of written.now).bytes (keys_of children.now)) }
+    ensures only { IfErr result (λ e. e ≡ Error.OutOfMemory) }
+{
+    let arcs = match keys(alloc, children) {
+        Ok(keys) => keys,
+        Err(e) => return Err(e),
+    };
+    match Vec::from_slice(alloc, written.bytes.as_slice()) {
+        Ok(bytes) => Ok(PagableData { bytes, arcs }),
+        Err(_) => Err(Error::OutOfMemory),
+    }
+}
+
+// Stores the blob of what was written over the results of its references.
+fn store<E: Env, A: WorkerAccess<E>>(
+    access: &mut A,
+    alloc: Global,
+    written: &SerializedData,
+    children: &[SlotResult<E>],
+) -> Result<DataKey, Error>
+where
+    E::Node: NodeSet<E>,
+    ensures key { IfOk result (λ key. key ≡ key_of E.Hash.digest (blob_over (written_of written.now).bytes (keys_of children.now))) }
+    ensures step { Told (A.told access.old) (A.told access.new) (λ s t. Stores (values_at E.Node.NodeSet E.Env E.Hash.KeyHash (A.acting access.old).environment) s (blob_over (written_of written.now).bytes (keys_of children.now)) result t) }
+    ensures acting { A.acting access.new ≡ A.acting access.old }
+    ensures lender { A.lender access.new ≡ A.lender access.old }
+{
+    match blob(alloc, written, children) {
+        Ok(blob) => match access.store(alloc, blob) {
+            Ok(key) => Ok(key),
+            Err(e) => Err(e),
+        },
+        Err(e) => Err(e),
+    }
+}
+
+// The result of a node whose blob was stored is known: its key is set next.
+fn stored<E: Env>(node: Open<E>, key: DataKey) -> Task<E>
+where
+    E::Node: NodeSet<E>,
+    requires all { length node.children.items ≡ length (written_of (arc_value node.written)).references }
+    requires key { key ≡ key_of E.Hash.digest (blob_over (written_of (arc_value node.written)).bytes (keys_of node.children.items)) }
+    ensures todo { todo_of result ≡ to_set node.reference node.through key node.height }
+    ensures plain { IsPlain result }
+{
+    let identity = Identity {
+        kind: node.reference.kind,
+        node: node.reference.node,
+    };
+    let found = SlotResult::of_node(
+        identity,
+        node.written.as_ref(),
+        node.children.as_slice(),
+        key,
+        node.height,
+    );
+    let reference = node.reference;
+    let through = node.through;
+    Task::SetKey(Done { reference, found }, through)
+}
+
+/// Stores the blob of a node whose references are all done.
+pub fn finish<E: Env, A: WorkerAccess<E>>(
+    access: &mut A,
+    alloc: Global,
+    path: &mut Vec<Waiting<E>>,
+    node: Open<E>,
+) -> Task<E>
+where
+    E::Node: NodeSet<E>,
+    requires all { length node.children.items ≡ length (written_of (arc_value node.written)).references }
+    requires way { Awaits (todos path.old.items) node.reference node.place }
+    ensures way { IsWay (todo_of result ∷ todos path.new.items) }
+    ensures step { (n : ℕ) (shelf : Shelf) → Told (A.told access.old) (A.told access.new) (TurnsTo (values_at E.Node.NodeSet E.Env E.Hash.KeyHash (A.acting access.old).environment) (A.acting access.old).me n shelf (Task.Finish node) (todos path.old.items) shelf (Turn.Goes result) (todo_of result ∷ todos path.new.items)) }
+    ensures acting { A.acting access.new ≡ A.acting access.old }
+    ensures lender { A.lender access.new ≡ A.lender access.old }
+{
+    match store(
+        access,
+        alloc,
+        node.written.as_ref(),
+        node.children.as_slice(),
+    ) {
+        Ok(key) => stored(node, key),
+        Err(e) => fail(path, PageOutError::Failed(e), None),
+    }
+}
+
+/// Stores the blob of an item whose references are all done, and answers its key.
+pub fn finish_item<E: Env, A: WorkerAccess<E>>(
+    access: &mut A,
+    alloc: Global,
+    path: &mut Vec<Waiting<E>>,
+    item: Item<E>,
+) -> Turn<E>
+where
+    E::Node: NodeSet<E>,
+    requires all { length item.children.items ≡ length (written_of (arc_value item.written)).references }
+    requires none { todos path.old.items ≡ [] }
+    ensures way { IsWay (plan result path.new.items) }
+    ensures step { (n : ℕ) (shelf : Shelf) → Told (A.told access.old) (A.told access.new) (TurnsTo (values_at E.Node.NodeSet E.Env E.Hash.KeyHash (A.acting access.old).environment) (A.acting access.old).me n shelf (Task.Item item) (todos path.old.items) shelf result (plan result path.new.items)) }
+    ensures acting { A.acting access.new ≡ A.acting access.old }
+    ensures lender { A.lender access.new ≡ A.lender access.old }
+{
+    match store(
+        access,
+        alloc,
+        item.written.as_ref(),
+        item.children.as_slice(),
+    ) {
+        Ok(key) => Turn::Answers(WorkerAnswer::Key(key)),
+        Err(e) => Turn::Goes(fail(path, PageOutError::Failed(e), None)),
+    }
+}
+
+/// Sets the key of a node whose blob was stored.
+pub fn set_key<E: Env, A: WorkerAccess<E>>(
+    access: &mut A,
+    path: &mut Vec<Waiting<E>>,
+    done: Done<E>,
+    through: HandleNumber,
+) -> Task<E>
+where
+    E::Node: NodeSet<E>,
+    requires { AwaitsLow (todos path.old.items) done.reference done.found.height }
+    ensures way { IsWay (todo_of result ∷ todos path.new.items) }
+    ensures step { (n : ℕ) (shelf : Shelf) → Told (A.told access.old) (A.told access.new) (TurnsTo (values_at E.Node.NodeSet E.Env E.Hash.KeyHash (A.acting access.old).environment) (A.acting access.old).me n shelf (Task.SetKey done through) (todos path.old.items) shelf (Turn.Goes result) (todo_of result ∷ todos path.new.items)) }
+    ensures acting { A.acting access.new ≡ A.acting access.old }
+    ensures lender { A.lender access.new ≡ A.lender access.old }
+{
+    let key = done.key();
+    match access.set_data_key(through, key) {
+        Ok(()) => Task::Publish(done),
+        Err(e) => fail(path, PageOutError::Failed(e), None),
+    }
+}
+
+/// Puts a result where others see it.
+pub fn publish<E: Env, A: WorkerAccess<E>>(
+    _access: &A,
+    table: &mut SlotTable<E>,
+    done: Done<E>,
+) -> Task<E>
+where
+    E::Node: NodeSet<E>,
+    ensures is { result ≡ Task.Release done }
+    ensures step { (n : ℕ) (below : List Todo) → Tells (A.told _access.now) (λ s. TurnsTo (values_at E.Node.NodeSet E.Env E.Hash.KeyHash (A.acting _access.now).environment) (A.acting _access.now).me n (shelf_of table.old) (Task.Publish done) below (shelf_of table.new) (Turn.Goes result) (todo_of result ∷ below) s s) }
+{
+    table.set_success(done.found.again());
+    Task::Release(done)
+}
+
+/// Gives up the worker's handles of a node that is done. Its result goes to what waits for it; where nothing does, its key is answered.
+pub fn release<E: Env, A: WorkerAccess<E>>(
+    access: &mut A,
+    worker: WorkerNumber,
+    path: &mut Vec<Waiting<E>>,
+    done: Done<E>,
+) -> Turn<E>
+where
+    E::Node: NodeSet<E>,
+    requires { AwaitsLow (todos path.old.items) done.reference done.found.height }
+    ensures way { IsWay (plan result path.new.items) }
+    ensures step { (shelf : Shelf) → Told (A.told access.old) (A.told access.new) (TurnsTo (values_at E.Node.NodeSet E.Env E.Hash.KeyHash (A.acting access.old).environment) (A.acting access.old).me worker.0 shelf (Task.Release done) (todos path.old.items) shelf result (plan result path.new.items)) }
+    ensures acting { A.acting access.new ≡ A.acting access.old }
+    ensures lender { A.lender access.new ≡ A.lender access.old }
+{
+    let node = done.node();
+    access.give_up(worker, node);
+    let Some(waiting) = path.pop() else {
+        return Turn::Answers(WorkerAnswer::Key(done.key()));
+    };
+    Turn::Goes(give(path, waiting, done))
+}
+
+// An entry goes back to the list, as far as the list can take it.
+fn give_back<E: Env, A: WorkerAccess<E>>(access: &mut A, back: Option<HandleNumber>)
+where
+    E::Node: NodeSet<E>,
+    ensures step { Told (A.told access.old) (A.told access.new) (λ s t. GoesBack (values_at E.Node.NodeSet E.Env E.Hash.KeyHash (A.acting access.old).environment) (A.acting access.old).me back s t) }
+    ensures acting { A.acting access.new ≡ A.acting access.old }
+    ensures lender { A.lender access.new ≡ A.lender access.old }
+{
+    let Some(entry) = back else {
+        return;
+    };
+    let _told = access.schedule_for_paging(entry);
+}
+
+// What a failed walk answers.
+fn answer<E: Trees>(why: PageOutError) -> Turn<E>
+    ensures { result ≡ Turn.Answers (answer_of_fault (fault_of why)) }
+{
+    match why {
+        PageOutError::Failed(e) => Turn::Answers(WorkerAnswer::Failed(e)),
+        PageOutError::AlreadyFailed => Turn::Answers(WorkerAnswer::AlreadyFailed),
+    }
+}
+
+/// Ends a failed walk: its claims without a result are failed, and its entry goes back to the list.
+pub fn end<E: Env, A: WorkerAccess<E>>(
+    access: &mut A,
+    table: &mut SlotTable<E>,
+    worker: WorkerNumber,
+    why: PageOutError,
+    back: Option<HandleNumber>,
+) -> Turn<E>
+where
+    E::Node: NodeSet<E>,
+    ensures is { result ≡ Turn.Answers (answer_of_fault (fault_of why)) }
+    ensures step { (below : List Todo) → Told (A.told access.old) (A.told access.new) (TurnsTo (values_at E.Node.NodeSet E.Env E.Hash.KeyHash (A.acting access.old).environment) (A.acting access.old).me worker.0 (shelf_of table.old) (Task.Fail why back) below (shelf_of table.new) result []) }
+    ensures acting { A.acting access.new ≡ A.acting access.old }
+    ensures lender { A.lender access.new ≡ A.lender access.old }
+{
+    give_back(access, back);
+    table.fail(worker);
+    answer(why)
+}

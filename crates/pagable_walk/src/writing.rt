@@ -1,0 +1,179 @@
+//! A worker's turn at a node that it has pinned: its value is written.
+
+ghost use Rattle.std.specs.Prelude.{◌≡◌, ◌≤◌, ◌<◌, ◌∷◌, ℕ, IfOk, IfErr, OnOk, vec_len, vec_capacity};
+ghost use Rattle.std.specs.Arc.{arc_value};
+ghost use Rattle.pagable_world.specs.Plain.{longest_path, type_of};
+ghost use Rattle.pagable_world.specs.Kinds.{identity_of};
+ghost use Rattle.pagable_world.specs.World.{seen_as};
+ghost use Rattle.pagable_loads.specs.Telling.{Tells, values_at};
+ghost use Rattle.pagable_walk.specs.Results.{HasFormOf};
+ghost use Rattle.pagable_walk.specs.Slots.{written_of};
+ghost use Rattle.pagable_walk.specs.declared.tasks.Turn.{Turn};
+ghost use Rattle.pagable_walk.specs.Table.{shelf_of};
+ghost use Rattle.pagable_walk.specs.Tasks.{Awaits, IsWay, open_of, todo_of, todos};
+ghost use Rattle.pagable_walk.specs.Turns.{TurnsTo};
+ghost use Rattle.pagable_walk.specs.Writing.{IsForm, WriteRefused, Finds, Forms, just_open};
+
+use crate::stack::{fail, settle_open};
+use crate::tasks::{Open, Task, Waiting};
+use crate::{PageOutError, SlotTable, Trees};
+use pagable_codec::{Env, NodeSet, SessionContext};
+use pagable_core::{SerializedData, SerializerForPaging};
+use pagable_loads::WorkerAccess;
+use pagable_model::{ArcRef, Error, HandleNumber, Identity};
+use std::alloc::Global;
+use std::sync::Arc;
+
+// Writes a value, in a session of its own.
+fn written<E: Env>(env: &E, alloc: Global, node: &E::Node) -> Result<SerializedData, Error>
+where
+    E::Node: NodeSet<E>,
+    ensures form { IfOk result (λ d. IsForm (values_at E.Node.NodeSet E.Env E.Hash.KeyHash env.now) node.now (written_of d)) }
+    ensures refused { IfErr result (λ e. WriteRefused (values_at E.Node.NodeSet E.Env E.Hash.KeyHash env.now) node.now e) }
+{
+    let session = SessionContext::new(alloc);
+    let mut serializer = SerializerForPaging::new(alloc, env, &session);
+    match node.write(&mut serializer) {
+        Ok(()) => {
+            let (bytes, arcs) = serializer.finish();
+            Ok(SerializedData { bytes, arcs })
+        }
+        Err(e) => Err(e),
+    }
+}
+
+// The value that a handle pins, of this kind's type.
+fn pinned<E: Env, A: WorkerAccess<E>>(
+    access: &A,
+    reference: ArcRef,
+    pin: HandleNumber,
+) -> Result<Arc<E::Node>, Error>
+where
+    E::Node: NodeSet<E>,
+    ensures typed { IfOk result (λ x. E.Node.type_of (arc_value x) ≡ type_of reference.kind.0) }
+    ensures step { Tells (A.told access.now) (λ s. Finds (values_at E.Node.NodeSet E.Env E.Hash.KeyHash (A.acting access.now).environment) s reference pin (seen_as arc_value result)) }
+{
+    match access.share(pin) {
+        Ok(Some(node)) => {
+            if node.node_type() != reference.kind.0 / 3 {
+                return Err(Error::WrongKind);
+            }
+            Ok(node)
+        }
+        Ok(None) => Err(Error::WrongMode),
+        Err(e) => Err(e),
+    }
+}
+
+// A form of the value that a handle pins.
+fn form<E: Env, A: WorkerAccess<E>>(
+    access: &A,
+    alloc: Global,
+    reference: ArcRef,
+    pin: HandleNumber,
+) -> Result<SerializedData, Error>
+where
+    E::Node: NodeSet<E>,
+    ensures form { IfOk result (λ d. ∥ HasFormOf (values_at E.Node.NodeSet E.Env E.Hash.KeyHash) (identity_of reference) (written_of d) ∥₁) }
+    ensures step { Tells (A.told access.now) (λ s. Forms (values_at E.Node.NodeSet E.Env E.Hash.KeyHash (A.acting access.now).environment) s reference pin (seen_as written_of result)) }
+{
+    match pinned(access, reference, pin) {
+        Ok(node) => written(access.env(), alloc, node.as_ref()),
+        Err(e) => Err(e),
+    }
+}
+
+// What was written is kept twice, with places for the results of its references. Refused by want of memory alone.
+fn kept<E: Trees>(
+    alloc: Global,
+    reference: ArcRef,
+    place: u64,
+    through: HandleNumber,
+    once: SerializedData,
+) -> Result<(Open<E>, Arc<SerializedData>), Error>
+    requires near { place ≤ longest_path }
+    requires form { ∥ E.has_form (identity_of reference) (written_of once) ∥₁ }
+    ensures open { IfOk result (λ p. open_of p.0 ≡ just_open reference place through (written_of once)) }
+    ensures shared { IfOk result (λ p. written_of (arc_value p.1) ≡ written_of once) }
+    ensures only { IfErr result (λ e. e ≡ Error.OutOfMemory) }
+{
+    let children = match Vec::with_capacity(alloc, once.arcs.len()) {
+        Ok(children) => children,
+        Err(_) => return Err(Error::OutOfMemory),
+    };
+    let written = match Arc::new(alloc, once) {
+        Ok(written) => written,
+        Err(_) => return Err(Error::OutOfMemory),
+    };
+    let shared = match Arc::try_clone(&written) {
+        Ok(shared) => shared,
+        Err(_) => return Err(Error::OutOfMemory),
+    };
+    let node = Open {
+        reference,
+        place,
+        through,
+        written,
+        children,
+        height: 0,
+    };
+    Ok((node, shared))
+}
+
+// The written node with what was written of it, for a path that has room for it then.
+fn prepare<E: Env, A: WorkerAccess<E>>(
+    access: &A,
+    alloc: Global,
+    path: &mut Vec<Waiting<E>>,
+    reference: ArcRef,
+    place: u64,
+    through: HandleNumber,
+    pin: HandleNumber,
+) -> Result<(Open<E>, Arc<SerializedData>), Error>
+where
+    E::Node: NodeSet<E>,
+    requires near { place ≤ longest_path }
+    ensures path { path.new.items ≡ path.old.items }
+    ensures room { OnOk result (vec_len path.new < vec_capacity path.new) }
+    ensures open { IfOk result (λ p. open_of p.0 ≡ just_open reference place through (written_of (arc_value p.1))) }
+    ensures step { Tells (A.told access.now) (λ s. Forms (values_at E.Node.NodeSet E.Env E.Hash.KeyHash (A.acting access.now).environment) s reference pin (seen_as (λ p. written_of (arc_value p.1)) result)) }
+{
+    if path.reserve(1).is_err() {
+        return Err(Error::OutOfMemory);
+    }
+    match form(access, alloc, reference, pin) {
+        Ok(data) => kept(alloc, reference, place, through, data),
+        Err(e) => Err(e),
+    }
+}
+
+/// Writes the value that is pinned, and comes to its references.
+pub fn write<E: Env, A: WorkerAccess<E>>(
+    access: &A,
+    alloc: Global,
+    table: &mut SlotTable<E>,
+    path: &mut Vec<Waiting<E>>,
+    reference: ArcRef,
+    place: u64,
+    through: HandleNumber,
+    pin: HandleNumber,
+) -> Task<E>
+where
+    E::Node: NodeSet<E>,
+    requires way { Awaits (todos path.old.items) reference place }
+    requires near { place ≤ longest_path }
+    ensures way { IsWay (todo_of result ∷ todos path.new.items) }
+    ensures step { (n : ℕ) → Tells (A.told access.now) (λ s. TurnsTo (values_at E.Node.NodeSet E.Env E.Hash.KeyHash (A.acting access.now).environment) (A.acting access.now).me n (shelf_of table.old) (Task.Write reference place through pin) (todos path.old.items) (shelf_of table.new) (Turn.Goes result) (todo_of result ∷ todos path.new.items) s s) }
+{
+    match prepare(access, alloc, path, reference, place, through, pin) {
+        Ok((node, shared)) => {
+            let identity = Identity {
+                kind: reference.kind,
+                node: reference.node,
+            };
+            table.set_written(identity, shared);
+            settle_open(path, node)
+        }
+        Err(e) => fail(path, PageOutError::Failed(e), None),
+    }
+}
